@@ -1,0 +1,84 @@
+-- Laws of the tests on lists and of refusals (specs/Text).
+use mathlib.Core.Path.{_≡_, refl, sym, ap, _∙_}
+use mathlib.Core.Bool.{Bool, true, false, _&&_, _||_, false≢true}
+use mathlib.Core.List.{List, [], _∷_, _++_}
+use Prim.Native.Nat.{ℕ, _<_}
+use native.Mathlib.Omega.{arith}
+use lib.ListN.{length, drop}
+use lib.Dec.{eqb, ltb}
+use borrow.Author.Tests.{eq-eqb, eqb-true}
+use Rattle.lists.proofs.Bools.{and-left, and-right, by}
+use Rattle.rules.specs.Text.{every, oneOf, same, begins, _unless_, lower, lowest}
+
+-- ## every, oneOf
+
+pub every-append : {A : Type 0} (p : A → Bool) (xs ys : List A) → every p (xs ++ ys) ≡ (every p xs && every p ys)
+unfolding every
+every-append p [] ys = refl
+every-append p (x ∷ xs) ys = rw (every-append p xs ys) (sym (mathlib.Core.Bool.and-assoc (p x) (every p xs) (every p ys)))
+
+pub every-head : {A : Type 0} (p : A → Bool) (x : A) (xs : List A) → every p (x ∷ xs) ≡ true → p x ≡ true
+unfolding every
+every-head p x xs h = and-left (p x) (every p xs) h
+
+pub every-tail : {A : Type 0} (p : A → Bool) (x : A) (xs : List A) → every p (x ∷ xs) ≡ true → every p xs ≡ true
+unfolding every
+every-tail p x xs h = and-right (p x) (every p xs) h
+
+pub oneOf-append : {A : Type 0} (p : A → Bool) (xs ys : List A) → oneOf p (xs ++ ys) ≡ (oneOf p xs || oneOf p ys)
+unfolding oneOf
+oneOf-append p [] ys = refl
+oneOf-append p (x ∷ xs) ys = rw (oneOf-append p xs ys) (sym (mathlib.Core.Bool.or-assoc (p x) (oneOf p xs) (oneOf p ys)))
+
+-- ## same, begins
+
+pub same-true : (xs ys : List ℕ) → same xs ys ≡ true → xs ≡ ys
+unfolding same
+same-true [] [] h = refl
+same-true [] (y ∷ ys) h = absurd (false≢true h)
+same-true (x ∷ xs) [] h = absurd (false≢true h)
+same-true (x ∷ xs) (y ∷ ys) h =
+    let e = eqb-true x y (and-left (eqb x y) (same xs ys) h) in
+    let r = same-true xs ys (and-right (eqb x y) (same xs ys) h) in
+    cc
+
+pub same-refl : (xs : List ℕ) → same xs xs ≡ true
+unfolding same
+same-refl [] = refl
+same-refl (x ∷ xs) = rw (eq-eqb x x refl) (same-refl xs)
+
+pub begins-append : (p s : List ℕ) → begins p (p ++ s) ≡ true
+unfolding begins
+begins-append [] s = refl
+begins-append (c ∷ p) s = rw (eq-eqb c c refl) (begins-append p s)
+
+pub begins-split : (p s : List ℕ) → begins p s ≡ true → s ≡ p ++ drop (length p) s
+unfolding begins
+begins-split [] s h = refl
+begins-split (c ∷ p) [] h = absurd (false≢true h)
+begins-split (c ∷ p) (d ∷ s) h =
+    let e = eqb-true c d (and-left (eqb c d) (begins p s) h) in
+    rw e (ap (λ (x : List ℕ). d ∷ x) (begins-split p s (and-right (eqb c d) (begins p s) h)))
+
+-- ## Refusals: none of several is none of each
+
+pub unless-none : (n : ℕ) (t : Bool) → 0 < n → (n unless t) ≡ 0 → t ≡ true
+unless-none n true h e = refl
+unless-none n false h e = absurd (omega arith)
+
+lower-zero : (b : ℕ) → lower 0 b ≡ b
+unfolding lower
+lower-zero b = refl
+
+-- the lower of two is none only where both are
+pub lower-none : (a b : ℕ) → lower a b ≡ 0 → (a ≡ 0) × (b ≡ 0)
+unfolding lower
+lower-none a b e = by (eqb a 0) (λ t. (eqb-true a 0 t, sym (rw t at (sym e)))) (λ t.
+    by (eqb b 0) (λ u. (rw (t, u) at e, eqb-true b 0 u)) (λ u.
+    by (ltb a b) (λ v. let z : a ≡ 0 = rw (t, u, v) at e in (z, absurd (false≢true (sym t ∙ eq-eqb a 0 z))))
+    (λ v. let z : b ≡ 0 = rw (t, u, v) at e in (absurd (false≢true (sym u ∙ eq-eqb b 0 z)), z))))
+
+-- the lowest of several is none only where the first is, and the lowest of the others
+pub lowest-none : (r : ℕ) (rs : List ℕ) → lowest (r ∷ rs) ≡ 0 → (r ≡ 0) × (lowest rs ≡ 0)
+unfolding lowest
+lowest-none r rs e = lower-none r (lowest rs) e

@@ -1,0 +1,17 @@
+pub mod Text
+pub mod Names
+pub mod Tokens
+pub mod Lines
+pub mod Meaning
+pub mod State
+pub mod Conditionals
+pub mod Declarations
+pub mod OrderLines
+pub mod Source
+pub mod Compile
+pub mod Table
+pub mod Order
+pub mod Charmap
+pub mod Coding
+pub mod Calls
+pub mod Pairs
