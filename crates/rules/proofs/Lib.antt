@@ -1,3 +1,10 @@
 pub mod Computed
 pub mod Examples
 pub mod TextLaws
+pub mod MeaningLaws
+pub mod TableLaws
+pub mod SizeLaws
+pub mod PermutationLaws
+pub mod AlikeLaws
+pub mod LinearLaws
+pub mod WidthLaws

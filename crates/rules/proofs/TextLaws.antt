@@ -7,7 +7,7 @@ use native.Mathlib.Omega.{arith}
 use lib.ListN.{length, drop}
 use lib.Dec.{eqb, ltb}
 use borrow.Author.Tests.{eq-eqb, eqb-true}
-use Rattle.lists.proofs.Bools.{and-left, and-right, by}
+use Rattle.lists.proofs.Bools.{and-left, and-right, and-intro, by}
 use Rattle.rules.specs.Text.{every, oneOf, same, begins, _unless_, lower, lowest}
 
 -- ## every, oneOf
@@ -24,6 +24,15 @@ every-head p x xs h = and-left (p x) (every p xs) h
 pub every-tail : {A : Type 0} (p : A → Bool) (x : A) (xs : List A) → every p (x ∷ xs) ≡ true → every p xs ≡ true
 unfolding every
 every-tail p x xs h = and-right (p x) (every p xs) h
+
+pub every-both : {A : Type 0} (p : A → Bool) (xs ys : List A) → every p xs ≡ true → every p ys ≡ true → every p (xs ++ ys) ≡ true
+every-both p xs ys h k = every-append p xs ys ∙ and-intro h k
+
+-- what follows from a test that each passes
+pub every-mono : {A : Type 0} (p q : A → Bool) → ((x : A) → p x ≡ true → q x ≡ true) → (xs : List A) → every p xs ≡ true → every q xs ≡ true
+unfolding every
+every-mono p q f [] h = refl
+every-mono p q f (x ∷ xs) h = and-intro (f x (every-head p x xs h)) (every-mono p q f xs (every-tail p x xs h))
 
 pub oneOf-append : {A : Type 0} (p : A → Bool) (xs ys : List A) → oneOf p (xs ++ ys) ≡ (oneOf p xs || oneOf p ys)
 unfolding oneOf
