@@ -1,0 +1,46 @@
+// The units of the product: what must not be mixed up, and what answers are made of. A number of the paper for each is in specs/.
+
+// The place of an order line among the used ones, from 1: what a weight is.
+pub struct Rank(pub u32);
+
+// A character of a string, by its code.
+pub struct CodePoint(pub u32);
+
+// How the first of two strings stands to the second.
+pub enum Sign {
+    Less,
+    Equal,
+    Greater,
+}
+
+// Why an operation gives no answer, in the order of the paper's numbers from 1.
+pub enum Refusal {
+    // a source that is too long, or a work area that is too short
+    TooLong,
+    // a byte that no source may hold
+    BadByte,
+    // a malformed or misplaced line, a missing end
+    Malformed,
+    // an unknown, empty or repeated rule
+    BadRule,
+    // a name or an item given twice
+    Twice,
+    // an undeclared name, or no character where one must stand
+    Unknown,
+    // a number above its limit
+    TooMany,
+    // a weight whose name has no order line
+    Unranked,
+    // a table area that is too short
+    ShortArea,
+    // a charmap's byte given twice
+    ByteTwice,
+    // a table or a charmap area that is not accepted
+    NotAccepted,
+    // a string that is too long, or holds a number that is no character
+    BadString,
+    // a result longer than the room lent
+    NoRoom,
+    // a character or a byte that the charmap does not have
+    NotMapped,
+}
