@@ -18,7 +18,7 @@ pub struct Shape {
     pub size: usize,
 }
 
-pub enum Check {
+pub enum Verdict {
     Accepted(Shape),
     Refused(Refusal),
 }
@@ -247,7 +247,7 @@ pub fn accepts(t: &[u32]) -> bool
 }
 
 // The check of a table area: how large the accepted table is, or that it is not accepted. It has no `requires`.
-pub fn check(t: &[u32]) -> Check
+pub fn check(t: &[u32]) -> Verdict
     ensures { λ r. ⌜ checkedAs r ≡ checkCall (now (t .entry)) ⌝ }
 {
     let ok = accepts(t);
@@ -256,11 +256,11 @@ pub fn check(t: &[u32]) -> Check
         let items = t[1] as usize;
         let weights = t[2] as usize;
         let size = record_at(levels, items) + weights;
-        return Check::Accepted(Shape {
+        return Verdict::Accepted(Shape {
             levels: levels,
             items: items,
             size: size,
         });
     }
-    Check::Refused(Refusal::NotAccepted)
+    Verdict::Refused(Refusal::NotAccepted)
 }
