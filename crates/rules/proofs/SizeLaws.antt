@@ -9,7 +9,7 @@ use Rattle.rules.proofs.TableLaws.{AllStored, meaning-stored}
 use Rattle.rules.specs.Meaning.{Item, Meaning, countAll, weightCount, sizeOf, good}
 use Rattle.rules.specs.Table.{ruleNumber, counts, itemNumbers, weightNumbers, permutation, storedForm}
 
-flatten-length : (ws : List (List ℕ)) → length (flatten ws) ≡ countAll ws
+pub flatten-length : (ws : List (List ℕ)) → length (flatten ws) ≡ countAll ws
 unfolding flatten countAll
 flatten-length [] = refl
 flatten-length (w ∷ ws) = omega (arith, length-append w (flatten ws), flatten-length ws)

@@ -2,10 +2,10 @@
 use mathlib.Core.Path.{_≡_, refl, ap, _∙_}
 use mathlib.Core.Bool.{Bool, true, false, not, _&&_, false≢true}
 use mathlib.Core.List.{List, [], _∷_, _++_, map, flatten, append-assoc}
-use Prim.Native.Nat.{ℕ, suc, _+_, _*_, _≤_}
+use Prim.Native.Nat.{ℕ, zero, suc, _+_, _*_, _≤_}
 use native.Mathlib.Omega.{arith}
 use lib.ListN.{length, getD, take, drop}
-use lib.Seq.{take-append-seam, drop-append-seam, drop-append-add, drop-drop}
+use lib.Seq.{take-append-seam, drop-append-seam, drop-append-add, drop-drop, drop-length}
 use lib.Dec.{leb, eqb}
 use borrow.Author.Tests.{ne-eqb, leb-true, le-leb}
 use Rattle.lists.proofs.Bools.{and-left, and-right}
@@ -13,7 +13,7 @@ use Rattle.rules.proofs.TextLaws.{begins-append, begins-split, every-he
 use Rattle.rules.specs.Text.{every, within, begins}
 use Rattle.rules.proofs.MeaningLaws.{item-parts, good-parts}
 use Rattle.rules.specs.Names.{isCharacter}
-use Rattle.rules.specs.Meaning.{Rule, Item, Meaning, countAll, goodItem, good}
+use Rattle.rules.specs.Meaning.{Rule, Item, Meaning, countAll, weightCount, goodItem, good}
 use Rattle.rules.specs.Table.{pad, ruleNumber, ruleOfNumber, padded, unpadded, counts, cutBy, total, itemNumbers, weightNumbers, permutation, storedForm, meaningIn, itemsAt, accepted}
 
 -- ## Rules
@@ -29,7 +29,7 @@ rules-back : (rs : List Rule) (rest : List ℕ) → map ruleOfNumber (take (leng
 rules-back [] rest = refl
 rules-back (r ∷ rs) rest = rw (rule-back (r .backward) (r .position), rules-back rs rest)
 
-rules-drop : (rs : List Rule) (rest : List ℕ) → drop (length rs) (map ruleNumber rs ++ rest) ≡ rest
+pub rules-drop : (rs : List Rule) (rest : List ℕ) → drop (length rs) (map ruleNumber rs ++ rest) ≡ rest
 rules-drop [] rest = refl
 rules-drop (r ∷ rs) rest = rules-drop rs rest
 
@@ -96,16 +96,28 @@ items-back l (i ∷ is) at ps rest more h =
       items-back l is (at + countAll (i .weights)) (drop 1 ps) rest more (h .1),
     )
 
--- the records of I items take I x (6 + L) numbers
-records-drop : (l : ℕ) (is : List Item) (at : ℕ) (ps rest : List ℕ) → AllStored l is → drop (length is * (6 + l)) (itemNumbers at ps is rest) ≡ rest
-unfolding itemNumbers
-records-drop l [] at ps rest h = simp native.Mathlib.Nat.zero-mul
-records-drop l (i ∷ is) at ps rest h =
+-- k records take k x (6 + L) numbers, and the next starts its weights where theirs end
+pub records-from : (l : ℕ) (is : List Item) (at : ℕ) (ps rest : List ℕ) (k : ℕ) → k ≤ length is → AllStored l is
+    → drop (k * (6 + l)) (itemNumbers at ps is rest) ≡ itemNumbers (at + weightCount (take k is)) (drop k ps) (drop k is) rest
+unfolding itemNumbers weightCount
+records-from l is at ps rest zero h s =
+    let e : at + 0 ≡ at = omega arith in
+    simp native.Mathlib.Nat.zero-mul (rw e)
+records-from l [] at ps rest (suc k) h s = absurd (omega arith)
+records-from l (i ∷ is) at ps rest (suc k) h s =
     let tail : List ℕ = itemNumbers (at + countAll (i .weights)) (drop 1 ps) is rest in
-    let dropped : drop l (counts (i .weights) ++ tail) ≡ tail = rw (← h .0 .2) (counts-drop (i .weights) tail) in
-    let e : suc (length is) * (6 + l) ≡ 6 + (l + length is * (6 + l)) = simp native.Mathlib.Nat.suc-mul (omega arith) in
-    rw (e, ← drop-drop (l + length is * (6 + l)) 6 _, ← drop-drop (length is * (6 + l)) l _, dropped)
-    (records-drop l is (at + countAll (i .weights)) (drop 1 ps) rest (h .1))
+    let dropped : drop l (counts (i .weights) ++ tail) ≡ tail = rw (← s .0 .2) (counts-drop (i .weights) tail) in
+    let e : suc k * (6 + l) ≡ 6 + (l + k * (6 + l)) = simp native.Mathlib.Nat.suc-mul (omega arith) in
+    let a : at + countAll (i .weights) + weightCount (take k is) ≡ at + (countAll (i .weights) + weightCount (take k is)) = omega arith in
+    let f : 1 + k ≡ suc k = omega arith in
+    let d : drop k (drop 1 ps) ≡ drop (suc k) ps = rw f at (drop-drop k 1 ps) in
+    rw (e, ← drop-drop (l + k * (6 + l)) 6 _, ← drop-drop (k * (6 + l)) l _, dropped, ← a, ← d)
+    (records-from l is (at + countAll (i .weights)) (drop 1 ps) rest k (omega arith) (s .1))
+
+-- the records of I items take I x (6 + L) numbers
+pub records-drop : (l : ℕ) (is : List Item) (at : ℕ) (ps rest : List ℕ) → AllStored l is → drop (length is * (6 + l)) (itemNumbers at ps is rest) ≡ rest
+unfolding itemNumbers
+records-drop l is at ps rest s = records-from l is at ps rest (length is) (omega arith) s ∙ rw (drop-length is)
 
 -- ## The whole
 

@@ -1,0 +1,166 @@
+-- Where the parts of an accepted table stand: its rules, each item's record, each item's weights at each level.
+use mathlib.Core.Path.{_≡_, refl, sym, ap, _∙_}
+use mathlib.Core.Bool.{true, false}
+use mathlib.Core.List.{List, [], _∷_, _++_, map, flatten, append-assoc}
+use Prim.Native.Nat.{ℕ, zero, suc, pred, _+_, _*_, _≤_, _<_}
+use native.Mathlib.Omega.{arith}
+use lib.ListN.{length, getD, take, drop, length-append, length-map}
+use lib.Seq.{drop-drop, drop-cons, take-append-seam, drop-append-seam, drop-append-add, getD-drop}
+use Rattle.rules.specs.Meaning.{Rule, Item, Meaning, countAll, weightCount, sizeOf, good}
+use Rattle.rules.specs.Table.{padded, counts, total, ruleNumber, itemNumbers, weightNumbers, permutation, storedForm, meaningIn, accepted}
+use Rattle.rules.specs.Order.{weightsAt, noItem}
+use Rattle.rules.proofs.MeaningLaws.{GoodItem, item-parts, Good, good-parts}
+use Rattle.rules.proofs.TableLaws.{AllStored, meaning-stored, accepted-stored, rules-drop, records-from, records-drop}
+use Rattle.rules.proofs.SizeLaws.{stored-size, flatten-length}
+use Rattle.layout.specs.Parts.{recordAt, ruleAt}
+
+-- ## The weights of an item, level by level
+
+-- how many weights stand before a level's
+total-counts : (ws : List (List ℕ)) (k : ℕ) → total (take k (counts ws)) ≡ countAll (take k ws)
+unfolding total countAll
+total-counts [] zero = refl
+total-counts [] (suc k) = refl
+total-counts (w ∷ ws) zero = refl
+total-counts (w ∷ ws) (suc k) = ap (λ (n : ℕ). length w + n) (total-counts ws k)
+
+level-drop : (ws : List (List ℕ)) (rest : List ℕ) (k : ℕ) → drop (countAll (take k ws)) (flatten ws ++ rest) ≡ flatten (drop k ws) ++ rest
+unfolding countAll flatten
+level-drop [] rest zero = refl
+level-drop [] rest (suc k) = refl
+level-drop (w ∷ ws) rest zero = refl
+level-drop (w ∷ ws) rest (suc k) =
+    rw (append-assoc w (flatten ws) rest, drop-append-add w (flatten ws ++ rest) (countAll (take k ws))) (level-drop ws rest k)
+
+level-take : (ws : List (List ℕ)) (rest : List ℕ) (k : ℕ) → take (length (getD ws k [])) (flatten (drop k ws) ++ rest) ≡ getD ws k []
+unfolding flatten
+level-take [] rest zero = refl
+level-take [] rest (suc k) = refl
+level-take (w ∷ ws) rest zero = rw (append-assoc w (flatten ws) rest) (take-append-seam w (flatten ws ++ rest))
+level-take (w ∷ ws) rest (suc k) = level-take ws rest k
+
+weights-from : (is : List Item) (rest : List ℕ) (k : ℕ) → drop (weightCount (take k is)) (weightNumbers is rest) ≡ weightNumbers (drop k is) rest
+unfolding weightCount weightNumbers
+weights-from [] rest zero = refl
+weights-from [] rest (suc k) = refl
+weights-from (i ∷ is) rest zero = refl
+weights-from (i ∷ is) rest (suc k) =
+    rw (← flatten-length (i .weights), drop-append-add (flatten (i .weights)) (weightNumbers is rest) (weightCount (take k is))) (weights-from is rest k)
+
+-- ## A stored meaning
+
+module _ (m : Meaning) (rest : List ℕ) (g : good m ≡ true) where
+  body-drop : drop (16 + length (m .rules)) (storedForm m rest)
+      ≡ itemNumbers 0 (permutation (m .items)) (m .items) (weightNumbers (m .items) rest)
+  unfolding storedForm
+  body-drop =
+      sym (drop-drop (length (m .rules)) 16 (storedForm m rest))
+      ∙ rules-drop (m .rules) (itemNumbers 0 (permutation (m .items)) (m .items) (weightNumbers (m .items) rest))
+
+  -- from record k on
+  stored-record : (k : ℕ) → k ≤ length (m .items)
+      → drop (recordAt (length (m .rules)) k) (storedForm m rest)
+      ≡ itemNumbers (weightCount (take k (m .items))) (drop k (permutation (m .items))) (drop k (m .items)) (weightNumbers (m .items) rest)
+  unfolding recordAt
+  stored-record k h =
+      let l : ℕ = length (m .rules) in
+      let z : 0 + weightCount (take k (m .items)) ≡ weightCount (take k (m .items)) = omega arith in
+      sym (drop-drop (k * (6 + l)) (16 + l) (storedForm m rest))
+      ∙ ap (λ (r : List ℕ). drop (k * (6 + l)) r) body-drop
+      ∙ (rw z at (records-from l (m .items) 0 (permutation (m .items)) (weightNumbers (m .items) rest) k h (meaning-stored m g)))
+
+  -- the weights, from where they begin on
+  stored-weights : drop (recordAt (length (m .rules)) (length (m .items))) (storedForm m rest) ≡ weightNumbers (m .items) rest
+  unfolding itemNumbers
+  stored-weights = stored-record (length (m .items)) (omega arith) ∙ rw (lib.Seq.drop-length (m .items))
+
+-- ## An accepted table
+
+-- what follows it in its area
+abbrev restOf : List ℕ → List ℕ
+restOf t = drop (length (storedForm (meaningIn t) [])) t
+
+-- what stands behind an item's record
+abbrev behind : List ℕ → ℕ → List ℕ
+behind t k =
+    itemNumbers
+    (weightCount (take k (meaningIn t .items)) + countAll (getD (meaningIn t .items) k noItem .weights))
+    (drop 1 (drop k (permutation (meaningIn t .items))))
+    (drop (suc k) (meaningIn t .items))
+    (weightNumbers (meaningIn t .items) (restOf t))
+
+getD-rules : (rs : List Rule) (more : List ℕ) (k : ℕ) (d : Rule) → k < length rs → getD (map ruleNumber rs ++ more) k 0 ≡ ruleNumber (getD rs k d)
+getD-rules [] more k d h = absurd (omega arith)
+getD-rules (r ∷ rs) more zero d h = refl
+getD-rules (r ∷ rs) more (suc k) d h = getD-rules rs more k d (omega arith)
+
+getD-counts : (ws : List (List ℕ)) (more : List ℕ) (k : ℕ) → k < length ws → getD (counts ws ++ more) k 0 ≡ length (getD ws k [])
+getD-counts [] more k h = absurd (omega arith)
+getD-counts (w ∷ ws) more zero h = refl
+getD-counts (w ∷ ws) more (suc k) h = getD-counts ws more k (omega arith)
+
+take-counts : (ws : List (List ℕ)) (more : List ℕ) (k : ℕ) → k ≤ length ws → take k (counts ws ++ more) ≡ take k (counts ws)
+take-counts ws more k h = lib.Seq.take-append-le k (counts ws) more (rw (length-map ws length) h)
+
+module _ (t : List ℕ) (h : accepted t ≡ true) where
+  whole : t ≡ storedForm (meaningIn t) (restOf t)
+  whole = accepted-stored t h .1
+
+  good-in : good (meaningIn t) ≡ true
+  good-in = accepted-stored t h .0
+
+  pub table-good : Good (meaningIn t)
+  table-good = good-parts (meaningIn t) good-in
+
+  pub table-levels : getD t 0 0 ≡ length (meaningIn t .rules)
+  unfolding storedForm
+  table-levels = ap (λ (x : List ℕ). getD x 0 0) whole
+
+  pub table-items : getD t 1 0 ≡ length (meaningIn t .items)
+  unfolding storedForm
+  table-items = ap (λ (x : List ℕ). getD x 1 0) whole
+
+  pub table-count : getD t 2 0 ≡ weightCount (meaningIn t .items)
+  unfolding storedForm
+  table-count = ap (λ (x : List ℕ). getD x 2 0) whole
+
+  -- all its parts are in the area
+  pub table-long : recordAt (length (meaningIn t .rules)) (length (meaningIn t .items)) + weightCount (meaningIn t .items) ≤ length t
+  unfolding recordAt sizeOf
+  table-long =
+      let e = ap length whole in
+      let s = stored-size (meaningIn t) (restOf t) good-in in
+      omega arith
+
+  pub table-rule : (level : ℕ) → level < length (meaningIn t .rules) → getD t (16 + level) 0 ≡ ruleNumber (ruleAt t level)
+  unfolding storedForm
+  table-rule level k =
+      sym (getD-drop 16 t level 0)
+      ∙ ap (λ (x : List ℕ). getD (drop 16 x) level 0) whole
+      ∙ getD-rules (meaningIn t .rules) (itemNumbers 0 (permutation (meaningIn t .items)) (meaningIn t .items) (weightNumbers (meaningIn t .items) (restOf t))) level _ k
+
+  -- an item's record
+  pub table-record : (k : ℕ) → k < length (meaningIn t .items)
+      → drop (recordAt (length (meaningIn t .rules)) k) t
+      ≡ padded (getD (meaningIn t .items) k noItem .chars)
+          (weightCount (take k (meaningIn t .items)) ∷ getD (drop k (permutation (meaningIn t .items))) 0 0
+          ∷ counts (getD (meaningIn t .items) k noItem .weights) ++ behind t k)
+  unfolding itemNumbers
+  table-record k b =
+      ap (λ (x : List ℕ). drop (recordAt (length (meaningIn t .rules)) k) x) whole
+      ∙ stored-record (meaningIn t) (restOf t) good-in k (omega arith)
+      ∙ ap
+      (λ (is : List Item). itemNumbers (weightCount (take k (meaningIn t .items))) (drop k (permutation (meaningIn t .items))) is (weightNumbers (meaningIn t .items) (restOf t)))
+      (drop-cons (meaningIn t .items) k noItem b)
+
+  -- the weights of an item, from where they begin on
+  table-weights : (k : ℕ) → k < length (meaningIn t .items)
+      → drop (recordAt (length (meaningIn t .rules)) (length (meaningIn t .items)) + weightCount (take k (meaningIn t .items))) t
+      ≡ flatten (getD (meaningIn t .items) k noItem .weights) ++ weightNumbers (drop (suc k) (meaningIn t .items)) (restOf t)
+  unfolding weightNumbers
+  table-weights k b =
+      sym (drop-drop (weightCount (take k (meaningIn t .items))) (recordAt (length (meaningIn t .rules)) (length (meaningIn t .items))) t)
+      ∙ ap (λ (x : List ℕ). drop (weightCount (take k (meaningIn t .items))) (drop (recordAt (length (meaningIn t .rules)) (length (meaningIn t .items))) x)) whole
+      ∙ ap (λ (x : List ℕ). drop (weightCount (take k (meaningIn t .items))) x) (stored-weights (meaningIn t) (restOf t) good-in)
+      ∙ weights-from (meaningIn t .items) (restOf t) k
+      ∙ ap (λ (is : List Item). weightNumbers is (restOf t)) (drop-cons (meaningIn t .items) k noItem b)
