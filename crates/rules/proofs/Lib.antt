@@ -2,3 +2,4 @@ pub mod Computed
 pub mod Examples
 pub mod TextLaws
 pub mod RankLaws
+pub mod StateLaws

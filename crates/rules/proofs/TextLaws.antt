@@ -2,13 +2,13 @@
 use mathlib.Core.Path.{_≡_, refl, sym, ap, _∙_}
 use mathlib.Core.Bool.{Bool, true, false, _&&_, _||_, false≢true}
 use mathlib.Core.List.{List, [], _∷_, _++_}
-use Prim.Native.Nat.{ℕ, _<_}
+use Prim.Native.Nat.{ℕ, _≤_, _<_}
 use native.Mathlib.Omega.{arith}
 use lib.ListN.{length, drop}
-use lib.Dec.{eqb, ltb}
-use borrow.Author.Tests.{eq-eqb, eqb-true}
-use Rattle.lists.proofs.Bools.{and-left, and-right, by}
-use Rattle.rules.specs.Text.{every, oneOf, same, begins, _unless_, lower, lowest}
+use lib.Dec.{eqb, leb, ltb}
+use borrow.Author.Tests.{eq-eqb, eqb-true, leb-true, le-leb}
+use Rattle.lists.proofs.Bools.{and-left, and-right, and-intro, or-false-left, or-false-right, or-false-intro, by}
+use Rattle.rules.specs.Text.{within, every, oneOf, same, begins, _unless_, lower, lowest}
 
 -- ## every, oneOf
 
@@ -24,6 +24,22 @@ every-head p x xs h = and-left (p x) (every p xs) h
 pub every-tail : {A : Type 0} (p : A → Bool) (x : A) (xs : List A) → every p (x ∷ xs) ≡ true → every p xs ≡ true
 unfolding every
 every-tail p x xs h = and-right (p x) (every p xs) h
+
+pub every-cons : {A : Type 0} (p : A → Bool) (x : A) (xs : List A) → p x ≡ true → every p xs ≡ true → every p (x ∷ xs) ≡ true
+unfolding every
+every-cons p x xs h k = and-intro h k
+
+pub oneOf-head-false : {A : Type 0} (p : A → Bool) (x : A) (xs : List A) → oneOf p (x ∷ xs) ≡ false → p x ≡ false
+unfolding oneOf
+oneOf-head-false p x xs h = or-false-left (p x) (oneOf p xs) h
+
+pub oneOf-tail-false : {A : Type 0} (p : A → Bool) (x : A) (xs : List A) → oneOf p (x ∷ xs) ≡ false → oneOf p xs ≡ false
+unfolding oneOf
+oneOf-tail-false p x xs h = or-false-right (p x) (oneOf p xs) h
+
+pub oneOf-cons-false : {A : Type 0} (p : A → Bool) (x : A) (xs : List A) → p x ≡ false → oneOf p xs ≡ false → oneOf p (x ∷ xs) ≡ false
+unfolding oneOf
+oneOf-cons-false p x xs h k = or-false-intro h k
 
 pub oneOf-append : {A : Type 0} (p : A → Bool) (xs ys : List A) → oneOf p (xs ++ ys) ≡ (oneOf p xs || oneOf p ys)
 unfolding oneOf
@@ -82,3 +98,20 @@ lower-none a b e = by (eqb a 0) (λ t. (eqb-true a 0 t, sym (rw t at (sym e)))) 
 pub lowest-none : (r : ℕ) (rs : List ℕ) → lowest (r ∷ rs) ≡ 0 → (r ≡ 0) × (lowest rs ≡ 0)
 unfolding lowest
 lowest-none r rs e = lower-none r (lowest rs) e
+
+-- of a test's refusal among several, the test holds
+pub lowest-unless : (n : ℕ) (t : Bool) (rs : List ℕ) → 0 < n → lowest ((n unless t) ∷ rs) ≡ 0 → (t ≡ true) × (lowest rs ≡ 0)
+lowest-unless n t rs h e =
+    let p = lowest-none (n unless t) rs e in
+    (unless-none n t h (p .0), p .1)
+
+-- ## within
+
+pub within-low : (a b n : ℕ) → within a b n ≡ true → a ≤ n
+within-low a b n h = leb-true a n (and-left (leb a n) (leb n b) h)
+
+pub within-high : (a b n : ℕ) → within a b n ≡ true → n ≤ b
+within-high a b n h = leb-true n b (and-right (leb a n) (leb n b) h)
+
+pub within-intro : (a b n : ℕ) → a ≤ n → n ≤ b → within a b n ≡ true
+within-intro a b n h k = and-intro (le-leb a n h) (le-leb n b k)
