@@ -3,3 +3,4 @@ pub mod Examples
 pub mod TextLaws
 pub mod RankLaws
 pub mod StateLaws
+pub mod SourceLaws

@@ -61,7 +61,7 @@ abbrev pub IsSound : State → Type 0
 IsSound s = Sound (s .place) (s .declared) (s .ordered)
 
 -- the state after a line that is not refused is sound
-abbrev pub LeavesSound : Outcome → Type 0
+unfoldable pub LeavesSound : Outcome → Type 0
 LeavesSound o = o .refusal ≡ 0 → IsSound (o .state)
 
 -- ## Declarations
@@ -82,7 +82,7 @@ Lines-more d ds n (l ∷ ls) h = (
 )
 
 pub symbolLine-sound : (s : State) (ts : List Token) → IsSound s → LeavesSound (symbolLine s ts)
-unfolding symbolLine
+unfolding LeavesSound symbolLine
 symbolLine-sound s ts h e =
     let n = theName (tokenAt ts 0) in
     record { elements = h .elements; lines = Lines-more (symbol n) (s .declared) _ (s .ordered .lines) (h .lines); few = h .few; ruled = h .ruled }
@@ -97,7 +97,7 @@ codes-characters (n ∷ ns) h =
     (codes-characters ns (and-right (isCharName n) (every isCharName ns) h))
 
 pub elementLine-sound : (s : State) (ts : List Token) → IsSound s → LeavesSound (elementLine s ts)
-unfolding elementLine
+unfolding LeavesSound elementLine
 elementLine-sound s ts h e =
     let ds = s .declared in
     let n = theName (tokenAt ts 0) in
@@ -138,7 +138,7 @@ ruleCodes-some [] = omega arith
 ruleCodes-some (t ∷ ts) = rw length-map (splitAt-some [] (t ∷ ts))
 
 pub orderStartLine-sound : (s : State) (ts : List Token) → IsSound s → LeavesSound (orderStartLine s ts)
-unfolding orderStartLine
+unfolding LeavesSound orderStartLine
 orderStartLine-sound s ts h e =
     let cs = ruleCodes ts in
     let three = lowest-unless 3 (inPhase beforeOrder s && rulesFormed false ts) _ (lit< tt) e in
@@ -192,7 +192,7 @@ Lines-append ds n (m ∷ ls) l h k e =
     )
 
 pub orderLine-sound : (s : State) (number : ℕ) (x : Subject) (ts : List Token) → IsSound s → LeavesSound (orderLine s number x ts)
-unfolding orderLine
+unfolding LeavesSound orderLine
 orderLine-sound s number x ts h e =
     let ds = s .declared in
     let rs = s .ordered .rules in
