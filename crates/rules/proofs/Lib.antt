@@ -4,3 +4,4 @@ pub mod TextLaws
 pub mod RankLaws
 pub mod StateLaws
 pub mod SourceLaws
+pub mod ItemLaws

@@ -7,7 +7,7 @@ use native.Mathlib.Omega.{arith}
 use lib.ListN.{length, drop}
 use lib.Dec.{eqb, leb, ltb}
 use borrow.Author.Tests.{eq-eqb, eqb-true, leb-true, le-leb}
-use Rattle.lists.proofs.Bools.{and-left, and-right, and-intro, or-false-left, or-false-right, or-false-intro, by}
+use Rattle.lists.proofs.Bools.{and-left, and-right, and-intro, or-false-left, or-false-right, or-false-intro, by, clash}
 use Rattle.rules.specs.Text.{within, every, oneOf, same, begins, _unless_, lower, lowest}
 
 -- ## every, oneOf
@@ -62,6 +62,9 @@ pub same-refl : (xs : List ℕ) → same xs xs ≡ true
 unfolding same
 same-refl [] = refl
 same-refl (x ∷ xs) = rw (eq-eqb x x refl) (same-refl xs)
+
+pub same-swap-false : (xs ys : List ℕ) → same xs ys ≡ false → same ys xs ≡ false
+same-swap-false xs ys h = by (same ys xs) (λ t. clash (rw (same-true ys xs t) (same-refl xs)) h) (λ t. t)
 
 pub begins-append : (p s : List ℕ) → begins p (p ++ s) ≡ true
 unfolding begins
