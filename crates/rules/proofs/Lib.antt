@@ -5,3 +5,4 @@ pub mod RankLaws
 pub mod StateLaws
 pub mod SourceLaws
 pub mod ItemLaws
+pub mod GoodLaws
