@@ -6,3 +6,4 @@ pub mod StateLaws
 pub mod SourceLaws
 pub mod ItemLaws
 pub mod GoodLaws
+pub mod CompileLaws

@@ -150,11 +150,10 @@ lineOutcome-sound s number marks h =
     cond-by LeavesSound (inPhase inOtherCategory s) (otherLine-sound s ws h) (λ p.
     cond-both LeavesSound (isUnused s) (unusedLine-sound s number (getD ws 0 []) marks h) (wholeLine-sound s number marks h))
 
--- What a source that is not refused has left.
+-- What a source that is not refused has left: a sound state, and 1 to 8 rules.
 pub record EndsSound (s : State) : Type 0 where
   pub sound : IsSound s
-  pub between : inPhase betweenCategories s ≡ true
-  pub collated : s .place .collated ≡ true
+  pub ruled : within 1 8 (length (s .ordered .rules)) ≡ true
 
 abbrev Whole : Ended → Type 0
 Whole r = r .refusal ≡ 0 → EndsSound (r .state)
@@ -164,9 +163,10 @@ pub linesFrom-sound : (s : State) (number k : ℕ) (bs : List ℕ) → IsSound s
     → linesFrom s number k bs .refusal ≡ 0 → EndsSound (linesFrom s number k bs .state)
 unfolding LeavesSound linesFrom
 linesFrom-sound s number k [] h =
-    cond-by Whole (inPhase betweenCategories s && s .place .collated)
-    (λ t e.
-    record { sound = h; between = and-left (inPhase betweenCategories s) (s .place .collated) t; collated = and-right (inPhase betweenCategories s) (s .place .collated) t })
+    let between : Bool = inPhase betweenCategories s in
+    let collated : Bool = s .place .collated in
+    cond-by Whole (between && collated) (λ t e.
+    record { sound = h; ruled = h .ruled (and-right between collated t) (inPhase-other s betweenCategories beforeOrder (and-left between collated t) refl) })
     (λ t e. absurd (omega arith))
 linesFrom-sound s number (suc k) (b ∷ bs) h = linesFrom-sound s number k bs h
 linesFrom-sound s number zero (b ∷ bs) h =
