@@ -8,13 +8,13 @@ use lib.ListN.{length, getD, length-append}
 use lib.Dec.{eqb, leb, ltb, lit≤}
 use borrow.Author.Tests.{eqb-true, eq-eqb, ltb-false, not-true, not-false}
 use Rattle.lists.proofs.Bools.{and-intro, by}
-use Rattle.rules.specs.Text.{within, every, oneOf, same, Result, granted, refused}
+use Rattle.rules.specs.Text.{within, every, oneOf, same, granted}
 use Rattle.rules.specs.Meaning.{Rule, Item, item, Meaning, sizeOf, goodWeights, goodItem, hasChars, noTwoAlike, good}
 use Rattle.rules.specs.State.{Declaration, undefined, OrderLine, State, start}
 use Rattle.rules.specs.OrderLines.{rankOf, stands, isSymbol}
 use Rattle.rules.specs.Source.{Ended, linesFrom}
 use Rattle.rules.specs.Compile.{charsOf, itemsFrom, levelsOfRank, supplied, meaningOf, isRanked, finish, compileOf}
-use Rattle.rules.proofs.TextLaws.{every-append, every-cons, oneOf-append, granted-unique, granted-else, granted-then, within-low, within-high, within-intro}
+use Rattle.rules.proofs.TextLaws.{every-append, oneOf-append, granted-unique, granted-else, granted-then, within-low, within-high, within-intro}
 use Rattle.rules.proofs.RankLaws.{isLineOf, rankFrom-zero}
 use Rattle.rules.proofs.StateLaws.{Elements, Lines}
 use Rattle.rules.proofs.SourceLaws.{EndsSound, linesFrom-sound, start-sound}
@@ -122,7 +122,8 @@ finish-granted area e m h =
       fits = rw e′ at (ltb-false area (sizeOf meant) (three .0));
     }
 
-compile-finished : (source : List ℕ) (area work : ℕ) (m : Meaning) → compileOf source area work ≡ granted m → Finished area (linesFrom start 1 0 source) m
+compile-finished : (source : List ℕ) (area work : ℕ) (m : Meaning) → compileOf source area work ≡ granted m
+    → Finished area (linesFrom start 1 0 source) m
 unfolding compileOf
 compile-finished source area work m h =
     let run = linesFrom start 1 0 source in

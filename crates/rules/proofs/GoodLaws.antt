@@ -1,6 +1,6 @@
 -- What an accepted meaning is (specs/Meaning, `good`), part by part.
 use mathlib.Core.Path.{_≡_, refl, sym, ap}
-use mathlib.Core.Bool.{Bool, true, false, not, _&&_, _||_, false≢true}
+use mathlib.Core.Bool.{true, false, not, _&&_, false≢true}
 use mathlib.Core.List.{List, [], _∷_, _++_, map}
 use Prim.Native.Nat.{ℕ, zero, suc, _≤_, _<_}
 use native.Mathlib.Omega.{arith}
@@ -10,8 +10,8 @@ use borrow.Author.Tests.{leb-true, le-leb, not-true}
 use Rattle.lists.proofs.Bools.{and-left, and-right, and-intro, or-false-intro, not-intro, by, clash}
 use Rattle.rules.specs.Text.{within, every, oneOf, same}
 use Rattle.rules.specs.Names.{isCharacter}
-use Rattle.rules.specs.Meaning.{Item, item, Meaning, goodWeights, goodItem, hasChars, noTwoAlike, good}
-use Rattle.rules.proofs.TextLaws.{every-cons, every-head, every-tail, oneOf-append, oneOf-head-false, oneOf-tail-false, same-true, same-refl, same-swap-false, within-low, within-high, within-intro}
+use Rattle.rules.specs.Meaning.{Item, Meaning, goodWeights, goodItem, hasChars, noTwoAlike, good}
+use Rattle.rules.proofs.TextLaws.{every-head, every-tail, oneOf-append, oneOf-head-false, oneOf-tail-false, same-true, same-refl, same-swap-false}
 
 -- The parts of `good`.
 pub record Good (m : Meaning) : Type 0 where
@@ -56,14 +56,19 @@ goodWeights-within : (ws : List (List ℕ)) → every goodWeights ws ≡ true �
 unfolding every goodWeights
 goodWeights-within [] h = refl
 goodWeights-within (w ∷ ws) h =
-    and-intro (and-right (leb (length w) 8) (every (within 1 32768) w) (every-head goodWeights w ws h)) (goodWeights-within ws (every-tail goodWeights w ws h))
+    and-intro
+    (and-right (leb (length w) 8) (every (within 1 32768) w) (every-head goodWeights w ws h))
+    (goodWeights-within ws (every-tail goodWeights w ws h))
 
 -- every weight of every level of good items is from 1 to 32,768
-pub goodItems-weights : (n : ℕ) (is : List Item) → every (goodItem n) is ≡ true → every (every (every (within 1 32768))) (map (λ (i : Item). i .weights) is) ≡ true
+pub goodItems-weights : (n : ℕ) (is : List Item) → every (goodItem n) is ≡ true
+    → every (every (every (within 1 32768))) (map (λ (i : Item). i .weights) is) ≡ true
 unfolding every
 goodItems-weights n [] h = refl
 goodItems-weights n (i ∷ is) h =
-    and-intro (goodWeights-within (i .weights) (goodItem-weights n i (every-head (goodItem n) i is h))) (goodItems-weights n is (every-tail (goodItem n) i is h))
+    and-intro
+    (goodWeights-within (i .weights) (goodItem-weights n i (every-head (goodItem n) i is h)))
+    (goodItems-weights n is (every-tail (goodItem n) i is h))
 
 -- ## No two alike
 

@@ -1,13 +1,13 @@
--- The items of sound order lines (specs/Compile): 1 to 4 characters, or none for UNDEFINED; no two alike; weights from 1 up to the number of lines.
+-- The items of sound order lines (specs/Compile): each is good, no two are alike, and UNDEFINED is one where it has a line.
 use mathlib.Core.Path.{_≡_, refl, sym, ap, _∙_}
-use mathlib.Core.Bool.{Bool, true, false, not, _&&_, _||_, false≢true, or-true}
-use mathlib.Core.List.{List, [], _∷_, _++_, map, head-eq-of-cons-eq}
-use Prim.Native.Nat.{ℕ, suc, _+_, _≤_, _<_}
+use mathlib.Core.Bool.{true, false, false≢true, or-true}
+use mathlib.Core.List.{List, [], _∷_, map, head-eq-of-cons-eq}
+use Prim.Native.Nat.{ℕ, suc, _≤_}
 use native.Mathlib.Omega.{arith}
 use lib.ListN.{length, length-map}
-use lib.Dec.{eqb, leb}
-use borrow.Author.Tests.{eq-eqb, eqb-true, leb-true, le-leb, not-true}
-use Rattle.lists.proofs.Bools.{and-left, and-right, and-intro, or-false-left, or-false-right, or-false-intro, not-intro, by, clash, cond-both}
+use lib.Dec.{leb}
+use borrow.Author.Tests.{eq-eqb, leb-true, le-leb}
+use Rattle.lists.proofs.Bools.{and-intro, or-false-left, or-false-right, or-false-intro, not-intro, by, clash, cond-both}
 use Rattle.lists.proofs.Choices.{cond-by}
 use Rattle.rules.specs.Text.{within, every, oneOf, same}
 use Rattle.rules.specs.Names.{isCharacter}
@@ -16,9 +16,9 @@ use Rattle.rules.specs.State.{Declaration, symbol, element, Subject, cha
 use Rattle.rules.specs.Declarations.{declares, declaresSymbol, declaresChars}
 use Rattle.rules.specs.OrderLines.{sameSubject, stands, isSymbol, rankOf}
 use Rattle.rules.specs.Compile.{charsNamed, charsOf, ranksOf, lineRanks, itemsFrom, isRanked}
-use Rattle.rules.proofs.TextLaws.{every-cons, every-head, every-tail, oneOf-head-false, oneOf-tail-false, oneOf-cons-false, same-true, same-refl, within-intro}
+use Rattle.rules.proofs.TextLaws.{every-head, every-tail, oneOf-head-false, oneOf-tail-false, same-true, same-refl, within-intro}
 use Rattle.rules.proofs.RankLaws.{isLineOf, sameSubject-true, sameSubject-refl, rankFrom-bound}
-use Rattle.rules.proofs.StateLaws.{NewElement, Elements, isShort, OneLine, Lines}
+use Rattle.rules.proofs.StateLaws.{Elements, isShort, OneLine, Lines}
 
 -- ## The characters of an element
 
@@ -72,12 +72,12 @@ charsNamed-unique (symbol l ∷ ds) m n w h k e =
     let kn : same n l ≡ false = or-false-left (same n l) (oneOf (declaresSymbol n) ds) (k .noSymbol) in
     charsNamed-unique ds m n w (named-tail (symbol l) ds m hm h) (named-tail (symbol l) ds n kn k) e
 charsNamed-unique (element l cs ∷ ds) m n w h k e =
+    let below = named-tail (element l cs) ds in
     by (same m l) (λ t.
-    by (same n l) (λ u. let p = same-true m l t in let q = same-true n l u in cc)
-    (λ u. clash (charsNamed-element ds n (w .1) (named-tail (element l cs) ds n u k) .declared) (rw (rw (t, u) at e) at (w .0 .new))))
-    (λ t.
-    by (same n l) (λ u. clash (charsNamed-element ds m (w .1) (named-tail (element l cs) ds m t h) .declared) (rw (sym (rw (t, u) at e)) at (w .0 .new)))
-    (λ u. charsNamed-unique ds m n (w .1) (named-tail (element l cs) ds m t h) (named-tail (element l cs) ds n u k) (rw (t, u) at e)))
+    by (same n l) (λ u. let p = same-true m l t in let q = same-true n l u in cc) (λ u.
+    clash (charsNamed-element ds n (w .1) (below n u k) .declared) (rw (rw (t, u) at e) at (w .0 .new)))) (λ t.
+    by (same n l) (λ u. clash (charsNamed-element ds m (w .1) (below m t h) .declared) (rw (sym (rw (t, u) at e)) at (w .0 .new))) (λ u.
+    charsNamed-unique ds m n (w .1) (below m t h) (below n u k) (rw (t, u) at e)))
 
 -- ## The characters of an item
 
@@ -90,7 +90,8 @@ element-of : (ds : List Declaration) (n : List ℕ) → HasItem ds (named n) →
 unfolding stands isSymbol
 element-of ds n h = record { standing = h .standing; noSymbol = h .noSymbol }
 
-charsOf-characters : (ds : List Declaration) (x : Subject) → Elements ds → HasItem ds x → (length (charsOf ds x) ≤ 4) × (every isCharacter (charsOf ds x) ≡ true)
+charsOf-characters : (ds : List Declaration) (x : Subject) → Elements ds → HasItem ds x
+    → (length (charsOf ds x) ≤ 4) × (every isCharacter (charsOf ds x) ≡ true)
 unfolding charsOf stands every
 charsOf-characters ds (character c) w h = (omega arith, and-intro (h .standing) refl)
 charsOf-characters ds (named n) w h =
@@ -139,7 +140,8 @@ itemsFrom-none ds n ranked (l ∷ ls) x w h k e =
     let line : HasItem ds y = record { standing = h .0 .standing; noSymbol = t } in
     or-false-intro (charsOf-apart ds x y w k line (oneOf-head-false (isLineOf x) l ls e)) r)
 
-pub itemsFrom-apart : (ds : List Declaration) (n : ℕ) (ranked ls : List OrderLine) → Elements ds → Lines ds n ls → noTwoAlike (itemsFrom ds ranked ls) ≡ true
+pub itemsFrom-apart : (ds : List Declaration) (n : ℕ) (ranked ls : List OrderLine) → Elements ds → Lines ds n ls
+    → noTwoAlike (itemsFrom ds ranked ls) ≡ true
 unfolding itemsFrom noTwoAlike
 itemsFrom-apart ds n ranked [] w h = refl
 itemsFrom-apart ds n ranked (l ∷ ls) w h =
@@ -150,17 +152,18 @@ itemsFrom-apart ds n ranked (l ∷ ls) w h =
     r)
 
 -- UNDEFINED is no symbol and has no characters
-undefined-item : (ds : List Declaration) (x : Subject) → undefined ≡ x → (isSymbol ds x ≡ false) × (charsOf ds x ≡ [])
+undefined-chars : (ds : List Declaration) (x : Subject) → undefined ≡ x → (isSymbol ds x ≡ false) × (charsOf ds x ≡ [])
 unfolding isSymbol charsOf
-undefined-item ds x e = rw (sym e) (refl, refl)
+undefined-chars ds x e = rw (sym e) (refl, refl)
 
 -- a line of UNDEFINED is an item
-pub itemsFrom-undefined : (ds : List Declaration) (ranked ls : List OrderLine) → oneOf (isLineOf undefined) ls ≡ true → oneOf (hasChars []) (itemsFrom ds ranked ls) ≡ true
+pub itemsFrom-undefined : (ds : List Declaration) (ranked ls : List OrderLine)
+    → oneOf (isLineOf undefined) ls ≡ true → oneOf (hasChars []) (itemsFrom ds ranked ls) ≡ true
 unfolding itemsFrom oneOf isLineOf hasChars same
 itemsFrom-undefined ds ranked [] h = h
 itemsFrom-undefined ds ranked (l ∷ ls) h =
     by (sameSubject undefined (l .subject)) (λ t.
-    let u = undefined-item ds (l .subject) (sameSubject-true undefined (l .subject) t) in
+    let u = undefined-chars ds (l .subject) (sameSubject-true undefined (l .subject) t) in
     rw (u .0, u .1)) (λ t.
     let r = itemsFrom-undefined ds ranked ls (rw t at h) in
     cond-both (λ (is : List Item). oneOf (hasChars []) is ≡ true) (isSymbol ds (l .subject)) r (rw r (or-true (same [] (charsOf ds (l .subject))))))

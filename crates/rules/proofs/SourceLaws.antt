@@ -1,25 +1,25 @@
--- Every line that is not refused keeps what holds between two lines (StateLaws); so it holds at the end of a source that is not refused (specs/Source).
+-- Every line that is not refused keeps what holds between two lines (StateLaws), so the lines of a source that is not refused do (specs/Source).
 use mathlib.Core.Path.{_≡_, refl, sym}
 use mathlib.Core.Bool.{Bool, true, false, not, _&&_, _||_, false≢true}
 use mathlib.Core.List.{List, [], _∷_}
 use Prim.Native.Nat.{ℕ, zero, suc, pred, _+_}
 use lib.ListN.{length, getD}
-use lib.Dec.{eqb, ltb, lit<}
+use lib.Dec.{eqb, lit<}
 use native.Mathlib.Omega.{arith}
 use borrow.Author.Tests.{eq-eqb, eqb-true, le-leb, ne-eqb}
-use Rattle.lists.proofs.Bools.{and-left, and-right, by, clash, cond-both}
+use Rattle.lists.proofs.Bools.{and-left, and-right, clash, cond-both}
 use Rattle.lists.proofs.Choices.{cond-by}
-use Rattle.rules.specs.Text.{if_then_else_, within, every, is, same, _unless_, lower}
-use Rattle.rules.specs.Tokens.{isText, word, name, Token, tokenAt, theName, single, tokensOf, operands, tokensRefusal, plainMarks, wordsOf}
-use Rattle.rules.specs.Lines.{Scan, lineOf}
-use Rattle.rules.specs.State.{betweenCategories, inOtherCategory, beforeOrder, inOrder, afterOrder, undefined, State, start, inPhase, toPhase, inCollate, Outcome, gives}
-use Rattle.rules.specs.Conditionals.{defineLine, ifLine, elifLine, elseLine, endifLine, isUnused}
+use Rattle.rules.specs.Text.{if_then_else_, within, is, same}
+use Rattle.rules.specs.Tokens.{word, name, Token, tokenAt, theName, single, tokensOf, operands, tokensRefusal, plainMarks, wordsOf}
+use Rattle.rules.specs.Lines.{lineOf}
+use Rattle.rules.specs.State.{betweenCategories, inOtherCategory, beforeOrder, inOrder, afterOrder, undefined, State, start, inPhase, toPhase, inCollate, gives}
+use Rattle.rules.specs.Conditionals.{defineLine, ifLine, elifLine, isUnused}
 use Rattle.rules.specs.OrderLines.{subjectOf}
-use Rattle.rules.specs.Source.{categoryLine, signLine, outsideLine, orderEndLine, endLine, collateLine, tokenLine, wholeLine, otherLine, unusedLine, lineOutcome, Ended, signs, atEnd, linesFrom}
+use Rattle.rules.specs.Source.{categoryLine, signLine, outsideLine, orderEndLine, endLine, collateLine, tokenLine, wholeLine, otherLine, unusedLine, lineOutcome, Ended, signs, linesFrom}
 use Rattle.rules.proofs.TextLaws.{unless-none, lower-none}
 use Rattle.rules.proofs.StateLaws.{IsSound, LeavesSound, symbolLine-sound, elementLine-sound, orderStartLine-sound, orderLine-sound}
 
--- a sound state is one, whatever the refusal
+-- a line that leaves a sound state
 gives-sound : (r : ℕ) (s : State) → IsSound s → LeavesSound (gives r s)
 unfolding LeavesSound
 gives-sound r s h e = h
@@ -42,7 +42,7 @@ signLine-sound : (s : State) (b : Bool) (ts : List Token) → IsSound s → Leav
 unfolding signLine
 signLine-sound s b ts h = gives-sound _ _ h
 
--- a line that moves on from any phase but beforeOrder
+-- moving on from any phase but beforeOrder
 toPhase-sound : (s : State) (p : ℕ) → IsSound s → inPhase beforeOrder s ≡ false → IsSound (toPhase s p)
 toPhase-sound s p h e = record { elements = h .elements; lines = h .lines; few = h .few; ruled = λ c q. h .ruled c e }
 
@@ -59,7 +59,8 @@ orderEndLine-sound s ts h e =
 endLine-sound : (s : State) (ts : List Token) → IsSound s → LeavesSound (endLine s ts)
 unfolding LeavesSound endLine
 endLine-sound s ts h e =
-    let t = unless-none 3 (inPhase afterOrder s && eqb (length (s .blocks .chains)) 0 && single word ts && is (tokenAt ts 0 .text) "LC_COLLATE") (lit< tt) e in
+    let test = inPhase afterOrder s && eqb (length (s .blocks .chains)) 0 && single word ts && is (tokenAt ts 0 .text) "LC_COLLATE" in
+    let t = unless-none 3 test (lit< tt) e in
     toPhase-sound s betweenCategories h (inPhase-other s afterOrder beforeOrder (and-left _ _ (and-left _ _ (and-left _ _ t))) refl)
 
 -- ## Lines outside LC_COLLATE
@@ -166,7 +167,8 @@ linesFrom-sound s number k [] h =
     let between : Bool = inPhase betweenCategories s in
     let collated : Bool = s .place .collated in
     cond-by Whole (between && collated) (λ t e.
-    record { sound = h; ruled = h .ruled (and-right between collated t) (inPhase-other s betweenCategories beforeOrder (and-left between collated t) refl) })
+    let ordered = inPhase-other s betweenCategories beforeOrder (and-left between collated t) refl in
+    record { sound = h; ruled = h .ruled (and-right between collated t) ordered })
     (λ t e. absurd (omega arith))
 linesFrom-sound s number (suc k) (b ∷ bs) h = linesFrom-sound s number k bs h
 linesFrom-sound s number zero (b ∷ bs) h =

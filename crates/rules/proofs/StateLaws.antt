@@ -1,12 +1,12 @@
 -- What holds of the state between two lines of a locale source (specs/State), and that each declaration and order line keeps it.
-use mathlib.Core.Path.{_≡_, refl, sym, ap}
-use mathlib.Core.Bool.{Bool, true, false, not, _&&_, _||_, false≢true}
+use mathlib.Core.Path.{_≡_, refl, ap}
+use mathlib.Core.Bool.{Bool, true, false, not, _&&_, _||_, or-true}
 use mathlib.Core.List.{List, [], _∷_, _++_, map}
-use Prim.Native.Nat.{ℕ, suc, _+_, _≤_, _<_}
+use Prim.Native.Nat.{ℕ, suc, _≤_}
 use native.Mathlib.Omega.{arith}
 use lib.ListN.{length, length-map, length-append}
 use lib.Dec.{eqb, leb, ltb, lit<, lit≤}
-use borrow.Author.Tests.{eqb-true, leb-true, ltb-true, le-leb, not-true}
+use borrow.Author.Tests.{leb-true, ltb-true, not-true}
 use Rattle.lists.proofs.Bools.{and-left, and-right, and-intro, or-false-intro}
 use Rattle.lists.proofs.Choices.{cond-by}
 use Rattle.rules.specs.Text.{within, every, oneOf, is}
@@ -15,7 +15,7 @@ use Rattle.rules.specs.Tokens.{semi, Token, tokenAt, theName}
 use Rattle.rules.specs.Meaning.{Rule}
 use Rattle.rules.specs.State.{beforeOrder, inOrder, Place, Declaration, symbol, element, Subject, character, named, undefined, OrderLine, Ordered, State, inPhase, Outcome}
 use Rattle.rules.specs.Declarations.{declares, declaresChars, isNew, symbolLine, elementFormed, elementLine}
-use Rattle.rules.specs.OrderLines.{splitAt, operandList, ruleOf, ruleCodes, rulesFormed, orderStartLine, stands, isSymbol, subjectOf, sameSubject, isNames, weightRefusal, weightsRefusal, weightOf, weightsOf, rankOf, orderLine}
+use Rattle.rules.specs.OrderLines.{splitAt, operandList, ruleCodes, rulesFormed, orderStartLine, stands, isSymbol, subjectOf, sameSubject, isNames, weightRefusal, weightsRefusal, weightOf, weightsOf, rankOf, orderLine}
 use Rattle.rules.proofs.TextLaws.{every-cons, oneOf-head-false, oneOf-tail-false, oneOf-append, lowest-none, lowest-unless, within-low, within-high, within-intro}
 use Rattle.rules.proofs.RankLaws.{isLineOf, rankFrom-zero, sameSubject-swap-false}
 
@@ -70,7 +70,7 @@ LeavesSound o = o .refusal ≡ 0 → IsSound (o .state)
 stands-more : (d : Declaration) (ds : List Declaration) (x : Subject) → stands ds x ≡ true → stands (d ∷ ds) x ≡ true
 unfolding stands oneOf
 stands-more d ds (character c) h = h
-stands-more d ds (named n) h = rw h (mathlib.Core.Bool.or-true (declares n d))
+stands-more d ds (named n) h = rw h (or-true (declares n d))
 stands-more d ds undefined h = refl
 
 Lines-more : (d : Declaration) (ds : List Declaration) (n : ℕ) (ls : List OrderLine) → Lines ds n ls → Lines (d ∷ ds) n ls

@@ -7,7 +7,7 @@ use native.Mathlib.Omega.{arith}
 use lib.ListN.{length, drop}
 use lib.Dec.{eqb, leb, ltb}
 use borrow.Author.Tests.{eq-eqb, eqb-true, leb-true, le-leb}
-use Rattle.lists.proofs.Bools.{and-left, and-right, and-intro, or-false-left, or-false-right, or-false-intro, by, clash}
+use Rattle.lists.proofs.Bools.{and-left, and-right, and-intro, or-false-left, or-false-right, by, clash}
 use Rattle.rules.specs.Text.{if_then_else_, within, every, oneOf, same, begins, _unless_, lower, lowest, Result, granted, refused}
 
 -- ## every, oneOf
@@ -36,10 +36,6 @@ oneOf-head-false p x xs h = or-false-left (p x) (oneOf p xs) h
 pub oneOf-tail-false : {A : Type 0} (p : A → Bool) (x : A) (xs : List A) → oneOf p (x ∷ xs) ≡ false → oneOf p xs ≡ false
 unfolding oneOf
 oneOf-tail-false p x xs h = or-false-right (p x) (oneOf p xs) h
-
-pub oneOf-cons-false : {A : Type 0} (p : A → Bool) (x : A) (xs : List A) → p x ≡ false → oneOf p xs ≡ false → oneOf p (x ∷ xs) ≡ false
-unfolding oneOf
-oneOf-cons-false p x xs h k = or-false-intro h k
 
 pub oneOf-append : {A : Type 0} (p : A → Bool) (xs ys : List A) → oneOf p (xs ++ ys) ≡ (oneOf p xs || oneOf p ys)
 unfolding oneOf
@@ -128,11 +124,13 @@ pub granted-unique : {A : Type 0} (a b : A) → granted a ≡ granted b → a �
 granted-unique a b e = cc
 
 -- what is granted where a test does not refuse
-pub granted-else : {A : Type 0} (t : Bool) (n l : ℕ) (r : Result A) (a : A) → (if t then refused n l else r) ≡ granted a → (t ≡ false) × (r ≡ granted a)
+pub granted-else : {A : Type 0} (t : Bool) (n l : ℕ) (r : Result A) (a : A)
+    → (if t then refused n l else r) ≡ granted a → (t ≡ false) × (r ≡ granted a)
 granted-else true n l r a e = absurd (refused-not-granted n l a e)
 granted-else false n l r a e = (refl, e)
 
 -- what is granted where a test lets by
-pub granted-then : {A : Type 0} (t : Bool) (n l : ℕ) (r : Result A) (a : A) → (if t then r else refused n l) ≡ granted a → (t ≡ true) × (r ≡ granted a)
+pub granted-then : {A : Type 0} (t : Bool) (n l : ℕ) (r : Result A) (a : A)
+    → (if t then r else refused n l) ≡ granted a → (t ≡ true) × (r ≡ granted a)
 granted-then true n l r a e = (refl, e)
 granted-then false n l r a e = absurd (refused-not-granted n l a e)
