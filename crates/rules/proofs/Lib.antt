@@ -8,3 +8,8 @@ pub mod PermutationLaws
 pub mod AlikeLaws
 pub mod LinearLaws
 pub mod WidthLaws
+pub mod RankLaws
+pub mod StateLaws
+pub mod SourceLaws
+pub mod ItemLaws
+pub mod CompileLaws
