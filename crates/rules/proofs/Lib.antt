@@ -1,4 +1,6 @@
 pub mod Computed
 pub mod Examples
 pub mod TextLaws
+pub mod ResultLaws
 pub mod AreaLaws
+pub mod CodingLaws
