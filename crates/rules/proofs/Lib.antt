@@ -4,3 +4,4 @@ pub mod TextLaws
 pub mod ResultLaws
 pub mod AreaLaws
 pub mod CodingLaws
+pub mod GivenLaws
