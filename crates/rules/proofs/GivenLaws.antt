@@ -28,7 +28,7 @@ pub record Written (gs : List Given) (g : Given) : Type 0 where
 abbrev pub Good : List Given → Type 0
 Good gs = (g : Given) → List·Memᴰ g gs → Written gs g
 
-good-none : Good []
+pub good-none : Good []
 good-none g m = absurd (List·Memᴰ·not-nil m)
 
 -- an entry's byte is given

@@ -5,3 +5,4 @@ pub mod ResultLaws
 pub mod AreaLaws
 pub mod CodingLaws
 pub mod GivenLaws
+pub mod CharmapLaws
