@@ -6,3 +6,4 @@ pub mod AreaLaws
 pub mod CodingLaws
 pub mod GivenLaws
 pub mod CharmapLaws
+pub mod RunLaws
