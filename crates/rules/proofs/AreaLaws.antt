@@ -12,6 +12,7 @@ use borrow.Author.Tests.{leb-true, le-leb, eqb-true, eqb-false, eq-eqb, ne-eqb}
 use Rattle.lists.proofs.Bools.{and-left, and-right, and-intro, by, cond-true, cond-false}
 use Rattle.lists.proofs.Places.{getD-default}
 use Rattle.rules.specs.Text.{every}
+use Rattle.rules.specs.Names.{isCharacter}
 use Rattle.rules.specs.Charmap.{noCode}
 use Rattle.rules.specs.Coding.{isCode, goodOnes, onesOf, oneEach, areaAccepted, codeAt, byteFrom, byteAt}
 
@@ -158,6 +159,10 @@ unique-byte codes ones b g e h i =
     one-place 0 (getD codes b noCode) codes ones b (one-each codes codes ones b e (one-coded codes ones b g h i)) h refl i ∙ omega arith
 
 -- ## The laws
+
+-- a character is a code
+pub character-code : (c : ℕ) → isCharacter c ≡ true → c ≡ noCode → ⊥
+character-code c h e = false≢true (rw e at h)
 
 -- what a byte decodes to stands at that place of the area
 pub code-at : (area : List ℕ) (b d : ℕ) → 512 ≤ length area → b < 256 → codeAt area b ≡ getD area b d

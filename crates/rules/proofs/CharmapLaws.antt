@@ -1,6 +1,6 @@
 -- Laws of a charmap's 512 numbers (specs/Charmap): they are an accepted area, each byte decodes as written, the first byte of a code encodes it.
 use mathlib.Core.Path.{_≡_, refl, sym, ap, _∙_}
-use mathlib.Core.Bool.{true, false, not, _&&_, _||_, or-true, false≢true}
+use mathlib.Core.Bool.{true, false, not, _&&_, _||_, or-true}
 use mathlib.Core.List.{List, [], _∷_, _++_, map, append-nil, append-assoc, List·Memᴰ, List·Memᴰ·head, List·Memᴰ·tail, List·Memᴰ·cases-cons}
 use mathlib.Core.Logic.{⊎-elim}
 use Prim.Native.Nat.{ℕ, zero, suc, _+_, _≤_, _<_}
@@ -11,13 +11,12 @@ use lib.Seq.{take-at, drop-at, getD-append-add}
 use borrow.Author.Tests.{eqb-true, eqb-false, eq-eqb, ne-eqb}
 use Rattle.lists.proofs.Bools.{and-intro, by, cond-true}
 use Rattle.rules.specs.Text.{if_then_else_, every, oneOf, granted}
-use Rattle.rules.specs.Names.{isCharacter}
 use Rattle.rules.specs.Lines.{defaults}
-use Rattle.rules.specs.Charmap.{Given, MapEnded, noCode, givesByte, mapLinesFrom, codeGiven, firstByte, encodes, numbersFrom, areaOf, charmapOf}
+use Rattle.rules.specs.Charmap.{Given, Mapping, MapEnded, noCode, givesByte, mapLinesFrom, codeGiven, firstByte, encodes, numbersFrom, areaOf, charmapOf}
 use Rattle.rules.specs.Coding.{isCode, goodOnes, onesOf, oneEach, areaAccepted, byteAt}
 use Rattle.rules.proofs.ResultLaws.{granted-else, granted-unique}
-use Rattle.rules.proofs.GivenLaws.{Good, good-none, code-none, lines-good}
-use Rattle.rules.proofs.AreaLaws.{parts-accepted, code-at, area-unique-byte}
+use Rattle.rules.proofs.GivenLaws.{Good, good-none, code-once, code-none, lines-good}
+use Rattle.rules.proofs.AreaLaws.{parts-accepted, character-code, code-at, area-unique-byte}
 
 -- ## Entries by their byte and by their code
 
@@ -41,17 +40,13 @@ first-cases (g ∷ gs) c f k = by (eqb c (g .code))
     (λ e n. f (rw t e) (λ h m q. ⊎-elim (λ (i : h ≡ g). eqb-false c (g .code) t (sym (rw i at q))) (λ (i : List·Memᴰ h gs). n h i q) (List·Memᴰ·cases-cons m)))
     (λ h m q e. k h (List·Memᴰ·tail m) q (rw t e)))
 
--- a character is not none
-code-some : (c : ℕ) → isCharacter c ≡ true → c ≡ noCode → ⊥
-code-some c h e = false≢true (rw e at h)
-
 code-isCode : (gs : List Given) (b : ℕ) → Good gs → isCode (codeGiven gs b) ≡ true
 code-isCode gs b good = given-cases gs b (λ e. rw e)
-    (λ g m e. let h = good g m .character in rw (e, ne-eqb (g .code) noCode (code-some (g .code) h)) h)
+    (λ g m e. let h = good .characters g m in rw (e, ne-eqb (g .code) noCode (character-code (g .code) h)) h)
 
 -- none has no first byte
 first-none : (gs : List Given) → Good gs → firstByte gs noCode ≡ 256
-first-none gs good = first-cases gs noCode (λ e n. e) (λ g m q e. absurd (code-some (g .code) (good g m .character) q))
+first-none gs good = first-cases gs noCode (λ e n. e) (λ g m q e. absurd (character-code (g .code) (good .characters g m) q))
 
 -- the first byte of an entry's code is a byte, and decodes to that code
 record FirstOf (gs : List Given) (c : ℕ) : Type 0 where
@@ -60,7 +55,7 @@ record FirstOf (gs : List Given) (c : ℕ) : Type 0 where
 
 first-of : (gs : List Given) (g : Given) → Good gs → List·Memᴰ g gs → FirstOf gs (g .code)
 first-of gs g good m = first-cases gs (g .code) (λ e n. absurd (n g m refl))
-    (λ h i q e. let w = good h i in record { fits = omega arith; decodes = ap (codeGiven gs) e ∙ w .decodes ∙ q })
+    (λ h i q e. let l = good .fits h i in record { fits = omega arith; decodes = ap (codeGiven gs) e ∙ code-once i (good .apart) ∙ q })
 
 -- ## The two halves of the area
 
@@ -202,18 +197,22 @@ first-encodes gs g good m =
 
 -- ## The laws
 
+-- before the first line
+abbrev pub mapStart : Mapping
+mapStart = record { chars = defaults; opened = false; closed = false; given = [] }
+
 -- what the lines of a charmap source give
 abbrev pub givenBy : List ℕ → List Given
-givenBy source = mapLinesFrom (record { chars = defaults; opened = false; closed = false; given = [] }) 1 0 source .given
+givenBy source = mapLinesFrom mapStart 1 0 source .given
 
-given-good : (source : List ℕ) → Good (givenBy source)
-given-good source = lines-good (record { chars = defaults; opened = false; closed = false; given = [] }) 1 0 source good-none
+pub given-good : (source : List ℕ) → Good (givenBy source)
+given-good source = lines-good mapStart 1 0 source good-none
 
 -- the numbers are the area of what the lines give
 pub charmap-area : (source : List ℕ) (n : ℕ) (numbers : List ℕ) → charmapOf source n ≡ granted numbers → numbers ≡ areaOf (givenBy source)
 unfolding charmapOf
 charmap-area source n numbers e =
-    let m : MapEnded = mapLinesFrom (record { chars = defaults; opened = false; closed = false; given = [] }) 1 0 source in
+    let m : MapEnded = mapLinesFrom mapStart 1 0 source in
     let a = granted-else (ltb 1048576 (length source)) 1 0 e in
     let b = granted-else (not (eqb (m .refusal) 0)) (m .refusal) (m .line) (a .1) in
     let c = granted-else (ltb n 512) 9 0 (b .1) in
@@ -234,8 +233,8 @@ module _ (source : List ℕ) (n : ℕ) (numbers : List ℕ) (e : charmapOf sourc
   -- "all decode": the byte of each entry, to the entry's code
   pub charmap-decodes : (g : Given) → List·Memᴰ g (givenBy source) → getD numbers (g .byte) noCode ≡ g .code
   charmap-decodes g m =
-      let w = given-good source g m in
-      rw (charmap-area source n numbers e) (area-code (givenBy source) (g .byte) noCode (w .fits) ∙ w .decodes)
+      let good = given-good source in
+      rw (charmap-area source n numbers e) (area-code (givenBy source) (g .byte) noCode (good .fits g m) ∙ code-once m (good .apart))
 
   -- "110000 hex for none": every other byte
   pub charmap-none : (b : ℕ) → b < 256 → oneOf (givesByte b) (givenBy source) ≡ false → getD numbers b noCode ≡ noCode

@@ -1,6 +1,6 @@
 -- Laws of decoding and encoding by a charmap area (specs/Coding): what is encoded decodes to the same string, and what is decoded can be encoded.
 use mathlib.Core.Path.{_≡_, refl, sym, ap, _∙_}
-use mathlib.Core.Bool.{true, not, false≢true}
+use mathlib.Core.Bool.{true, not}
 use mathlib.Core.List.{List, [], _∷_, map}
 use Prim.Native.Nat.{ℕ, _≤_}
 use native.Mathlib.Omega.{arith}
@@ -11,11 +11,10 @@ use Rattle.lists.proofs.Bools.{and-left, and-right, and-intro}
 use Rattle.rules.specs.Text.{within, every, granted}
 use Rattle.rules.specs.Names.{isCharacter}
 use Rattle.rules.specs.Order.{goodString}
-use Rattle.rules.specs.Charmap.{noCode}
 use Rattle.rules.specs.Coding.{areaAccepted, codeAt, byteAt, decodeOf, encodeOf}
 use Rattle.rules.proofs.TextLaws.{every-head, every-tail}
 use Rattle.rules.proofs.ResultLaws.{granted-else, granted-unique}
-use Rattle.rules.proofs.AreaLaws.{area-byte, code-byte}
+use Rattle.rules.proofs.AreaLaws.{character-code, area-byte, code-byte}
 
 -- ## What the tests say where a result is granted
 
@@ -123,9 +122,6 @@ decode-characters area bs room text e = decoded-parts area bs room text e .chara
 pub decode-length : (area bs : List ℕ) (room : ℕ) (text : List ℕ) → decodeOf area bs room ≡ granted text → length text ≡ length bs
 decode-length area bs room text e = ap length (decoded-parts area bs room text e .codes) ∙ length-map bs (codeAt area)
 
-not-noCode : (c : ℕ) → isCharacter c ≡ true → c ≡ noCode → ⊥
-not-noCode c h e = false≢true (rw e at h)
-
 bytes-codes : (area bs : List ℕ) → areaAccepted area ≡ true → every isCharacter (map (codeAt area) bs) ≡ true
     → every (within 0 255) (map (byteAt area) (map (codeAt area) bs)) ≡ true
 unfolding every
@@ -133,7 +129,7 @@ bytes-codes area [] a h = refl
 bytes-codes area (b ∷ bs) a h =
     let c = codeAt area b in
     let rest = map (codeAt area) bs in
-    let l = area-byte area b a (not-noCode c (every-head isCharacter c rest h)) in
+    let l = area-byte area b a (character-code c (every-head isCharacter c rest h)) in
     and-intro
     (and-intro (le-leb 0 (byteAt area c) (omega arith)) (le-leb (byteAt area c) 255 (omega arith)))
     (bytes-codes area bs a (every-tail isCharacter c rest h))

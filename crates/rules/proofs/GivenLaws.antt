@@ -1,4 +1,4 @@
--- Laws of what a charmap's lines give (specs/Charmap): each byte is below 256 and given once, each code is a character.
+-- Laws of what a charmap's lines give (specs/Charmap): each byte is below 256, each code is a character, no byte is given twice.
 use mathlib.Core.Path.{_≡_, refl, sym, ap, _∙_}
 use mathlib.Core.Bool.{Bool, true, false, not, _&&_}
 use mathlib.Core.List.{List, [], _∷_, _++_, List·Memᴰ, List·Memᴰ·head, List·Memᴰ·tail, List·Memᴰ·append-cases, List·Memᴰ·not-nil}
@@ -7,35 +7,43 @@ use Prim.Native.Nat.{ℕ, zero, suc, pred, _+_, _-_, _≤_, _<_}
 use native.Mathlib.Omega.{arith}
 use lib.ListN.{length, drop}
 use lib.Dec.{ltb, leb, eqb}
-use borrow.Author.Tests.{leb-true, leb-false, le-leb, lt-leb, lt-ltb, eqb-true, eq-eqb, ne-eqb, not-true}
-use Rattle.lists.proofs.Bools.{and-left, and-right, and-intro, or-false-left, or-false-right, clash, by, cond-true, cond-false, cond-both}
+use borrow.Author.Tests.{leb-true, leb-false, le-leb, lt-leb, lt-ltb, eqb-true, eqb-false, eq-eqb, ne-eqb, not-true}
+use Rattle.lists.proofs.Bools.{and-left, and-right, and-intro, or-false-left, or-false-right, or-false-intro, clash, by, cond-both}
 use Rattle.rules.specs.Text.{if_then_else_, every, oneOf, is, _unless_, lowest}
-use Rattle.rules.specs.Names.{namesRefusal, hexValue, codeOf, isCharacter, isCharName}
+use Rattle.rules.specs.Names.{namesRefusal, hexValue, charShaped, codeOf, isCharacter, isCharName}
 use Rattle.rules.specs.Tokens.{isText, Token, tokenAt, theName, tokensOf, operands, isRange, isEntry}
 use Rattle.rules.specs.Lines.{Scan, lineOf}
 use Rattle.rules.specs.Charmap.{Given, Mapping, MapOutcome, MapEnded, mapEnded, mapSigns, noCode, counted, givesByte, isGiven, lastToken, entryLine, bodyLine, headerLine, signHeader, isHeader, mapLinesFrom, codeGiven}
-use Rattle.rules.proofs.TextLaws.{every-head, every-tail, unless-none, lowest-none}
+use Rattle.rules.proofs.TextLaws.{every-head, every-tail, oneOf-append, unless-none, lowest-none}
 
--- ## Entries
+-- ## What is given
 
--- What holds of an entry g of what is given.
-pub record Written (gs : List Given) (g : Given) : Type 0 where
-  pub fits : g .byte < 256
-  pub character : isCharacter (g .code) ≡ true
-  pub decodes : codeGiven gs (g .byte) ≡ g .code
+-- no byte is given twice
+abbrev pub Apart : List Given → Type 0
+Apart [] = Unit {0}
+Apart (g ∷ gs) = (isGiven gs g ≡ false) × Apart gs
 
--- each entry is so
-abbrev pub Good : List Given → Type 0
-Good gs = (g : Given) → List·Memᴰ g gs → Written gs g
+-- What holds of all that is given.
+pub record Good (gs : List Given) : Type 0 where
+  pub fits : (g : Given) → List·Memᴰ g gs → g .byte < 256
+  pub characters : (g : Given) → List·Memᴰ g gs → isCharacter (g .code) ≡ true
+  pub apart : Apart gs
 
 pub good-none : Good []
-good-none g m = absurd (List·Memᴰ·not-nil m)
+good-none = record { fits = λ g m. absurd (List·Memᴰ·not-nil m); characters = λ g m. absurd (List·Memᴰ·not-nil m); apart = tt }
 
--- an entry's byte is given
-pub byte-given : {gs : List Given} {g : Given} → List·Memᴰ g gs → oneOf (givesByte (g .byte)) gs ≡ true
+byte-given : {gs : List Given} {g : Given} → List·Memᴰ g gs → oneOf (givesByte (g .byte)) gs ≡ true
 unfolding oneOf givesByte
 byte-given {g} (List·Memᴰ·head {x} e) = rw (eq-eqb (g .byte) (x .byte) (ap (λ (y : Given). y .byte) e))
 byte-given {g} (List·Memᴰ·tail {x} {xs} m) = by (eqb (g .byte) (x .byte)) (λ t. rw t) (λ t. rw t (byte-given m))
+
+-- the byte of an entry decodes to the entry's code
+pub code-once : {gs : List Given} {g : Given} → List·Memᴰ g gs → Apart gs → codeGiven gs (g .byte) ≡ g .code
+unfolding codeGiven isGiven
+code-once {g} (List·Memᴰ·head {x} e) a = rw (eq-eqb (g .byte) (x .byte) (ap (λ (y : Given). y .byte) e)) (ap (λ (y : Given). y .code) (sym e))
+code-once {g} (List·Memᴰ·tail {x} {xs} m) a = by (eqb (g .byte) (x .byte))
+    (λ t. clash (byte-given m) (rw (← eqb-true (g .byte) (x .byte) t) at (a .0)))
+    (λ t. rw t (code-once m (a .1)))
 
 -- a byte that is not given decodes to none
 pub code-none : (gs : List Given) (b : ℕ) → oneOf (givesByte b) gs ≡ false → codeGiven gs b ≡ noCode
@@ -44,31 +52,33 @@ code-none [] b h = refl
 code-none (g ∷ gs) b h =
     rw (or-false-left (eqb b (g .byte)) (oneOf (givesByte b) gs) h) (code-none gs b (or-false-right (eqb b (g .byte)) (oneOf (givesByte b) gs) h))
 
--- of two lists the first that gives a byte decodes it
-code-append : (gs hs : List Given) (b : ℕ) → codeGiven (gs ++ hs) b ≡ (if oneOf (givesByte b) gs then codeGiven gs b else codeGiven hs b)
-unfolding oneOf givesByte codeGiven
-code-append [] hs b = refl
-code-append (g ∷ gs) hs b = by (eqb b (g .byte)) (λ t. rw t) (λ t. rw t (code-append gs hs b))
+-- ## More is given
 
-oneOf-false : {A : Type 0} (p : A → Bool) {xs : List A} {x : A} → List·Memᴰ x xs → oneOf p xs ≡ false → p x ≡ false
-unfolding oneOf
-oneOf-false p {x} (List·Memᴰ·head {x = y} {xs} e) h = ap p e ∙ or-false-left (p y) (oneOf p xs) h
-oneOf-false p (List·Memᴰ·tail {x = y} {xs} m) h = oneOf-false p m (or-false-right (p y) (oneOf p xs) h)
+-- entries whose bytes are not given by g and gs: g's byte is not given by them, and theirs not by gs
+not-given : (g : Given) (gs hs : List Given) → oneOf (isGiven (g ∷ gs)) hs ≡ false → (isGiven hs g ≡ false) × (oneOf (isGiven gs) hs ≡ false)
+unfolding oneOf givesByte isGiven
+not-given g gs [] n = (refl, refl)
+not-given g gs (h ∷ hs) n =
+    let here = or-false-left (isGiven (g ∷ gs) h) (oneOf (isGiven (g ∷ gs)) hs) n in
+    let later = not-given g gs hs (or-false-right (isGiven (g ∷ gs) h) (oneOf (isGiven (g ∷ gs)) hs) n) in
+    let unlike = eqb-false (h .byte) (g .byte) (or-false-left (eqb (h .byte) (g .byte)) (isGiven gs h) here) in (
+      or-false-intro (ne-eqb (g .byte) (h .byte) (λ e. unlike (sym e))) (later .0),
+      or-false-intro (or-false-right (eqb (h .byte) (g .byte)) (isGiven gs h) here) (later .1),
+    )
+
+apart-append : (gs hs : List Given) → Apart gs → Apart hs → oneOf (isGiven gs) hs ≡ false → Apart (gs ++ hs)
+unfolding isGiven
+apart-append [] hs a b n = b
+apart-append (g ∷ gs) hs a b n =
+    let k = not-given g gs hs n in
+    (oneOf-append (givesByte (g .byte)) gs hs ∙ or-false-intro (a .0) (k .0), apart-append gs hs (a .1) b (k .1))
 
 good-append : (gs hs : List Given) → Good gs → Good hs → oneOf (isGiven gs) hs ≡ false → Good (gs ++ hs)
-unfolding isGiven
-good-append gs hs a b n g m = ⊎-elim
-    (λ (l : List·Memᴰ g gs). let w = a g l in record {
-      fits = w .fits;
-      character = w .character;
-      decodes = code-append gs hs (g .byte) ∙ cond-true (codeGiven gs (g .byte)) (codeGiven hs (g .byte)) (byte-given l) ∙ w .decodes;
-    })
-    (λ (r : List·Memᴰ g hs). let w = b g r in record {
-      fits = w .fits;
-      character = w .character;
-      decodes = code-append gs hs (g .byte) ∙ cond-false (codeGiven gs (g .byte)) (codeGiven hs (g .byte)) (oneOf-false (isGiven gs) r n) ∙ w .decodes;
-    })
-    (List·Memᴰ·append-cases gs m)
+good-append gs hs a b n = record {
+  fits = λ g m. ⊎-elim (a .fits g) (b .fits g) (List·Memᴰ·append-cases gs m);
+  characters = λ g m. ⊎-elim (a .characters g) (b .characters g) (List·Memᴰ·append-cases gs m);
+  apart = apart-append gs hs (a .apart) (b .apart) n;
+}
 
 -- ## A range
 
@@ -90,22 +100,23 @@ counted-entry (suc n) b c g (List·Memᴰ·tail m) =
     let r = counted-entry n (suc b) (suc c) g m in
     record { step = suc (r .step); inside = omega arith; byte = omega arith; code = omega arith }
 
-code-counted : (n b c i : ℕ) → i < n → codeGiven (counted n b c) (b + i) ≡ c + i
-unfolding codeGiven counted
-code-counted zero b c i h = absurd (omega arith)
-code-counted (suc n) b c zero h = rw (eq-eqb (b + 0) b (omega arith)) (omega arith)
-code-counted (suc n) b c (suc i) h =
-    let e : b + suc i ≡ suc b + i = omega arith in
-    rw (ne-eqb (b + suc i) b (λ q. omega arith), e) (code-counted n (suc b) (suc c) i (omega arith) ∙ omega arith)
+-- a range gives no byte before its first
+before-counted : (n b c x : ℕ) → x < b → oneOf (givesByte x) (counted n b c) ≡ false
+unfolding oneOf givesByte counted
+before-counted zero b c x h = refl
+before-counted (suc n) b c x h = or-false-intro (ne-eqb x b (λ q. omega arith)) (before-counted n (suc b) (suc c) x (omega arith))
+
+apart-counted : (n b c : ℕ) → Apart (counted n b c)
+unfolding counted isGiven
+apart-counted zero b c = tt
+apart-counted (suc n) b c = (before-counted n (suc b) (suc c) b (omega arith), apart-counted n (suc b) (suc c))
 
 good-counted : (n b c : ℕ) → b + n ≤ 256 → ((i : ℕ) → i < n → isCharacter (c + i) ≡ true) → Good (counted n b c)
-good-counted n b c h k g m =
-    let r = counted-entry n b c g m in
-    record {
-      fits = omega arith;
-      character = rw (r .code) (k (r .step) (r .inside));
-      decodes = ap (codeGiven (counted n b c)) (r .byte) ∙ code-counted n b c (r .step) (r .inside) ∙ sym (r .code);
-    }
+good-counted n b c h k = record {
+  fits = λ g m. let r = counted-entry n b c g m in omega arith;
+  characters = λ g m. let r = counted-entry n b c g m in rw (r .code) (k (r .step) (r .inside));
+  apart = apart-counted n b c;
+}
 
 -- ## Characters
 
@@ -131,13 +142,13 @@ character-between low high c h k n p q = character-cases low h
 
 -- ## Lines keep it so
 
--- a line that is not refused
+-- what is given after a line that is not refused is good
 abbrev Keeps : MapOutcome → Type 0
 Keeps o = o .refusal ≡ 0 → Good (o .mapping .given)
 
 isCharName-code : (n : List ℕ) → isCharName n ≡ true → isCharacter (codeOf n) ≡ true
 unfolding isCharName
-isCharName-code n h = and-right (Rattle.rules.specs.Names.charShaped n) (isCharacter (codeOf n)) h
+isCharName-code n h = and-right (charShaped n) (isCharacter (codeOf n)) h
 
 -- an entry's new bytes, by what its tests say
 good-entry : (gs : List Given) (first last : List ℕ) (byte : ℕ) → Good gs
@@ -207,7 +218,7 @@ next-good : (o : MapOutcome) (number : ℕ) (r : MapEnded) → (o .refusal ≡ 0
     → Good ((if eqb (o .refusal) 0 then r else mapEnded (o .refusal) number []) .given)
 next-good o number r h = by (eqb (o .refusal) 0) (λ t. rw t (h (eqb-true (o .refusal) 0 t))) (λ t. rw t good-none)
 
--- of what all lines give each entry is so
+-- what all lines give is good
 pub lines-good : (m : Mapping) (number k : ℕ) (bs : List ℕ) → Good (m .given) → Good (mapLinesFrom m number k bs .given)
 unfolding mapLinesFrom
 lines-good m number k [] g = cond-both (λ (e : MapEnded). Good (e .given)) (m .closed) g good-none
