@@ -1,2 +1,2 @@
 pub mod Bools
-pub mod Choices
+pub mod Places

@@ -14,7 +14,8 @@ use Rattle.rules.specs.State.{Declaration, undefined, OrderLine, State, 
 use Rattle.rules.specs.OrderLines.{rankOf, stands, isSymbol}
 use Rattle.rules.specs.Source.{Ended, linesFrom}
 use Rattle.rules.specs.Compile.{charsOf, itemsFrom, levelsOfRank, supplied, meaningOf, isRanked, finish, compileOf}
-use Rattle.rules.proofs.TextLaws.{every-append, oneOf-append, granted-unique, granted-else, granted-then, within-low, within-high, within-intro}
+use Rattle.rules.proofs.TextLaws.{every-append, oneOf-append, within-low, within-high, within-intro}
+use Rattle.rules.proofs.ResultLaws.{granted-unique, granted-else, granted-then}
 use Rattle.rules.proofs.RankLaws.{isLineOf, rankFrom-zero}
 use Rattle.rules.proofs.StateLaws.{Elements, Lines}
 use Rattle.rules.proofs.SourceLaws.{EndsSound, linesFrom-sound, start-sound}
@@ -112,10 +113,10 @@ finish-granted area e m h =
     let meant = meaningOf (e .state) in
     let zero : Bool = eqb (e .refusal) 0 in
     let ranked : Bool = every (isRanked ls) ls in
-    let one = granted-else (not zero) _ _ _ m h in
-    let two = granted-else (not ranked) _ _ _ m (one .1) in
-    let three = granted-else (ltb area (sizeOf meant)) _ _ _ m (two .1) in
-    let e′ = granted-unique meant m (three .1) in
+    let one = granted-else (not zero) _ _ h in
+    let two = granted-else (not ranked) _ _ (one .1) in
+    let three = granted-else (ltb area (sizeOf meant)) _ _ (two .1) in
+    let e′ : meant ≡ m = granted-unique (three .1) in
     record {
       unrefused = eqb-true (e .refusal) 0 (not-false zero (one .0));
       ranked = not-false ranked (two .0);
@@ -128,7 +129,7 @@ compile-finished : (source : List ℕ) (area work : ℕ) (m : Meaning) → compi
 unfolding compileOf
 compile-finished source area work m h =
     let run = linesFrom start 1 0 source in
-    finish-granted area run m (granted-then (leb (length source) 1048576 && leb (length source + 64) work) 1 0 (finish area run) m h .1)
+    finish-granted area run m (granted-then (leb (length source) 1048576 && leb (length source + 64) work) 1 0 h .1)
 
 -- whatever is compiled is an accepted meaning
 pub compile-good : (source : List ℕ) (area work : ℕ) (m : Meaning) → compileOf source area work ≡ granted m → good m ≡ true

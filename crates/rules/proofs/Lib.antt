@@ -13,3 +13,9 @@ pub mod StateLaws
 pub mod SourceLaws
 pub mod ItemLaws
 pub mod CompileLaws
+pub mod ResultLaws
+pub mod AreaLaws
+pub mod CodingLaws
+pub mod GivenLaws
+pub mod CharmapLaws
+pub mod RunLaws

@@ -8,7 +8,7 @@ use lib.ListN.{length, drop}
 use lib.Dec.{eqb, leb, ltb}
 use borrow.Author.Tests.{eq-eqb, eqb-true, leb-true, le-leb}
 use Rattle.lists.proofs.Bools.{and-left, and-right, and-intro, or-false-left, or-false-right, by, clash}
-use Rattle.rules.specs.Text.{if_then_else_, within, every, oneOf, same, begins, _unless_, lower, lowest, Result, granted, refused}
+use Rattle.rules.specs.Text.{within, every, oneOf, same, begins, _unless_, lower, lowest}
 
 -- ## every, oneOf
 
@@ -119,23 +119,3 @@ within-high a b n h = leb-true n b (and-right (leb a n) (leb n b) h)
 
 pub within-intro : (a b n : ℕ) → a ≤ n → n ≤ b → within a b n ≡ true
 within-intro a b n h k = and-intro (le-leb a n h) (le-leb n b k)
-
--- ## Results
-
-refused-not-granted : {A : Type 0} (n l : ℕ) (a : A) → refused n l ≡ granted a → ⊥
-refused-not-granted n l a e = let z : _≡_ {A = ℕ} 0 1 = cc in omega arith
-
-pub granted-unique : {A : Type 0} (a b : A) → granted a ≡ granted b → a ≡ b
-granted-unique a b e = cc
-
--- what is granted where a test does not refuse
-pub granted-else : {A : Type 0} (t : Bool) (n l : ℕ) (r : Result A) (a : A)
-    → (if t then refused n l else r) ≡ granted a → (t ≡ false) × (r ≡ granted a)
-granted-else true n l r a e = absurd (refused-not-granted n l a e)
-granted-else false n l r a e = (refl, e)
-
--- what is granted where a test lets by
-pub granted-then : {A : Type 0} (t : Bool) (n l : ℕ) (r : Result A) (a : A)
-    → (if t then r else refused n l) ≡ granted a → (t ≡ true) × (r ≡ granted a)
-granted-then true n l r a e = (refl, e)
-granted-then false n l r a e = absurd (refused-not-granted n l a e)
