@@ -51,3 +51,8 @@ cond-false a b h = rw h
 pub cond-both : {A : Type 0} (P : A → Type 0) (t : Bool) {a b : A} → P a → P b → P (cond t a b)
 cond-both P true x y = x
 cond-both P false x y = y
+
+-- what holds of each, where it is chosen, holds of the choice
+pub cond-by : {A : Type 0} (P : A → Type 0) (t : Bool) {a b : A} → (t ≡ true → P a) → (t ≡ false → P b) → P (cond t a b)
+cond-by P true f g = f refl
+cond-by P false f g = g refl

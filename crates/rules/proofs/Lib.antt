@@ -8,3 +8,14 @@ pub mod PermutationLaws
 pub mod AlikeLaws
 pub mod LinearLaws
 pub mod WidthLaws
+pub mod RankLaws
+pub mod StateLaws
+pub mod SourceLaws
+pub mod ItemLaws
+pub mod CompileLaws
+pub mod ResultLaws
+pub mod AreaLaws
+pub mod CodingLaws
+pub mod GivenLaws
+pub mod CharmapLaws
+pub mod RunLaws

@@ -2,13 +2,13 @@
 use mathlib.Core.Path.{_≡_, refl, sym, ap, _∙_}
 use mathlib.Core.Bool.{Bool, true, false, _&&_, _||_, false≢true}
 use mathlib.Core.List.{List, [], _∷_, _++_}
-use Prim.Native.Nat.{ℕ, _<_}
+use Prim.Native.Nat.{ℕ, _≤_, _<_}
 use native.Mathlib.Omega.{arith}
 use lib.ListN.{length, drop}
-use lib.Dec.{eqb, ltb}
-use borrow.Author.Tests.{eq-eqb, eqb-true}
-use Rattle.lists.proofs.Bools.{and-left, and-right, and-intro, by}
-use Rattle.rules.specs.Text.{every, oneOf, same, begins, _unless_, lower, lowest}
+use lib.Dec.{eqb, leb, ltb}
+use borrow.Author.Tests.{eq-eqb, eqb-true, leb-true, le-leb}
+use Rattle.lists.proofs.Bools.{and-left, and-right, and-intro, or-false-left, or-false-right, by, clash}
+use Rattle.rules.specs.Text.{within, every, oneOf, same, begins, _unless_, lower, lowest}
 
 -- ## every, oneOf
 
@@ -34,6 +34,18 @@ unfolding every
 every-mono p q f [] h = refl
 every-mono p q f (x ∷ xs) h = and-intro (f x (every-head p x xs h)) (every-mono p q f xs (every-tail p x xs h))
 
+pub every-cons : {A : Type 0} (p : A → Bool) (x : A) (xs : List A) → p x ≡ true → every p xs ≡ true → every p (x ∷ xs) ≡ true
+unfolding every
+every-cons p x xs h k = and-intro h k
+
+pub oneOf-head-false : {A : Type 0} (p : A → Bool) (x : A) (xs : List A) → oneOf p (x ∷ xs) ≡ false → p x ≡ false
+unfolding oneOf
+oneOf-head-false p x xs h = or-false-left (p x) (oneOf p xs) h
+
+pub oneOf-tail-false : {A : Type 0} (p : A → Bool) (x : A) (xs : List A) → oneOf p (x ∷ xs) ≡ false → oneOf p xs ≡ false
+unfolding oneOf
+oneOf-tail-false p x xs h = or-false-right (p x) (oneOf p xs) h
+
 pub oneOf-append : {A : Type 0} (p : A → Bool) (xs ys : List A) → oneOf p (xs ++ ys) ≡ (oneOf p xs || oneOf p ys)
 unfolding oneOf
 oneOf-append p [] ys = refl
@@ -56,6 +68,9 @@ unfolding same
 same-refl [] = refl
 same-refl (x ∷ xs) = rw (eq-eqb x x refl) (same-refl xs)
 
+pub same-swap-false : (xs ys : List ℕ) → same xs ys ≡ false → same ys xs ≡ false
+same-swap-false xs ys h = by (same ys xs) (λ t. clash (rw (same-true ys xs t) (same-refl xs)) h) (λ t. t)
+
 pub begins-append : (p s : List ℕ) → begins p (p ++ s) ≡ true
 unfolding begins
 begins-append [] s = refl
@@ -75,10 +90,6 @@ pub unless-none : (n : ℕ) (t : Bool) → 0 < n → (n unless t) ≡ 0 → t �
 unless-none n true h e = refl
 unless-none n false h e = absurd (omega arith)
 
-lower-zero : (b : ℕ) → lower 0 b ≡ b
-unfolding lower
-lower-zero b = refl
-
 -- the lower of two is none only where both are
 pub lower-none : (a b : ℕ) → lower a b ≡ 0 → (a ≡ 0) × (b ≡ 0)
 unfolding lower
@@ -91,3 +102,20 @@ lower-none a b e = by (eqb a 0) (λ t. (eqb-true a 0 t, sym (rw t at (sym e)))) 
 pub lowest-none : (r : ℕ) (rs : List ℕ) → lowest (r ∷ rs) ≡ 0 → (r ≡ 0) × (lowest rs ≡ 0)
 unfolding lowest
 lowest-none r rs e = lower-none r (lowest rs) e
+
+-- of a test's refusal among several, the test holds
+pub lowest-unless : (n : ℕ) (t : Bool) (rs : List ℕ) → 0 < n → lowest ((n unless t) ∷ rs) ≡ 0 → (t ≡ true) × (lowest rs ≡ 0)
+lowest-unless n t rs h e =
+    let p = lowest-none (n unless t) rs e in
+    (unless-none n t h (p .0), p .1)
+
+-- ## within
+
+pub within-low : (a b n : ℕ) → within a b n ≡ true → a ≤ n
+within-low a b n h = leb-true a n (and-left (leb a n) (leb n b) h)
+
+pub within-high : (a b n : ℕ) → within a b n ≡ true → n ≤ b
+within-high a b n h = leb-true n b (and-right (leb a n) (leb n b) h)
+
+pub within-intro : (a b n : ℕ) → a ≤ n → n ≤ b → within a b n ≡ true
+within-intro a b n h k = and-intro (le-leb a n h) (le-leb n b k)

@@ -23,6 +23,10 @@ pub record Mapping : Type 0 where
   pub closed : Bool
   pub given : List Given
 
+-- before the first line
+abbrev pub mapStart : Mapping
+mapStart = record { chars = defaults; opened = false; closed = false; given = [] }
+
 -- A line's outcome: its refusal, or 0 and the state after it.
 pub record MapOutcome : Type 0 where
   pub refusal : ℕ
@@ -186,7 +190,7 @@ areaOf gs = map (codeGiven gs) (numbersFrom 256 0) ++ map (encodes gs) (numbersF
 -- a source, and an area of so many numbers; "table area too short (charmap: under 512)" (9)
 unfoldable pub charmapOf : List ℕ → ℕ → Result (List ℕ)
 charmapOf source area =
-    let e : MapEnded = mapLinesFrom (record { chars = defaults; opened = false; closed = false; given = [] }) 1 0 source in
+    let e : MapEnded = mapLinesFrom mapStart 1 0 source in
     if ltb 1048576 (length source) then refused 1 0
     else if not (eqb (e .refusal) 0) then refused (e .refusal) (e .line)
     else if ltb area 512 then refused 9 0

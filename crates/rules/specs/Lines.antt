@@ -150,9 +150,21 @@ scan g s b =
 
 -- ## A whole line
 
--- "the last LF may be missing"; an escape as the source's last byte is malformed
+-- an escape as the source's last byte is malformed (readings)
+abbrev pub cutShort : Scan → ℕ → Scan
+cutShort s escape = record {
+  mode = s .mode;
+  fresh = false;
+  escaped = false;
+  ended = false;
+  marks = s .marks ++ (512 + escape) ∷ [];
+  feeds = s .feeds;
+  size = s .size;
+}
+
+-- "the last LF may be missing"
 unfoldable pub lineFrom : Signs → Scan → List ℕ → Scan
-lineFrom g s [] = if s .escaped then marked s (s .mode) false (512 + g .escape) else s
+lineFrom g s [] = if s .escaped then cutShort s (g .escape) else s
 lineFrom g s (b ∷ bs) =
     let n : Scan = scan g s b in
     let r : Scan = lineFrom g n bs in
