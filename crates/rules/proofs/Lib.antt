@@ -1,3 +1,4 @@
 pub mod Computed
 pub mod Examples
 pub mod TextLaws
+pub mod SignLaws
