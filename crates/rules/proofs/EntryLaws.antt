@@ -1,0 +1,102 @@
+-- The entries of a level: what each of them is where the weights are good, and how many there are.
+use mathlib.Core.Path.{_≡_, refl, sym, ap, _∙_}
+use mathlib.Core.Bool.{Bool, true, false, _&&_}
+use mathlib.Core.List.{List, [], _∷_, map, reverse}
+use Prim.Native.Nat.{ℕ, zero, suc, pred, _+_, _*_, _≤_}
+use native.Mathlib.Omega.{arith}
+use lib.ListN.{length, getD, length-map, length-reverse}
+use lib.Dec.{leb, eqb}
+use borrow.Author.Tests.{leb-true}
+use Rattle.lists.proofs.Bools.{and-left, and-right, cond-false, cond-both}
+use Rattle.lists.proofs.Lists.{All}
+use Rattle.rules.specs.Text.{every, oneOf, within}
+use Rattle.rules.specs.Names.{isCharacter}
+use Rattle.rules.specs.Meaning.{Rule, Item, Meaning, countAll, goodWeights, goodItem, hasChars, noTwoAlike, good}
+use Rattle.rules.specs.Order.{Entry, noItem, weightsAt, more, entriesFrom, walked, levelEntries}
+use Rattle.rules.proofs.TextLaws.{every-head, every-tail}
+use Rattle.rules.proofs.EveryLaws.{every-getD, every-map, every-reverse}
+
+-- ## The weights of a good meaning
+
+pub good-items : (m : Meaning) → good m ≡ true → every (goodItem (length (m .rules))) (m .items) ≡ true
+unfolding good
+good-items m h =
+    let l : ℕ = length (m .rules) in
+    let a : Bool = within 1 8 l && leb (length (m .items)) 32768 in
+    let b : Bool = every (goodItem l) (m .items) in
+    and-right a b (and-left (a && b) (noTwoAlike (m .items)) (and-left (a && b && noTwoAlike (m .items)) (oneOf (hasChars []) (m .items)) h))
+
+goodItem-weights : (l : ℕ) (i : Item) → goodItem l i ≡ true → every goodWeights (i .weights) ≡ true
+unfolding goodItem
+goodItem-weights l i h =
+    and-right (leb (length (i .chars)) 4 && every isCharacter (i .chars) && eqb (length (i .weights)) l) (every goodWeights (i .weights)) h
+
+getD-weights : (l : ℕ) (is : List Item) (k : ℕ) → every (goodItem l) is ≡ true → every goodWeights ((getD is k noItem) .weights) ≡ true
+unfolding every
+getD-weights l [] k h = refl
+getD-weights l (i ∷ is) zero h = goodItem-weights l i (every-head (goodItem l) i is h)
+getD-weights l (i ∷ is) (suc k) h = getD-weights l is k (every-tail (goodItem l) i is h)
+
+-- at every level and place, listed or not
+pub weightsAt-good : (l : ℕ) (is : List Item) → every (goodItem l) is ≡ true → (level place : ℕ) → goodWeights (weightsAt is level place) ≡ true
+unfolding weightsAt goodWeights every
+weightsAt-good l is h level place =
+    every-getD goodWeights ((getD is (pred place) noItem) .weights) level [] refl (getD-weights l is (pred place) h)
+
+walked-good : (r : Rule) (ls : List (List ℕ)) → every goodWeights ls ≡ true → every goodWeights (walked r ls) ≡ true
+unfolding walked
+walked-good r ls h = cond-both (λ (w : List (List ℕ)). every goodWeights w ≡ true) (r .backward) (every-reverse goodWeights ls h) h
+
+walked-length : (r : Rule) (ls : List (List ℕ)) → length (walked r ls) ≡ length ls
+unfolding walked
+walked-length r ls = cond-both (λ (w : List (List ℕ)). length w ≡ length ls) (r .backward) (length-reverse ls) refl
+
+-- ## What each entry is
+
+-- a weight that is accepted, a count of at most n, and with no position none
+pub record Fits (position : Bool) (n : ℕ) (e : Entry) : Type 0 where
+  pub positive : 1 ≤ e .weight
+  pub small : e .weight ≤ 32768
+  pub counted : e .count ≤ n
+  pub plain : position ≡ false → e .count ≡ 0
+
+more-fits : (p : Bool) (n : ℕ) (ws : List ℕ) (es : List Entry) → every (within 1 32768) ws ≡ true → All (Fits p n) es → All (Fits p n) (more ws es)
+unfolding more
+more-fits p n [] es h k = k
+more-fits p n (w ∷ ws) es h k =
+    let g = every-head (within 1 32768) w ws h in (
+      record {
+        positive = leb-true 1 w (and-left (leb 1 w) (leb w 32768) g);
+        small = leb-true w 32768 (and-right (leb 1 w) (leb w 32768) g);
+        counted = omega arith;
+        plain = λ e. refl;
+      },
+      more-fits p n ws es (every-tail (within 1 32768) w ws h) k,
+    )
+
+entries-fit : (p : Bool) (n b : ℕ) (ls : List (List ℕ)) → n + length ls ≤ b → every goodWeights ls ≡ true → All (Fits p b) (entriesFrom p n ls)
+unfolding entriesFrom goodWeights
+entries-fit p n b [] l h = tt
+entries-fit p n b ([] ∷ ls) l h = entries-fit p (suc n) b ls (omega arith) (every-tail goodWeights [] ls h)
+entries-fit p n b ((w ∷ ws) ∷ ls) l h =
+    let a = and-right (leb (length (w ∷ ws)) 8) (every (within 1 32768) (w ∷ ws)) (every-head goodWeights (w ∷ ws) ls h) in
+    let g = every-head (within 1 32768) w ws a in (
+      record {
+        positive = leb-true 1 w (and-left (leb 1 w) (leb w 32768) g);
+        small = leb-true w 32768 (and-right (leb 1 w) (leb w 32768) g);
+        counted = cond-both (λ (c : ℕ). c ≤ b) p (omega arith) (omega arith);
+        plain = cond-false n 0;
+      },
+      more-fits p b ws (entriesFrom p 0 ls) (every-tail (within 1 32768) w ws a)
+          (entries-fit p 0 b ls (omega arith) (every-tail goodWeights (w ∷ ws) ls h)),
+    )
+
+module _ (l : ℕ) (is : List Item) (h : every (goodItem l) is ≡ true) (r : Rule) (level : ℕ) (ps : List ℕ) where
+  walked-weights : every goodWeights (walked r (map (weightsAt is level) ps)) ≡ true
+  walked-weights = walked-good r (map (weightsAt is level) ps) (every-map goodWeights (weightsAt is level) ps (weightsAt-good l is h level))
+
+  -- the entries of a level fit its rule
+  pub level-fits : All (Fits (r .position) (length ps)) (levelEntries is r level ps)
+  unfolding levelEntries
+  level-fits = entries-fit (r .position) 0 (length ps) (walked r (map (weightsAt is level) ps))
+      (simp (walked-length, length-map) (omega arith)) walked-weights
