@@ -10,7 +10,7 @@ use Rattle.rules.specs.Text.{every}
 use Rattle.rules.specs.Meaning.{Rule, Item, Meaning, goodItem, good}
 use Rattle.rules.specs.Order.{Entry, Sign, less, equal, greater, orElse, signℕ, signEntry, signList, compareOf, codes, codesKey, levelKey, levelsKey, keyOf, levelsOf, levelsFrom, levelEntries, two, three, signBytes, elements}
 use Rattle.rules.proofs.SignLaws.{orElse-assoc, orElse-equal, Tri, below, same, above, tri, signℕ-below, signℕ-same, signℕ-above}
-use Rattle.rules.proofs.OrderLaws.{signLevels, answer-sign}
+use Rattle.rules.proofs.OrderLaws.{signLevels, compare-sign}
 use Rattle.rules.proofs.EntryLaws.{good-items, Fits, level-fits}
 
 -- ## Numbers as bytes, high first, order as the numbers
@@ -100,10 +100,8 @@ levels-sign l is h (r ∷ rs) k ps qs x y c d e =
 
 -- "Keys compare as bytes", and as the strings do
 pub key-order : (m : Meaning) → good m ≡ true → (a b : List ℕ) → signBytes (keyOf m a) (keyOf m b) ≡ (compareOf m a b) .sign
-unfolding keyOf compareOf levelsOf
+unfolding keyOf levelsOf
 key-order m h a b =
     levels-sign (length (m .rules)) (m .items) (good-items m h) (m .rules) 0 (elements (m .items) 0 a) (elements (m .items) 0 b)
     (codesKey a) (codesKey b) (codes a) (codes b) (codes-sign a b)
-    ∙ sym (answer-sign 1
-    (levelsFrom (m .items) (m .rules) 0 (elements (m .items) 0 a) ++ codes a ∷ [])
-    (levelsFrom (m .items) (m .rules) 0 (elements (m .items) 0 b) ++ codes b ∷ []))
+    ∙ sym (compare-sign m a b)

@@ -82,6 +82,33 @@ follows-orElse greater less z x′ y′ z′ h k = tt
 follows-orElse greater equal z x′ y′ z′ h k = rw h (greater-follows y′)
 follows-orElse greater greater z x′ y′ z′ h k = rw h
 
+pub less≢equal : less ≡ equal → ⊥
+less≢equal e = let z : _≡_ {A = ℕ} 0 1 = cc in omega arith
+
+less≢greater : less ≡ greater → ⊥
+less≢greater e = let z : _≡_ {A = ℕ} 0 1 = cc in omega arith
+
+pub follows-not-greater : (x y z : Sign) → Follows x y z → ¬ (x ≡ greater) → ¬ (y ≡ greater) → ¬ (z ≡ greater)
+follows-not-greater less less z h p q e = less≢greater (sym h ∙ e)
+follows-not-greater less equal z h p q e = less≢greater (sym h ∙ e)
+follows-not-greater less greater z h p q e = q refl
+follows-not-greater equal y z h p q e = q (sym h ∙ e)
+follows-not-greater greater y z h p q e = p refl
+
+pub less-follows-less : (x y z : Sign) → Follows x y z → x ≡ less → ¬ (y ≡ greater) → z ≡ less
+less-follows-less less less z h p q = h
+less-follows-less less equal z h p q = h
+less-follows-less less greater z h p q = absurd (q refl)
+less-follows-less equal y z h p q = cc
+less-follows-less greater y z h p q = cc
+
+pub follows-less-less : (x y z : Sign) → Follows x y z → ¬ (x ≡ greater) → y ≡ less → z ≡ less
+follows-less-less less less z h p q = h
+follows-less-less less equal z h p q = h
+follows-less-less less greater z h p q = cc
+follows-less-less equal y z h p q = h ∙ q
+follows-less-less greater y z h p q = absurd (p refl)
+
 -- ## Signs that order
 
 -- a sign of every two orders them
