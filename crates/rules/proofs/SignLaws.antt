@@ -85,6 +85,9 @@ follows-orElse greater greater z x′ y′ z′ h k = rw h
 pub less≢equal : less ≡ equal → ⊥
 less≢equal e = let z : _≡_ {A = ℕ} 0 1 = cc in omega arith
 
+pub greater≢equal : greater ≡ equal → ⊥
+greater≢equal e = let z : _≡_ {A = ℕ} 0 1 = cc in omega arith
+
 less≢greater : less ≡ greater → ⊥
 less≢greater e = let z : _≡_ {A = ℕ} 0 1 = cc in omega arith
 
