@@ -6,3 +6,4 @@ pub mod OrderLaws
 pub mod EveryLaws
 pub mod EntryLaws
 pub mod KeyLaws
+pub mod ElementLaws
