@@ -18,6 +18,17 @@ use Rattle.rules.proofs.EveryLaws.{every-getD, every-map, every-reverse
 
 -- ## The weights of a good meaning
 
+pub good-levels : (m : Meaning) → good m ≡ true → length (m .rules) ≤ 8
+unfolding good
+good-levels m h =
+    let l : ℕ = length (m .rules) in
+    let a : Bool = leb (length (m .items)) 32768 in
+    let b : Bool = every (goodItem l) (m .items) in
+    let c : Bool = noTwoAlike (m .items) in
+    let d : Bool = oneOf (hasChars []) (m .items) in
+    let w = and-left (within 1 8 l) a (and-left (within 1 8 l && a) b (and-left (within 1 8 l && a && b) c (and-left (within 1 8 l && a && b && c) d h))) in
+    leb-true l 8 (and-right (leb 1 l) (leb l 8) w)
+
 pub good-items : (m : Meaning) → good m ≡ true → every (goodItem (length (m .rules))) (m .items) ≡ true
 unfolding good
 good-items m h =
@@ -91,6 +102,33 @@ entries-fit p n b ((w ∷ ws) ∷ ls) l h =
           (entries-fit p 0 b ls (omega arith) (every-tail goodWeights (w ∷ ws) ls h)),
     )
 
+-- ## How many there are
+
+more-length : (ws : List ℕ) (es : List Entry) → length (more ws es) ≡ length ws + length es
+unfolding more
+more-length [] es = omega arith
+more-length (w ∷ ws) es = let e = more-length ws es in omega arith
+
+-- as many as there are weights
+pub entries-length : (p : Bool) (n : ℕ) (ls : List (List ℕ)) → length (entriesFrom p n ls) ≡ countAll ls
+unfolding entriesFrom countAll
+entries-length p n [] = refl
+entries-length p n ([] ∷ ls) = let e = entries-length p (suc n) ls in omega arith
+entries-length p n ((w ∷ ws) ∷ ls) =
+    let e = more-length ws (entriesFrom p 0 ls) in
+    let r = entries-length p 0 ls in
+    omega arith
+
+countAll-le : (ls : List (List ℕ)) → every goodWeights ls ≡ true → countAll ls ≤ 8 * length ls
+unfolding countAll goodWeights
+countAll-le [] h = omega arith
+countAll-le (ws ∷ ls) h =
+    let l = leb-true (length ws) 8 (and-left (leb (length ws) 8) (every (within 1 32768) ws) (every-head goodWeights ws ls h)) in
+    let r = countAll-le ls (every-tail goodWeights ws ls h) in
+    omega arith
+
+-- ## A level of a good meaning
+
 module _ (l : ℕ) (is : List Item) (h : every (goodItem l) is ≡ true) (r : Rule) (level : ℕ) (ps : List ℕ) where
   walked-weights : every goodWeights (walked r (map (weightsAt is level) ps)) ≡ true
   walked-weights = walked-good r (map (weightsAt is level) ps) (every-map goodWeights (weightsAt is level) ps (weightsAt-good l is h level))
@@ -100,3 +138,13 @@ module _ (l : ℕ) (is : List Item) (h : every (goodItem l) is ≡ true) (r : Ru
   unfolding levelEntries
   level-fits = entries-fit (r .position) 0 (length ps) (walked r (map (weightsAt is level) ps))
       (simp (walked-length, length-map) (omega arith)) walked-weights
+
+  -- at most 8 of each element
+  pub level-length : length (levelEntries is r level ps) ≤ 8 * length ps
+  unfolding levelEntries
+  level-length =
+      let ls : List (List ℕ) = walked r (map (weightsAt is level) ps) in
+      let e : length ls ≡ length ps = walked-length r (map (weightsAt is level) ps) ∙ length-map ps (weightsAt is level) in
+      let n = entries-length (r .position) 0 ls in
+      let b = countAll-le ls walked-weights in
+      omega arith

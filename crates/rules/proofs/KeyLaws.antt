@@ -1,17 +1,23 @@
 -- Keys: their byte order is the order of the comparison, their bytes are bytes, and how long they are.
 use mathlib.Core.Path.{_≡_, refl, sym, ap, _∙_}
-use mathlib.Core.Bool.{Bool, true, false}
+use mathlib.Core.Bool.{Bool, true, false, not}
 use mathlib.Core.List.{List, [], _∷_, _++_}
 use Prim.Native.Nat.{ℕ, suc, _+_, _*_, _/_, _%_, _≤_, _<_}
 use native.Mathlib.Omega.{arith}
 use lib.ListN.{length}
+use lib.Dec.{ltb, leb}
+use borrow.Author.Tests.{lt-ltb, leb-true}
+use Rattle.lists.proofs.Bools.{and-left, and-right, and-intro}
 use Rattle.lists.proofs.Lists.{All}
-use Rattle.rules.specs.Text.{every}
+use Rattle.rules.specs.Text.{if_then_else_, every, within}
+use Rattle.rules.specs.Names.{isCharacter}
 use Rattle.rules.specs.Meaning.{Rule, Item, Meaning, goodItem, good}
-use Rattle.rules.specs.Order.{Entry, Sign, less, equal, greater, orElse, signℕ, signEntry, signList, compareOf, codes, codesKey, levelKey, levelsKey, keyOf, levelsOf, levelsFrom, levelEntries, two, three, signBytes, elements}
+use Rattle.rules.specs.Order.{goodString, Entry, Sign, less, equal, greater, orElse, signℕ, signEntry, signList, compareOf, codes, codesKey, levelKey, levelsKey, keyOf, levelsOf, levelsFrom, levelEntries, two, three, signBytes, elements}
+use Rattle.rules.proofs.TextLaws.{every-head, every-tail}
 use Rattle.rules.proofs.SignLaws.{orElse-assoc, orElse-equal, Tri, below, same, above, tri, signℕ-below, signℕ-same, signℕ-above}
-use Rattle.rules.proofs.OrderLaws.{signLevels, compare-sign}
-use Rattle.rules.proofs.EntryLaws.{good-items, Fits, level-fits}
+use Rattle.rules.proofs.OrderLaws.{signLevels, compare-sign, compare-refl, compare-equal}
+use Rattle.rules.proofs.ElementLaws.{elements-length}
+use Rattle.rules.proofs.EntryLaws.{good-items, good-levels, Fits, level-fits, level-length}
 
 -- ## Numbers as bytes, high first, order as the numbers
 
@@ -105,3 +111,130 @@ key-order m h a b =
     levels-sign (length (m .rules)) (m .items) (good-items m h) (m .rules) 0 (elements (m .items) 0 a) (elements (m .items) 0 b)
     (codesKey a) (codesKey b) (codes a) (codes b) (codes-sign a b)
     ∙ sym (compare-sign m a b)
+
+-- only the same string has the same key
+pub key-determines : (m : Meaning) → good m ≡ true → (a b : List ℕ) → keyOf m a ≡ keyOf m b → a ≡ b
+key-determines m h a b e =
+    compare-equal m a b .0
+    (sym (key-order m h a b) ∙ ap (λ (k : List ℕ). signBytes k (keyOf m b)) e ∙ key-order m h b b ∙ compare-refl m b)
+
+-- ## The bytes of keys
+
+abbrev pub fitsByte : ℕ → Bool
+fitsByte b = ltb b 256
+
+two-bytes : (n : ℕ) (r : List ℕ) → n < 65536 → every fitsByte r ≡ true → every fitsByte (two n r) ≡ true
+unfolding every
+two-bytes n r h k = and-intro (lt-ltb (n / 256) 256 (omega arith)) (and-intro (lt-ltb (n % 256) 256 (omega arith)) k)
+
+three-bytes : (n : ℕ) (r : List ℕ) → n < 16777216 → every fitsByte r ≡ true → every fitsByte (three n r) ≡ true
+unfolding every
+three-bytes n r h k =
+    and-intro (lt-ltb (n / 65536) 256 (omega arith))
+    (and-intro (lt-ltb (n / 256 % 256) 256 (omega arith)) (and-intro (lt-ltb (n % 256) 256 (omega arith)) k))
+
+level-bytes : (p : Bool) (n : ℕ) (es : List Entry) (r : List ℕ) → n ≤ 4096 → All (Fits p n) es → every fitsByte r ≡ true
+    → every fitsByte (levelKey p es r) ≡ true
+unfolding levelKey
+level-bytes p n [] r l h k = two-bytes 0 r (omega arith) k
+level-bytes true n (e ∷ es) r l h k =
+    let f = h .0 in
+    two-bytes (suc (e .count)) (two (e .weight) (levelKey true es r)) (omega arith)
+    (two-bytes (e .weight) (levelKey true es r) (omega arith) (level-bytes true n es r l (h .1) k))
+level-bytes false n (e ∷ es) r l h k =
+    let f = h .0 in
+    two-bytes (e .weight) (levelKey false es r) (omega arith) (level-bytes false n es r l (h .1) k)
+
+codes-bytes : (s : List ℕ) → every isCharacter s ≡ true → every fitsByte (codesKey s) ≡ true
+unfolding codesKey every
+codes-bytes [] h = refl
+codes-bytes (c ∷ s) h =
+    let l = leb-true c 0x10FFFF (and-left (leb c 0x10FFFF) (not (within 0xD800 0xDFFF c)) (every-head isCharacter c s h)) in
+    three-bytes c (codesKey s) (omega arith) (codes-bytes s (every-tail isCharacter c s h))
+
+levels-bytes : (l : ℕ) (is : List Item) → every (goodItem l) is ≡ true → (rs : List Rule) (k : ℕ) (ps r : List ℕ) → length ps ≤ 4096
+    → every fitsByte r ≡ true → every fitsByte (levelsKey rs (levelsFrom is rs k ps) r) ≡ true
+unfolding levelsKey levelsFrom
+levels-bytes l is h [] k ps r n e = e
+levels-bytes l is h (q ∷ rs) k ps r n e =
+    level-bytes (q .position) (length ps) (levelEntries is q k ps) (levelsKey rs (levelsFrom is rs (suc k) ps) r) n
+    (level-fits l is h q k ps) (levels-bytes l is h rs (suc k) ps r n e)
+
+string-length : (s : List ℕ) → goodString s ≡ true → length s ≤ 4096
+unfolding goodString
+string-length s h = leb-true (length s) 4096 (and-left (leb (length s) 4096) (every isCharacter s) h)
+
+-- a key is a list of bytes
+pub key-bytes : (m : Meaning) → good m ≡ true → (s : List ℕ) → goodString s ≡ true → every fitsByte (keyOf m s) ≡ true
+unfolding keyOf levelsOf goodString
+key-bytes m h s g =
+    let n = string-length s g in
+    let e = elements-length (m .items) 0 s in
+    levels-bytes (length (m .rules)) (m .items) (good-items m h) (m .rules) 0 (elements (m .items) 0 s) (codesKey s) (omega arith)
+    (codes-bytes s (and-right (leb (length s) 4096) (every isCharacter s) g))
+
+-- ## The length of keys
+
+-- the bytes of an entry: "with position preceded by count + 1 in two bytes"
+abbrev pub entryWidth : Bool → ℕ
+entryWidth position = if position then 4 else 2
+
+-- the bytes of the levels: their entries, and "00 00 after each level"
+unfoldable pub levelsWidth : List Rule → List (List Entry) → ℕ
+levelsWidth [] ls = 0
+levelsWidth (r ∷ rs) [] = 0
+levelsWidth (r ∷ rs) (l ∷ ls) = entryWidth (r .position) * length l + 2 + levelsWidth rs ls
+
+level-width : (p : Bool) (es : List Entry) (r : List ℕ) → length (levelKey p es r) ≡ entryWidth p * length es + 2 + length r
+unfolding levelKey
+level-width true [] r = omega arith
+level-width false [] r = omega arith
+level-width true (e ∷ es) r = let h = level-width true es r in omega arith
+level-width false (e ∷ es) r = let h = level-width false es r in omega arith
+
+levels-width : (rs : List Rule) (ls : List (List Entry)) (r : List ℕ) → length (levelsKey rs ls r) ≡ levelsWidth rs ls + length r
+unfolding levelsKey levelsWidth
+levels-width [] ls r = omega arith
+levels-width (q ∷ rs) [] r = omega arith
+levels-width (q ∷ rs) (l ∷ ls) r =
+    let h = level-width (q .position) l (levelsKey rs ls r) in
+    let k = levels-width rs ls r in
+    omega arith
+
+codes-width : (s : List ℕ) → length (codesKey s) ≡ 3 * length s
+unfolding codesKey
+codes-width [] = omega arith
+codes-width (c ∷ s) = let h = codes-width s in omega arith
+
+-- the levels' bytes, then "three bytes per character"
+pub key-length : (m : Meaning) (s : List ℕ) → length (keyOf m s) ≡ levelsWidth (m .rules) (levelsOf m s) + 3 * length s
+unfolding keyOf
+key-length m s =
+    let h = levels-width (m .rules) (levelsOf m s) (codesKey s) in
+    let k = codes-width s in
+    omega arith
+
+entryWidth-le : (p : Bool) (n : ℕ) → entryWidth p * n ≤ 4 * n
+entryWidth-le true n = omega arith
+entryWidth-le false n = omega arith
+
+levelsWidth-le : (l : ℕ) (is : List Item) → every (goodItem l) is ≡ true → (rs : List Rule) (k : ℕ) (ps : List ℕ) → length ps ≤ 4096
+    → levelsWidth rs (levelsFrom is rs k ps) ≤ 131074 * length rs
+unfolding levelsWidth levelsFrom
+levelsWidth-le l is h [] k ps n = omega arith
+levelsWidth-le l is h (r ∷ rs) k ps n =
+    let w = entryWidth-le (r .position) (length (levelEntries is r k ps)) in
+    let e = level-length l is h r k ps in
+    let q = levelsWidth-le l is h rs (suc k) ps n in
+    omega arith
+
+-- "No key exceeds 1,060,880 bytes."
+pub key-bound : (m : Meaning) → good m ≡ true → (s : List ℕ) → goodString s ≡ true → length (keyOf m s) ≤ 1060880
+unfolding levelsOf
+key-bound m h s g =
+    let n = string-length s g in
+    let e = elements-length (m .items) 0 s in
+    let k = key-length m s in
+    let l = good-levels m h in
+    let w = levelsWidth-le (length (m .rules)) (m .items) (good-items m h) (m .rules) 0 (elements (m .items) 0 s) (omega arith) in
+    omega arith
