@@ -7,3 +7,4 @@ pub mod EveryLaws
 pub mod EntryLaws
 pub mod KeyLaws
 pub mod ElementLaws
+pub mod PassedLaws
