@@ -4,7 +4,9 @@ use mathlib.Core.Logic.{_↔_}
 use mathlib.Core.List.{List, [], _∷_, _++_}
 use Prim.Native.Nat.{ℕ, zero, suc, _+_, _≤_, _<_}
 use native.Mathlib.Omega.{arith}
-use lib.ListN.{length, take, getD, length-append}
+use native.Mathlib.Nat.{zero-add, add-zero}
+use lib.ListN.{length, take, getD, length-append, List·getD-append}
+use lib.Seq.{getD-at}
 use Rattle.rules.specs.Meaning.{Rule, Item, Meaning}
 use Rattle.rules.specs.Order.{Entry, Sign, less, equal, greater, Answer, orElse, signEntry, signList, onward, common, settled, answerFrom, compareOf, codes, levelsFrom, levelsOf, levelEntries, elements}
 use Rattle.rules.proofs.SignLaws.{orElse-both, opposite, Follows, less≢equal, greater≢equal, follows-not-greater, less-follows-less, follows-less-less, Orders, orders-equal, orders-by, orders-then, orders-entry, orders-list, signEntry-unique, signList-unique}
@@ -12,6 +14,41 @@ use Rattle.rules.proofs.SignLaws.{orElse-both, opposite, Follows, less�
 -- what is compared of a string: each level's entries, then the code points
 abbrev pub entryLists : Meaning → List ℕ → List (List Entry)
 entryLists m s = levelsOf m s ++ codes s ∷ []
+
+pub levelsFrom-length : (is : List Item) (rs : List Rule) (k : ℕ) (ps : List ℕ) → length (levelsFrom is rs k ps) ≡ length rs
+unfolding levelsFrom
+levelsFrom-length is [] k ps = refl
+levelsFrom-length is (r ∷ rs) k ps = ap suc (levelsFrom-length is rs (suc k) ps)
+
+pub entryLists-length : (m : Meaning) (s : List ℕ) → length (entryLists m s) ≡ length (m .rules) + 1
+unfolding levelsOf
+entryLists-length m s =
+    length-append (levelsOf m s) (codes s ∷ []) ∙ rw (levelsFrom-length (m .items) (m .rules) 0 (elements (m .items) 0 s))
+
+levelsFrom-getD : (is : List Item) (rs : List Rule) (l k : ℕ) (ps : List ℕ) (d : Rule) → k < length rs
+    → getD (levelsFrom is rs l ps) k [] ≡ levelEntries is (getD rs k d) (l + k) ps
+unfolding levelsFrom
+levelsFrom-getD is [] l k ps d h = absurd (omega arith)
+levelsFrom-getD is (r ∷ rs) l zero ps d h = rw add-zero
+levelsFrom-getD is (r ∷ rs) l (suc k) ps d h =
+    let e : suc l + k ≡ l + suc k = omega arith in
+    rw (← e) (levelsFrom-getD is rs (suc l) k ps d (omega arith))
+
+-- the lists of the levels
+pub entryLists-level : (m : Meaning) (s : List ℕ) (k : ℕ) (d : Rule) → k < length (m .rules)
+    → getD (entryLists m s) k [] ≡ levelEntries (m .items) (getD (m .rules) k d) k (elements (m .items) 0 s)
+unfolding levelsOf
+entryLists-level m s k d h =
+    let n = levelsFrom-length (m .items) (m .rules) 0 (elements (m .items) 0 s) in
+    List·getD-append (levelsOf m s) (codes s ∷ []) [] k (omega arith)
+    ∙ levelsFrom-getD (m .items) (m .rules) 0 k (elements (m .items) 0 s) d h
+    ∙ rw zero-add
+
+-- and the last list
+pub entryLists-codes : (m : Meaning) (s : List ℕ) → getD (entryLists m s) (length (m .rules)) [] ≡ codes s
+unfolding levelsOf
+entryLists-codes m s =
+    getD-at (levelsOf m s) (codes s) [] [] (length (m .rules)) (levelsFrom-length (m .items) (m .rules) 0 (elements (m .items) 0 s))
 
 -- ## The sign
 
@@ -216,16 +253,6 @@ answer-level-le k [] bs = omega arith
 answer-level-le k (a ∷ as′) [] = omega arith
 answer-level-le k (a ∷ as′) (b ∷ bs) =
     settled-level-le (signList a b) k (common a b) (length as′) (answerFrom (suc (suc k)) as′ bs) (answer-level-le (suc k) as′ bs)
-
-pub levelsFrom-length : (is : List Item) (rs : List Rule) (k : ℕ) (ps : List ℕ) → length (levelsFrom is rs k ps) ≡ length rs
-unfolding levelsFrom
-levelsFrom-length is [] k ps = refl
-levelsFrom-length is (r ∷ rs) k ps = ap suc (levelsFrom-length is rs (suc k) ps)
-
-pub entryLists-length : (m : Meaning) (s : List ℕ) → length (entryLists m s) ≡ length (m .rules) + 1
-unfolding levelsOf
-entryLists-length m s =
-    length-append (levelsOf m s) (codes s ∷ []) ∙ rw (levelsFrom-length (m .items) (m .rules) 0 (elements (m .items) 0 s))
 
 -- "code points .. as level L + 1" are the last
 pub compare-level-le : (m : Meaning) (a b : List ℕ) → (compareOf m a b) .level ≤ length (m .rules) + 1
