@@ -1,17 +1,21 @@
 -- The elements of a string: the size and the place of a step, and what is left of the string after it.
 use mathlib.Core.Path.{_≡_, refl, sym, ap, _∙_}
-use mathlib.Core.Bool.{Bool, true, false, _&&_, _||_, false≢true}
+use mathlib.Core.Bool.{Bool, true, false, not, _&&_, false≢true}
 use mathlib.Core.List.{List, [], _∷_}
 use Prim.Native.Nat.{ℕ, zero, suc, pred, _+_, _≤_, _<_}
 use native.Mathlib.Omega.{arith}
-use lib.ListN.{length, drop}
+use native.Mathlib.Nat.{add-zero}
+use native.Mathlib.Decide.{decLt}
+use lib.ListN.{length, drop, getD}
 use lib.Dec.{leb, eqb, eqb·suc-zero}
-use borrow.Author.Tests.{leb-true}
+use borrow.Author.Tests.{leb-true, le-leb, eqb-true, eq-eqb, not-true}
 use Rattle.lists.proofs.Bools.{and-left, and-right, by, cond-true, cond-false}
-use Rattle.lists.proofs.Lists.{All, drop-pred}
+use Rattle.lists.proofs.Lists.{All, drop-pred, length-zero}
 use Rattle.rules.specs.Text.{if_then_else_, oneOf, same, begins}
-use Rattle.rules.specs.Meaning.{Item, hasChars}
-use Rattle.rules.specs.Order.{Step, longest, undefinedFrom, stepOf, elements}
+use Rattle.rules.specs.Meaning.{Item, hasChars, noTwoAlike}
+use Rattle.rules.specs.Order.{noItem, Step, longest, undefinedFrom, stepOf, elements}
+use Rattle.rules.proofs.TextLaws.{same-refl}
+use Rattle.rules.proofs.EveryLaws.{oneOf-getD}
 
 -- k is from 1 to n
 pub record UpTo (n k : ℕ) : Type 0 where
@@ -78,6 +82,118 @@ step-place is (c ∷ s) h u =
     longest-keeps (λ (e : Step). UpTo (length is) (e .place)) 1 is (c ∷ s) (record { place = undefinedFrom 1 is; size = 1 })
     (record { some = omega arith; most = omega arith })
     (λ k i e l m b g p. record { some = l; most = omega arith })
+
+-- ## Which item it is
+
+-- the characters of an item, its place counted from 0
+abbrev pub charsAt : List Item → ℕ → List ℕ
+charsAt is q = (getD is q noItem) .chars
+
+-- none is as long
+longest-none : (n : ℕ) (is : List Item) (s : List ℕ) (best : Step)
+    → ((q : ℕ) → q < length is → begins (charsAt is q) s ≡ true → length (charsAt is q) < best .size) → longest n is s best ≡ best
+unfolding longest
+longest-none n [] s best f = refl
+longest-none n (i ∷ is) s best f =
+    let found : Step = record { place = n; size = length (i .chars) } in
+    by (begins (i .chars) s && leb (best .size) (length (i .chars)))
+    (λ e.
+    let b = f 0 (omega arith) (and-left (begins (i .chars) s) (leb (best .size) (length (i .chars))) e) in
+    let l = leb-true (best .size) (length (i .chars)) (and-right (begins (i .chars) s) (leb (best .size) (length (i .chars))) e) in
+    absurd (omega arith))
+    (λ e. rw (cond-false found best e) (longest-none (suc n) is s best (λ q l b. f (suc q) (omega arith) b)))
+
+-- none is longer, and none after it as long
+longest-found : (n p : ℕ) (is : List Item) (s : List ℕ) (best : Step) → p < length is → begins (charsAt is p) s ≡ true
+    → best .size ≤ length (charsAt is p)
+    → ((q : ℕ) → q < length is → begins (charsAt is q) s ≡ true → length (charsAt is q) ≤ length (charsAt is p))
+    → ((q : ℕ) → p < q → q < length is → begins (charsAt is q) s ≡ true → length (charsAt is q) < length (charsAt is p))
+    → longest n is s best ≡ record { place = n + p; size = length (charsAt is p) }
+unfolding longest
+longest-found n p [] s best h b l f g = absurd (omega arith)
+longest-found n zero (i ∷ is) s best h b l f g =
+    let found : Step = record { place = n; size = length (i .chars) } in
+    rw (b, le-leb (best .size) (length (i .chars)) l, add-zero)
+    (longest-none (suc n) is s found (λ q m c. g (suc q) (omega arith) (omega arith) c))
+longest-found n (suc p) (i ∷ is) s best h b l f g =
+    let t : Bool = begins (i .chars) s && leb (best .size) (length (i .chars)) in
+    let found : Step = record { place = n; size = length (i .chars) } in
+    let small : (if t then found else best) .size ≤ length (charsAt is p) =
+    by t
+    (λ e. rw (cond-true found best e) (f 0 (omega arith) (and-left (begins (i .chars) s) (leb (best .size) (length (i .chars))) e)))
+    (λ e. rw (cond-false found best e) l) in
+    let e : suc n + p ≡ n + suc p = omega arith in
+    rw (← e) (longest-found (suc n) p is s (if t then found else best) (omega arith) b small
+    (λ q m c. f (suc q) (omega arith) c) (λ q k m c. g (suc q) (omega arith) (omega arith) c))
+
+begins-unique : (p q s : List ℕ) → begins p s ≡ true → begins q s ≡ true → length p ≡ length q → p ≡ q
+unfolding begins
+begins-unique [] [] s h k e = refl
+begins-unique [] (d ∷ q) s h k e = absurd (omega arith)
+begins-unique (c ∷ p) [] s h k e = absurd (omega arith)
+begins-unique (c ∷ p) (d ∷ q) [] h k e = absurd (false≢true h)
+begins-unique (c ∷ p) (d ∷ q) (x ∷ s) h k e =
+    let a = eqb-true c x (and-left (eqb c x) (begins p s) h) in
+    let b = eqb-true d x (and-left (eqb d x) (begins q s) k) in
+    let r = begins-unique p q s (and-right (eqb c x) (begins p s) h) (and-right (eqb d x) (begins q s) k) (omega arith) in
+    cc
+
+-- where no two items are alike, two places with the same characters are one
+pub charsAt-unique : (is : List Item) (p q : ℕ) → noTwoAlike is ≡ true → p < q → q < length is → charsAt is p ≡ charsAt is q → ⊥
+unfolding noTwoAlike hasChars
+charsAt-unique [] p q h l k e = omega arith
+charsAt-unique (i ∷ is) p zero h l k e = omega arith
+charsAt-unique (i ∷ is) zero (suc q) h l k e =
+    let t = and-left (not (oneOf (hasChars (i .chars)) is)) (noTwoAlike is) h in
+    let o = oneOf-getD (hasChars (i .chars)) is q noItem (omega arith) (rw (← e) (same-refl (i .chars))) in
+    false≢true (sym (not-true (oneOf (hasChars (i .chars)) is) t) ∙ o)
+charsAt-unique (i ∷ is) (suc p) (suc q) h l k e =
+    charsAt-unique is p q (and-right (not (oneOf (hasChars (i .chars)) is)) (noTwoAlike is) h) (omega arith) (omega arith) e
+
+-- "the longest matching listed item is taken"
+pub step-is : (is : List Item) (s : List ℕ) (p : ℕ) → noTwoAlike is ≡ true → p < length is → 1 ≤ length (charsAt is p)
+    → begins (charsAt is p) s ≡ true
+    → ((q : ℕ) → q < length is → begins (charsAt is q) s ≡ true → length (charsAt is q) ≤ length (charsAt is p))
+    → stepOf is s ≡ record { place = suc p; size = length (charsAt is p) }
+unfolding stepOf
+step-is is [] p u h l b f = let k = begins-length (charsAt is p) [] b in absurd (omega arith)
+step-is is (c ∷ s) p u h l b f =
+    let e : suc p ≡ 1 + p = omega arith in
+    rw e
+    (longest-found 1 p is (c ∷ s) (record { place = undefinedFrom 1 is; size = 1 }) h b l f
+    (λ q k m t. shorter q k m t (f q m t)))
+  where
+    shorter : (q : ℕ) → p < q → q < length is → begins (charsAt is q) (c ∷ s) ≡ true → length (charsAt is q) ≤ length (charsAt is p)
+        → length (charsAt is q) < length (charsAt is p)
+    shorter q k m t n =
+        elim (decLt (length (charsAt is q)) (length (charsAt is p))) [
+          | yes y ↦ y
+          | no z ↦ absurd (charsAt-unique is p q u k m (begins-unique (charsAt is p) (charsAt is q) (c ∷ s) b t (omega arith)))
+        ]
+
+-- "else one character, as UNDEFINED"
+pub step-undefined : (is : List Item) (s : List ℕ) → 0 < length s
+    → ((q : ℕ) → q < length is → begins (charsAt is q) s ≡ true → length (charsAt is q) ≡ 0)
+    → stepOf is s ≡ record { place = undefinedFrom 1 is; size = 1 }
+unfolding stepOf
+step-undefined is [] h f = absurd (omega arith)
+step-undefined is (c ∷ s) h f =
+    longest-none 1 is (c ∷ s) (record { place = undefinedFrom 1 is; size = 1 }) (λ q l b. let e = f q l b in omega arith)
+
+-- the place of UNDEFINED is the only one with no characters
+pub undefined-is : (n : ℕ) (is : List Item) (p : ℕ) → noTwoAlike is ≡ true → p < length is → length (charsAt is p) ≡ 0
+    → undefinedFrom n is ≡ n + p
+unfolding undefinedFrom noTwoAlike
+undefined-is n [] p u h e = absurd (omega arith)
+undefined-is n (i ∷ is) zero u h e = rw (eq-eqb (length (i .chars)) 0 e, add-zero)
+undefined-is n (i ∷ is) (suc p) u h e =
+    by (eqb (length (i .chars)) 0)
+    (λ t.
+    let a = length-zero (i .chars) (eqb-true (length (i .chars)) 0 t) in
+    absurd (charsAt-unique (i ∷ is) 0 (suc p) u (omega arith) h (a ∙ sym (length-zero (charsAt is p) e))))
+    (λ t.
+    let k = undefined-is (suc n) is p (and-right (not (oneOf (hasChars (i .chars)) is)) (noTwoAlike is) u) (omega arith) e in
+    rw (cond-false n (undefinedFrom (suc n) is) t) (omega arith))
 
 -- ## Elements
 

@@ -1,11 +1,12 @@
--- What passes a test throughout (specs/Text, every): at a place, through a function, from last to first.
+-- What passes a test throughout (specs/Text, every): at a place, through a function, from last to first; and what passes it somewhere.
 use mathlib.Core.Path.{_≡_, refl, _∙_}
-use mathlib.Core.Bool.{Bool, true, false}
+use mathlib.Core.Bool.{Bool, true, _||_, or-true}
 use mathlib.Core.List.{List, [], _∷_, map, reverse, reverseAux}
-use Prim.Native.Nat.{ℕ, zero, suc}
-use lib.ListN.{getD}
+use Prim.Native.Nat.{ℕ, zero, suc, _<_}
+use native.Mathlib.Omega.{arith}
+use lib.ListN.{length, getD}
 use Rattle.lists.proofs.Bools.{and-intro}
-use Rattle.rules.specs.Text.{every}
+use Rattle.rules.specs.Text.{every, oneOf}
 use Rattle.rules.proofs.TextLaws.{every-head, every-tail}
 
 pub every-cons : {A : Type 0} (p : A → Bool) (x : A) (xs : List A) → p x ≡ true → every p xs ≡ true → every p (x ∷ xs) ≡ true
@@ -29,3 +30,9 @@ every-reverseAux p (x ∷ xs) ys h k = every-reverseAux p xs (x ∷ ys) (every-t
 pub every-reverse : {A : Type 0} (p : A → Bool) (xs : List A) → every p xs ≡ true → every p (reverse xs) ≡ true
 unfolding every
 every-reverse p xs h = every-reverseAux p xs [] h refl
+
+pub oneOf-getD : {A : Type 0} (p : A → Bool) (xs : List A) (k : ℕ) (d : A) → k < length xs → p (getD xs k d) ≡ true → oneOf p xs ≡ true
+unfolding oneOf
+oneOf-getD p [] k d l h = absurd (omega arith)
+oneOf-getD p (x ∷ xs) zero d l h = rw h
+oneOf-getD p (x ∷ xs) (suc k) d l h = rw (oneOf-getD p xs k d (omega arith) h) (or-true (p x))
