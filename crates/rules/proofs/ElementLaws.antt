@@ -1,6 +1,6 @@
--- The elements of a string: the size and the place of a step, and what is left of the string after it.
+-- The elements of a string: the size and the place of a step, which item it takes, and what is left of the string after it.
 use mathlib.Core.Path.{_≡_, refl, sym, ap, _∙_}
-use mathlib.Core.Bool.{Bool, true, false, not, _&&_, false≢true}
+use mathlib.Core.Bool.{Bool, true, not, _&&_, false≢true}
 use mathlib.Core.List.{List, [], _∷_}
 use Prim.Native.Nat.{ℕ, zero, suc, pred, _+_, _≤_, _<_}
 use native.Mathlib.Omega.{arith}
@@ -15,14 +15,21 @@ use Rattle.rules.specs.Text.{if_then_else_, oneOf, same, begins}
 use Rattle.rules.specs.Meaning.{Item, hasChars, noTwoAlike}
 use Rattle.rules.specs.Order.{noItem, Step, longest, undefinedFrom, stepOf, elements}
 use Rattle.rules.proofs.TextLaws.{same-refl}
-use Rattle.rules.proofs.EveryLaws.{oneOf-getD}
+use Rattle.rules.proofs.TestLaws.{oneOf-getD}
 
 -- k is from 1 to n
 pub record UpTo (n k : ℕ) : Type 0 where
-  pub some : 1 ≤ k
+  pub least : 1 ≤ k
   pub most : k ≤ n
 
 -- ## A step
+
+matched : (i : Item) (s : List ℕ) (n : ℕ) → (begins (i .chars) s && leb n (length (i .chars))) ≡ true
+    → (begins (i .chars) s ≡ true) × (n ≤ length (i .chars))
+matched i s n e = (
+  and-left (begins (i .chars) s) (leb n (length (i .chars))) e,
+  leb-true n (length (i .chars)) (and-right (begins (i .chars) s) (leb n (length (i .chars))) e),
+)
 
 -- what holds of a step holds of the longest if each item that takes its place keeps it so
 longest-keeps : (P : Step → Type 0) (n : ℕ) (is : List Item) (s : List ℕ) (best : Step) → P best
@@ -34,13 +41,9 @@ longest-keeps P n [] s best h f = h
 longest-keeps P n (i ∷ is) s best h f =
     let t : Bool = begins (i .chars) s && leb (best .size) (length (i .chars)) in
     let found : Step = record { place = n; size = length (i .chars) } in
+    let taken : t ≡ true → P found = λ e. let (b, l) = matched i s (best .size) e in f n i best (omega arith) (omega arith) b l h in
     longest-keeps P (suc n) is s (if t then found else best)
-    (by t
-    (λ e.
-    let b = and-left (begins (i .chars) s) (leb (best .size) (length (i .chars))) e in
-    let l = and-right (begins (i .chars) s) (leb (best .size) (length (i .chars))) e in
-    rw (cond-true found best e) (f n i best (omega arith) (omega arith) b (leb-true (best .size) (length (i .chars)) l) h))
-    (λ e. rw (cond-false found best e) h))
+    (by t (λ e. rw (cond-true found best e) (taken e)) (λ e. rw (cond-false found best e) h))
     (λ k j e l m b g p. f k j e (omega arith) (omega arith) b g p)
 
 begins-length : (p s : List ℕ) → begins p s ≡ true → length p ≤ length s
@@ -55,8 +58,8 @@ unfolding stepOf
 step-size is [] h = absurd (omega arith)
 step-size is (c ∷ s) h =
     longest-keeps (λ (e : Step). UpTo (length (c ∷ s)) (e .size)) 1 is (c ∷ s) (record { place = undefinedFrom 1 is; size = 1 })
-    (record { some = omega arith; most = omega arith })
-    (λ k i e l m b g p. record { some = omega arith; most = begins-length (i .chars) (c ∷ s) b })
+    (record { least = omega arith; most = omega arith })
+    (λ k i e l m b g p. record { least = omega arith; most = begins-length (i .chars) (c ∷ s) b })
 
 same-nil : (cs : List ℕ) → same [] cs ≡ eqb (length cs) 0
 unfolding same
@@ -69,9 +72,7 @@ undefined-place n [] h = absurd (false≢true h)
 undefined-place n (i ∷ is) h =
     by (eqb (length (i .chars)) 0)
     (λ e. rw (cond-true n (undefinedFrom (suc n) is) e) (omega arith, omega arith))
-    (λ e.
-    let r = undefined-place (suc n) is (rw (same-nil (i .chars), e) at h) in
-    rw (cond-false n (undefinedFrom (suc n) is) e) (omega arith, omega arith))
+    (λ e. let r = undefined-place (suc n) is (rw (same-nil (i .chars), e) at h) in rw (cond-false n (undefinedFrom (suc n) is) e) (omega arith, omega arith))
 
 -- a step's place is that of an item
 pub step-place : (is : List Item) (s : List ℕ) → 0 < length s → oneOf (hasChars []) is ≡ true → UpTo (length is) ((stepOf is s) .place)
@@ -80,8 +81,8 @@ step-place is [] h u = absurd (omega arith)
 step-place is (c ∷ s) h u =
     let p = undefined-place 1 is u in
     longest-keeps (λ (e : Step). UpTo (length is) (e .place)) 1 is (c ∷ s) (record { place = undefinedFrom 1 is; size = 1 })
-    (record { some = omega arith; most = omega arith })
-    (λ k i e l m b g p. record { some = l; most = omega arith })
+    (record { least = omega arith; most = omega arith })
+    (λ k i e l m b g p. record { least = l; most = omega arith })
 
 -- ## Which item it is
 
@@ -97,10 +98,7 @@ longest-none n [] s best f = refl
 longest-none n (i ∷ is) s best f =
     let found : Step = record { place = n; size = length (i .chars) } in
     by (begins (i .chars) s && leb (best .size) (length (i .chars)))
-    (λ e.
-    let b = f 0 (omega arith) (and-left (begins (i .chars) s) (leb (best .size) (length (i .chars))) e) in
-    let l = leb-true (best .size) (length (i .chars)) (and-right (begins (i .chars) s) (leb (best .size) (length (i .chars))) e) in
-    absurd (omega arith))
+    (λ e. let (b, l) = matched i s (best .size) e in let k = f 0 (omega arith) b in absurd (omega arith))
     (λ e. rw (cond-false found best e) (longest-none (suc n) is s best (λ q l b. f (suc q) (omega arith) b)))
 
 -- none is longer, and none after it as long
@@ -118,10 +116,8 @@ longest-found n zero (i ∷ is) s best h b l f g =
 longest-found n (suc p) (i ∷ is) s best h b l f g =
     let t : Bool = begins (i .chars) s && leb (best .size) (length (i .chars)) in
     let found : Step = record { place = n; size = length (i .chars) } in
-    let small : (if t then found else best) .size ≤ length (charsAt is p) =
-    by t
-    (λ e. rw (cond-true found best e) (f 0 (omega arith) (and-left (begins (i .chars) s) (leb (best .size) (length (i .chars))) e)))
-    (λ e. rw (cond-false found best e) l) in
+    let taken : t ≡ true → length (i .chars) ≤ length (charsAt is p) = λ e. f 0 (omega arith) (matched i s (best .size) e .0) in
+    let small : (if t then found else best) .size ≤ length (charsAt is p) = by t (λ e. rw (cond-true found best e) (taken e)) (λ e. rw (cond-false found best e) l) in
     let e : suc n + p ≡ n + suc p = omega arith in
     rw (← e) (longest-found (suc n) p is s (if t then found else best) (omega arith) b small
     (λ q m c. f (suc q) (omega arith) c) (λ q k m c. g (suc q) (omega arith) (omega arith) c))
@@ -138,7 +134,7 @@ begins-unique (c ∷ p) (d ∷ q) (x ∷ s) h k e =
     let r = begins-unique p q s (and-right (eqb c x) (begins p s) h) (and-right (eqb d x) (begins q s) k) (omega arith) in
     cc
 
--- where no two items are alike, two places with the same characters are one
+-- where no two items are alike, no two places have the same characters
 pub charsAt-unique : (is : List Item) (p q : ℕ) → noTwoAlike is ≡ true → p < q → q < length is → charsAt is p ≡ charsAt is q → ⊥
 unfolding noTwoAlike hasChars
 charsAt-unique [] p q h l k e = omega arith
@@ -187,13 +183,11 @@ unfolding undefinedFrom noTwoAlike
 undefined-is n [] p u h e = absurd (omega arith)
 undefined-is n (i ∷ is) zero u h e = rw (eq-eqb (length (i .chars)) 0 e, add-zero)
 undefined-is n (i ∷ is) (suc p) u h e =
-    by (eqb (length (i .chars)) 0)
-    (λ t.
-    let a = length-zero (i .chars) (eqb-true (length (i .chars)) 0 t) in
-    absurd (charsAt-unique (i ∷ is) 0 (suc p) u (omega arith) h (a ∙ sym (length-zero (charsAt is p) e))))
-    (λ t.
+    let empty : eqb (length (i .chars)) 0 ≡ true → i .chars ≡ charsAt is p = λ t. length-zero (i .chars) (eqb-true (length (i .chars)) 0 t) ∙ sym (length-zero (charsAt is p) e) in
     let k = undefined-is (suc n) is p (and-right (not (oneOf (hasChars (i .chars)) is)) (noTwoAlike is) u) (omega arith) e in
-    rw (cond-false n (undefinedFrom (suc n) is) t) (omega arith))
+    by (eqb (length (i .chars)) 0)
+    (λ t. absurd (charsAt-unique (i ∷ is) 0 (suc p) u (omega arith) h (empty t)))
+    (λ t. rw (cond-false n (undefinedFrom (suc n) is) t) (omega arith))
 
 -- ## Elements
 
@@ -212,7 +206,7 @@ unfolding elements
 elements-step is [] h = absurd (omega arith)
 elements-step is (c ∷ s) h =
     let e : Step = stepOf is (c ∷ s) in
-    ap (λ (ps : List ℕ). e .place ∷ ps) (elements-skip is (pred (e .size)) s ∙ ap (elements is 0) (drop-pred (e .size) c s (step-size is (c ∷ s) h .some)))
+    ap (λ (ps : List ℕ). e .place ∷ ps) (elements-skip is (pred (e .size)) s ∙ ap (elements is 0) (drop-pred (e .size) c s (step-size is (c ∷ s) h .least)))
 
 pub elements-length : (is : List Item) (k : ℕ) (s : List ℕ) → length (elements is k s) ≤ length s
 unfolding elements

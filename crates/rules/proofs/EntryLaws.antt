@@ -1,7 +1,7 @@
 -- The entries of a level: what each of them is where the weights are good, and how many there are.
-use mathlib.Core.Path.{_≡_, refl, sym, ap, _∙_}
+use mathlib.Core.Path.{_≡_, refl, _∙_}
 use mathlib.Core.Bool.{Bool, true, false, _&&_}
-use mathlib.Core.List.{List, [], _∷_, map, reverse}
+use mathlib.Core.List.{List, [], _∷_, map}
 use Prim.Native.Nat.{ℕ, zero, suc, pred, _+_, _*_, _≤_}
 use native.Mathlib.Omega.{arith}
 use lib.ListN.{length, getD, length-map, length-reverse}
@@ -14,7 +14,7 @@ use Rattle.rules.specs.Names.{isCharacter}
 use Rattle.rules.specs.Meaning.{Rule, Item, Meaning, countAll, goodWeights, goodItem, hasChars, noTwoAlike, good}
 use Rattle.rules.specs.Order.{Entry, noItem, weightsAt, more, entriesFrom, walked, levelEntries}
 use Rattle.rules.proofs.TextLaws.{every-head, every-tail}
-use Rattle.rules.proofs.EveryLaws.{every-getD, every-map, every-reverse}
+use Rattle.rules.proofs.TestLaws.{within-true, every-getD, every-map, every-reverse}
 
 -- ## The weights of a good meaning
 
@@ -27,7 +27,7 @@ good-levels m h =
     let c : Bool = noTwoAlike (m .items) in
     let d : Bool = oneOf (hasChars []) (m .items) in
     let w = and-left (within 1 8 l) a (and-left (within 1 8 l && a) b (and-left (within 1 8 l && a && b) c (and-left (within 1 8 l && a && b && c) d h))) in
-    leb-true l 8 (and-right (leb 1 l) (leb l 8) w)
+    within-true 1 8 l w .1
 
 pub good-items : (m : Meaning) → good m ≡ true → every (goodItem (length (m .rules))) (m .items) ≡ true
 unfolding good
@@ -48,7 +48,7 @@ getD-weights l [] k h = refl
 getD-weights l (i ∷ is) zero h = goodItem-weights l i (every-head (goodItem l) i is h)
 getD-weights l (i ∷ is) (suc k) h = getD-weights l is k (every-tail (goodItem l) i is h)
 
--- at every level and place, listed or not
+-- the weights at every level and place, listed or not
 pub weightsAt-good : (l : ℕ) (is : List Item) → every (goodItem l) is ≡ true → (level place : ℕ) → goodWeights (weightsAt is level place) ≡ true
 unfolding weightsAt goodWeights every
 weightsAt-good l is h level place =
@@ -75,10 +75,10 @@ more-fits : (p : Bool) (n : ℕ) (ws : List ℕ) (es : List Entry) → every (wi
 unfolding more
 more-fits p n [] es h k = k
 more-fits p n (w ∷ ws) es h k =
-    let g = every-head (within 1 32768) w ws h in (
+    let g = within-true 1 32768 w (every-head (within 1 32768) w ws h) in (
       record {
-        positive = leb-true 1 w (and-left (leb 1 w) (leb w 32768) g);
-        small = leb-true w 32768 (and-right (leb 1 w) (leb w 32768) g);
+        positive = g .0;
+        small = g .1;
         counted = omega arith;
         plain = λ e. refl;
       },
@@ -91,10 +91,10 @@ entries-fit p n b [] l h = tt
 entries-fit p n b ([] ∷ ls) l h = entries-fit p (suc n) b ls (omega arith) (every-tail goodWeights [] ls h)
 entries-fit p n b ((w ∷ ws) ∷ ls) l h =
     let a = and-right (leb (length (w ∷ ws)) 8) (every (within 1 32768) (w ∷ ws)) (every-head goodWeights (w ∷ ws) ls h) in
-    let g = every-head (within 1 32768) w ws a in (
+    let g = within-true 1 32768 w (every-head (within 1 32768) w ws a) in (
       record {
-        positive = leb-true 1 w (and-left (leb 1 w) (leb w 32768) g);
-        small = leb-true w 32768 (and-right (leb 1 w) (leb w 32768) g);
+        positive = g .0;
+        small = g .1;
         counted = cond-both (λ (c : ℕ). c ≤ b) p (omega arith) (omega arith);
         plain = cond-false n 0;
       },

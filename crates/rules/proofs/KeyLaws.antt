@@ -12,7 +12,7 @@ use Rattle.lists.proofs.Lists.{All}
 use Rattle.rules.specs.Text.{if_then_else_, every, within}
 use Rattle.rules.specs.Names.{isCharacter}
 use Rattle.rules.specs.Meaning.{Rule, Item, Meaning, goodItem, good}
-use Rattle.rules.specs.Order.{goodString, Entry, Sign, less, equal, greater, orElse, signℕ, signEntry, signList, compareOf, codes, codesKey, levelKey, levelsKey, keyOf, levelsOf, levelsFrom, levelEntries, two, three, signBytes, elements}
+use Rattle.rules.specs.Order.{goodString, Entry, Sign, orElse, signℕ, signEntry, signList, compareOf, codes, codesKey, levelKey, levelsKey, keyOf, levelsOf, levelsFrom, levelEntries, two, three, signBytes, elements}
 use Rattle.rules.proofs.TextLaws.{every-head, every-tail}
 use Rattle.rules.proofs.SignLaws.{orElse-assoc, orElse-equal, Tri, below, same, above, tri, signℕ-below, signℕ-same, signℕ-above}
 use Rattle.rules.proofs.OrderLaws.{signLevels, compare-sign, compare-refl, compare-equal}
@@ -120,6 +120,7 @@ key-determines m h a b e =
 
 -- ## The bytes of keys
 
+-- below 256
 abbrev pub fitsByte : ℕ → Bool
 fitsByte b = ltb b 256
 
@@ -160,15 +161,15 @@ levels-bytes l is h (q ∷ rs) k ps r n e =
     level-bytes (q .position) (length ps) (levelEntries is q k ps) (levelsKey rs (levelsFrom is rs (suc k) ps) r) n
     (level-fits l is h q k ps) (levels-bytes l is h rs (suc k) ps r n e)
 
-string-length : (s : List ℕ) → goodString s ≡ true → length s ≤ 4096
+pub goodString-length : (s : List ℕ) → goodString s ≡ true → length s ≤ 4096
 unfolding goodString
-string-length s h = leb-true (length s) 4096 (and-left (leb (length s) 4096) (every isCharacter s) h)
+goodString-length s h = leb-true (length s) 4096 (and-left (leb (length s) 4096) (every isCharacter s) h)
 
 -- a key is a list of bytes
 pub key-bytes : (m : Meaning) → good m ≡ true → (s : List ℕ) → goodString s ≡ true → every fitsByte (keyOf m s) ≡ true
 unfolding keyOf levelsOf goodString
 key-bytes m h s g =
-    let n = string-length s g in
+    let n = goodString-length s g in
     let e = elements-length (m .items) 0 s in
     levels-bytes (length (m .rules)) (m .items) (good-items m h) (m .rules) 0 (elements (m .items) 0 s) (codesKey s) (omega arith)
     (codes-bytes s (and-right (leb (length s) 4096) (every isCharacter s) g))
@@ -232,7 +233,7 @@ levelsWidth-le l is h (r ∷ rs) k ps n =
 pub key-bound : (m : Meaning) → good m ≡ true → (s : List ℕ) → goodString s ≡ true → length (keyOf m s) ≤ 1060880
 unfolding levelsOf
 key-bound m h s g =
-    let n = string-length s g in
+    let n = goodString-length s g in
     let e = elements-length (m .items) 0 s in
     let k = key-length m s in
     let l = good-levels m h in

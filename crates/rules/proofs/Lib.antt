@@ -3,7 +3,7 @@ pub mod Examples
 pub mod TextLaws
 pub mod SignLaws
 pub mod OrderLaws
-pub mod EveryLaws
+pub mod TestLaws
 pub mod EntryLaws
 pub mod KeyLaws
 pub mod ElementLaws

@@ -11,7 +11,9 @@ use Rattle.rules.specs.Meaning.{Rule, Item, Meaning}
 use Rattle.rules.specs.Order.{Entry, Sign, less, equal, greater, Answer, orElse, signEntry, signList, onward, common, settled, answerFrom, compareOf, codes, levelsFrom, levelsOf, levelEntries, elements}
 use Rattle.rules.proofs.SignLaws.{orElse-both, opposite, Follows, less≢equal, greater≢equal, follows-not-greater, less-follows-less, follows-less-less, Orders, orders-equal, orders-by, orders-then, orders-entry, orders-list, signEntry-unique, signList-unique}
 
--- what is compared of a string: each level's entries, then the code points
+-- ## What is compared
+
+-- of a string: each level's entries, then the code points
 abbrev pub entryLists : Meaning → List ℕ → List (List Entry)
 entryLists m s = levelsOf m s ++ codes s ∷ []
 
@@ -34,7 +36,7 @@ levelsFrom-getD is (r ∷ rs) l (suc k) ps d h =
     let e : suc l + k ≡ l + suc k = omega arith in
     rw (← e) (levelsFrom-getD is rs (suc l) k ps d (omega arith))
 
--- the lists of the levels
+-- the list of a level
 pub entryLists-level : (m : Meaning) (s : List ℕ) (k : ℕ) (d : Rule) → k < length (m .rules)
     → getD (entryLists m s) k [] ≡ levelEntries (m .items) (getD (m .rules) k d) k (elements (m .items) 0 s)
 unfolding levelsOf
@@ -94,11 +96,13 @@ pub compare-follows : (m : Meaning) (a b c : List ℕ)
     → Follows ((compareOf m a b) .sign) ((compareOf m b c) .sign) ((compareOf m a c) .sign)
 compare-follows m a b c = rw (compare-sign m a b, compare-sign m b c, compare-sign m a c) (orders-strings m .follows a b c)
 
+-- what is not greater than what is not greater is not greater
 pub compare-trans : (m : Meaning) (a b c : List ℕ) → ¬ ((compareOf m a b) .sign ≡ greater) → ¬ ((compareOf m b c) .sign ≡ greater)
     → ¬ ((compareOf m a c) .sign ≡ greater)
 compare-trans m a b c =
     follows-not-greater ((compareOf m a b) .sign) ((compareOf m b c) .sign) ((compareOf m a c) .sign) (compare-follows m a b c)
 
+-- and it is less where one of the two is
 pub compare-less-trans : (m : Meaning) (a b c : List ℕ) → (compareOf m a b) .sign ≡ less → ¬ ((compareOf m b c) .sign ≡ greater)
     → (compareOf m a c) .sign ≡ less
 compare-less-trans m a b c =
@@ -283,7 +287,7 @@ settled-least less k n r f h = omega arith
 settled-least equal k n r f h = let g = f h in omega arith
 settled-least greater k n r f h = omega arith
 
--- the levels from k + 1 on decide with none before it
+-- a level that decides is one of those that are compared, from k + 1 on
 answer-least : (k : ℕ) (as′ bs : List (List Entry)) → 0 < (answerFrom (suc k) as′ bs) .level → k < (answerFrom (suc k) as′ bs) .level
 unfolding answerFrom
 answer-least k [] bs h = omega arith

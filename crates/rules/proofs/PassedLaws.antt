@@ -1,6 +1,6 @@
 -- A run that counts the entries it passes as equal finds the definition's sign and sum: what the two loops of a comparison need, over a
 -- level's entries and over the levels.
-use mathlib.Core.Path.{_≡_, refl, sym}
+use mathlib.Core.Path.{_≡_, refl}
 use mathlib.Core.List.{List, [], _∷_}
 use Prim.Native.Nat.{ℕ, suc, _+_}
 use native.Mathlib.Omega.{arith}
@@ -31,7 +31,7 @@ seen (x ∷ xs) (y ∷ ys) n =
     let later : Seen = seen xs ys (suc n) in
     further (signEntry x y) n later
 
--- one turn: two entries that are equal are passed, two that are not decide
+-- one turn: two entries that are equal are passed, two that are not decide, and so does an end
 pub seen-passed : (x y : Entry) (xs ys : List Entry) (n : ℕ) → signEntry x y ≡ equal → seen (x ∷ xs) (y ∷ ys) n ≡ seen xs ys (suc n)
 unfolding seen
 seen-passed x y xs ys n e = rw e
@@ -46,6 +46,19 @@ pub seen-greater : (x y : Entry) (xs ys : List Entry) (n : ℕ) → signEntry x 
 unfolding seen
 seen-greater x y xs ys n e = rw e
 
+pub seen-ends : (n : ℕ) → seen [] [] n ≡ record { sign = equal; agreed = n }
+unfolding seen
+seen-ends n = refl
+
+pub seen-ends-first : (y : Entry) (ys : List Entry) (n : ℕ) → seen [] (y ∷ ys) n ≡ record { sign = less; agreed = n }
+unfolding seen
+seen-ends-first y ys n = refl
+
+pub seen-ends-second : (x : Entry) (xs : List Entry) (n : ℕ) → seen (x ∷ xs) [] n ≡ record { sign = greater; agreed = n }
+unfolding seen
+seen-ends-second x xs n = refl
+
+-- the run over a level has the level's sign, and adds its common beginning
 further-sign : (z w : Sign) (n : ℕ) (r : Seen) → r .sign ≡ w → (further z n r) .sign ≡ orElse z w
 further-sign less w n r e = refl
 further-sign equal w n r e = e
@@ -77,9 +90,9 @@ abbrev pub withPassed : ℕ → Answer → Answer
 withPassed n a = record { sign = a .sign; level = a .level; agreed = n + a .agreed }
 
 -- the run begins at level 1 with none passed
-pub begins-on : (m : Meaning) (a b : List ℕ) → compareOf m a b ≡ withPassed 0 (answerFrom 1 (entryLists m a) (entryLists m b))
+pub starts : (m : Meaning) (a b : List ℕ) → compareOf m a b ≡ withPassed 0 (answerFrom 1 (entryLists m a) (entryLists m b))
 unfolding compareOf
-begins-on m a b = rw zero-add
+starts m a b = rw zero-add
 
 -- a level that decides ends it
 pub decided-less : (k n : ℕ) (a b : List Entry) (as′ bs : List (List Entry)) → signList a b ≡ less

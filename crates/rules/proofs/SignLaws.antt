@@ -1,5 +1,5 @@
 -- Signs: the first that is not equal, the opposite, and three that fit together; then the signs of numbers, of entries and of lists of
--- entries, each of which orders.
+-- entries, each of which orders, and is equal only for the same.
 use mathlib.Core.Path.{_≡_, refl, sym, ap, _∙_}
 use mathlib.Core.List.{List, [], _∷_}
 use Prim.Native.Nat.{ℕ, _<_}
@@ -7,6 +7,17 @@ use native.Mathlib.Omega.{arith}
 use native.Mathlib.Decide.{decLt}
 use borrow.Author.Tests.{lt-ltb, le-ltb}
 use Rattle.rules.specs.Order.{Entry, Sign, less, equal, greater, orElse, signℕ, signEntry, signList}
+
+-- ## Three different signs
+
+pub less≢equal : less ≡ equal → ⊥
+less≢equal e = let z : _≡_ {A = ℕ} 0 1 = cc in omega arith
+
+pub greater≢equal : greater ≡ equal → ⊥
+greater≢equal e = let z : _≡_ {A = ℕ} 0 1 = cc in omega arith
+
+less≢greater : less ≡ greater → ⊥
+less≢greater e = let z : _≡_ {A = ℕ} 0 1 = cc in omega arith
 
 -- ## The first sign that is not equal
 
@@ -82,15 +93,6 @@ follows-orElse greater less z x′ y′ z′ h k = tt
 follows-orElse greater equal z x′ y′ z′ h k = rw h (greater-follows y′)
 follows-orElse greater greater z x′ y′ z′ h k = rw h
 
-pub less≢equal : less ≡ equal → ⊥
-less≢equal e = let z : _≡_ {A = ℕ} 0 1 = cc in omega arith
-
-pub greater≢equal : greater ≡ equal → ⊥
-greater≢equal e = let z : _≡_ {A = ℕ} 0 1 = cc in omega arith
-
-less≢greater : less ≡ greater → ⊥
-less≢greater e = let z : _≡_ {A = ℕ} 0 1 = cc in omega arith
-
 pub follows-not-greater : (x y z : Sign) → Follows x y z → ¬ (x ≡ greater) → ¬ (y ≡ greater) → ¬ (z ≡ greater)
 follows-not-greater less less z h p q e = less≢greater (sym h ∙ e)
 follows-not-greater less equal z h p q e = less≢greater (sym h ∙ e)
@@ -114,7 +116,7 @@ follows-less-less greater y z h p q = absurd (p refl)
 
 -- ## Signs that order
 
--- a sign of every two orders them
+-- the sign of any two orders them: each is equal to itself, changed places give the opposite, and every three fit together
 pub record Orders {A : Type 0} (sign : A → A → Sign) : Type 0 where
   pub self : (a : A) → sign a a ≡ equal
   pub back : (a b : A) → sign b a ≡ opposite (sign a b)

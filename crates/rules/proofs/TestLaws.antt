@@ -1,13 +1,19 @@
--- What passes a test throughout (specs/Text, every): at a place, through a function, from last to first; and what passes it somewhere.
-use mathlib.Core.Path.{_≡_, refl, _∙_}
-use mathlib.Core.Bool.{Bool, true, _||_, or-true}
+-- Tests (specs/Text): a number within bounds; lists of which each passes a test, at a place, through a function, from last to first; and
+-- lists of which one passes it.
+use mathlib.Core.Path.{_≡_, refl}
+use mathlib.Core.Bool.{Bool, true, or-true}
 use mathlib.Core.List.{List, [], _∷_, map, reverse, reverseAux}
-use Prim.Native.Nat.{ℕ, zero, suc, _<_}
+use Prim.Native.Nat.{ℕ, zero, suc, _≤_, _<_}
 use native.Mathlib.Omega.{arith}
 use lib.ListN.{length, getD}
-use Rattle.lists.proofs.Bools.{and-intro}
-use Rattle.rules.specs.Text.{every, oneOf}
+use lib.Dec.{leb}
+use borrow.Author.Tests.{leb-true}
+use Rattle.lists.proofs.Bools.{and-left, and-right, and-intro}
+use Rattle.rules.specs.Text.{within, every, oneOf}
 use Rattle.rules.proofs.TextLaws.{every-head, every-tail}
+
+pub within-true : (a b n : ℕ) → within a b n ≡ true → (a ≤ n) × (n ≤ b)
+within-true a b n h = (leb-true a n (and-left (leb a n) (leb n b) h), leb-true n b (and-right (leb a n) (leb n b) h))
 
 pub every-cons : {A : Type 0} (p : A → Bool) (x : A) (xs : List A) → p x ≡ true → every p xs ≡ true → every p (x ∷ xs) ≡ true
 unfolding every
