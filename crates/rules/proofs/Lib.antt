@@ -19,3 +19,9 @@ pub mod CodingLaws
 pub mod GivenLaws
 pub mod CharmapLaws
 pub mod RunLaws
+pub mod SignLaws
+pub mod OrderLaws
+pub mod EntryLaws
+pub mod KeyLaws
+pub mod ElementLaws
+pub mod PassedLaws

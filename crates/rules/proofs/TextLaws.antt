@@ -1,10 +1,10 @@
 -- Laws of the tests on lists and of refusals (specs/Text).
 use mathlib.Core.Path.{_≡_, refl, sym, ap, _∙_}
-use mathlib.Core.Bool.{Bool, true, false, _&&_, _||_, false≢true}
-use mathlib.Core.List.{List, [], _∷_, _++_}
-use Prim.Native.Nat.{ℕ, _≤_, _<_}
+use mathlib.Core.Bool.{Bool, true, false, _&&_, _||_, false≢true, or-true}
+use mathlib.Core.List.{List, [], _∷_, _++_, map, reverse, reverseAux}
+use Prim.Native.Nat.{ℕ, zero, suc, _≤_, _<_}
 use native.Mathlib.Omega.{arith}
-use lib.ListN.{length, drop}
+use lib.ListN.{length, getD, drop}
 use lib.Dec.{eqb, leb, ltb}
 use borrow.Author.Tests.{eq-eqb, eqb-true, leb-true, le-leb}
 use Rattle.lists.proofs.Bools.{and-left, and-right, and-intro, or-false-left, or-false-right, by, clash}
@@ -38,6 +38,24 @@ pub every-cons : {A : Type 0} (p : A → Bool) (x : A) (xs : List A) → p x ≡
 unfolding every
 every-cons p x xs h k = and-intro h k
 
+pub every-getD : {A : Type 0} (p : A → Bool) (xs : List A) (k : ℕ) (d : A) → p d ≡ true → every p xs ≡ true → p (getD xs k d) ≡ true
+every-getD p [] k d h e = h
+every-getD p (x ∷ xs) zero d h e = every-head p x xs e
+every-getD p (x ∷ xs) (suc k) d h e = every-getD p xs k d h (every-tail p x xs e)
+
+pub every-map : {A B : Type 0} (p : B → Bool) (f : A → B) (xs : List A) → ((x : A) → p (f x) ≡ true) → every p (map f xs) ≡ true
+unfolding every
+every-map p f [] h = refl
+every-map p f (x ∷ xs) h = and-intro (h x) (every-map p f xs h)
+
+every-reverseAux : {A : Type 0} (p : A → Bool) (xs ys : List A) → every p xs ≡ true → every p ys ≡ true → every p (reverseAux xs ys) ≡ true
+every-reverseAux p [] ys h k = k
+every-reverseAux p (x ∷ xs) ys h k = every-reverseAux p xs (x ∷ ys) (every-tail p x xs h) (every-cons p x ys (every-head p x xs h) k)
+
+pub every-reverse : {A : Type 0} (p : A → Bool) (xs : List A) → every p xs ≡ true → every p (reverse xs) ≡ true
+unfolding every
+every-reverse p xs h = every-reverseAux p xs [] h refl
+
 pub oneOf-head-false : {A : Type 0} (p : A → Bool) (x : A) (xs : List A) → oneOf p (x ∷ xs) ≡ false → p x ≡ false
 unfolding oneOf
 oneOf-head-false p x xs h = or-false-left (p x) (oneOf p xs) h
@@ -50,6 +68,12 @@ pub oneOf-append : {A : Type 0} (p : A → Bool) (xs ys : List A) → oneOf p (x
 unfolding oneOf
 oneOf-append p [] ys = refl
 oneOf-append p (x ∷ xs) ys = rw (oneOf-append p xs ys) (sym (mathlib.Core.Bool.or-assoc (p x) (oneOf p xs) (oneOf p ys)))
+
+pub oneOf-getD : {A : Type 0} (p : A → Bool) (xs : List A) (k : ℕ) (d : A) → k < length xs → p (getD xs k d) ≡ true → oneOf p xs ≡ true
+unfolding oneOf
+oneOf-getD p [] k d l h = absurd (omega arith)
+oneOf-getD p (x ∷ xs) zero d l h = rw h
+oneOf-getD p (x ∷ xs) (suc k) d l h = rw (oneOf-getD p xs k d (omega arith) h) (or-true (p x))
 
 -- ## same, begins
 

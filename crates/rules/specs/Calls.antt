@@ -74,7 +74,7 @@ pub record Stepped : Type 0 where
   pub place : ℕ
   pub size : ℕ
 
--- a table, a string and a place in it, from 0; the whole string is tested, also where the place lies past its end (readings)
+-- a table, a string and a place in it, from 0; the whole string is tested, also where the place lies past its end (docs/DECISIONS.md)
 unfoldable pub stepCall : List ℕ → List ℕ → ℕ → Stepped
 stepCall table s at =
     let e : Step = stepOf (meaningIn table .items) (drop at s) in

@@ -30,7 +30,7 @@ turned n b (t ∷ ts) =
     let r : List Toggle = turned n b ts in
     if isToggle n t then record { label = n; on = b } ∷ ts else t ∷ r
 
--- "T: 1 to 32 letters, digits or underscores; at most 16 different": every T on a line that is read whole counts (readings)
+-- "T: 1 to 32 letters, digits or underscores; at most 16 different": every T on a line that is read whole counts (docs/DECISIONS.md)
 unfoldable pub toggleRefusal : State → List Token → ℕ
 toggleRefusal s ts =
     let n : List ℕ = tokenAt ts 0 .text in

@@ -108,14 +108,14 @@ isWordLine w marks = begins w (withoutBlanks marks) && every isBlank (drop (leng
 unfoldable pub isSignLine : List ℕ → Bool
 isSignLine marks = isWordLine (bytes "comment_char") marks || isWordLine (bytes "escape_char") marks
 
--- of a charmap's header, `<comment_char>` or `<escape_char>`: "known by their name after escapes" (readings)
+-- of a charmap's header, `<comment_char>` or `<escape_char>`: "known by their name after escapes" (docs/DECISIONS.md)
 unfoldable pub isSignHeader : List ℕ → Bool
 isSignHeader marks =
     let ts : List Token = tokensOf marks in
     let n : List ℕ = theName (tokenAt ts 0) in
     eqb (tokenAt ts 0 .kind) name && (is n "comment_char" || is n "escape_char") && eqb (length (withoutGaps false (drop 1 ts))) 0
 
--- "c, taken as it stands": the first byte after the keyword and its blanks, on every such line outside categories (readings)
+-- "c, taken as it stands": the first byte after the keyword and its blanks, on every such line outside categories (docs/DECISIONS.md)
 unfoldable pub takesAsIs : Signs → Scan → ℕ → Bool
 takesAsIs g s b =
     eqb (s .mode) outside && s .fresh && not (isBlank b)
@@ -125,7 +125,7 @@ takesAsIs g s b =
 unfoldable pub opensComment : Signs → Scan → ℕ → Bool
 opensComment g s b = eqb (s .mode) outside && s .fresh && eqb b (g .comment)
 
--- "then any comment": from the first blank after the byte (readings)
+-- "then any comment": from the first blank after the byte (docs/DECISIONS.md)
 unfoldable pub endsEntry : Signs → Scan → ℕ → Bool
 endsEntry g s b = g .body && eqb (s .mode) outside && isBlank b && isEntry (tokensOf (s .marks))
 
@@ -150,7 +150,7 @@ scan g s b =
 
 -- ## A whole line
 
--- an escape as the source's last byte is malformed (readings)
+-- an escape as the source's last byte is malformed (docs/DECISIONS.md)
 abbrev pub cutShort : Scan → ℕ → Scan
 cutShort s escape = record {
   mode = s .mode;

@@ -152,9 +152,13 @@ answerFrom k (a ∷ as′) (b ∷ bs) =
     let later : Answer = answerFrom (suc k) as′ bs in
     settled (signList a b) k (common a b) later
 
--- "Then code points the same way, as level L + 1."
+-- "Then code points the same way, as level L + 1.": what two strings are compared by
+abbrev pub entryLists : Meaning → List ℕ → List (List Entry)
+entryLists m s = levelsOf m s ++ codes s ∷ []
+
+-- the answer, from the first level on
 unfoldable pub compareOf : Meaning → List ℕ → List ℕ → Answer
-compareOf m a b = answerFrom 1 (levelsOf m a ++ codes a ∷ []) (levelsOf m b ++ codes b ∷ [])
+compareOf m a b = answerFrom 1 (entryLists m a) (entryLists m b)
 
 -- ## Keys
 

@@ -21,7 +21,7 @@ splitAt part (t ∷ ts) =
     let r : List (List Token) = splitAt (if here then [] else part ++ t ∷ []) ts in
     if here then part ∷ r else r
 
--- the operands; none where there is no token. What follows a `;` is an operand, if empty (readings)
+-- the operands; none where there is no token. What follows a `;` is an operand, if empty (docs/DECISIONS.md)
 abbrev pub operandList : List Token → List (List Token)
 operandList [] = []
 operandList (t ∷ ts) = splitAt [] (t ∷ ts)
@@ -55,7 +55,7 @@ unfoldable pub ruleCodes : List Token → List ℕ
 ruleCodes [] = 1 ∷ []
 ruleCodes (t ∷ ts) = map ruleCode (splitAt [] (t ∷ ts))
 
--- Malformed (readings): two words with no comma, and quotes. `glued`: a word or name stands right before
+-- Malformed (docs/DECISIONS.md): two words with no comma, and quotes. `glued`: a word or name stands right before
 unfoldable pub rulesFormed : Bool → List Token → Bool
 rulesFormed glued [] = true
 rulesFormed glued (t ∷ ts) = not (glued && isSolid t) && not (eqb (t .kind) quote) && rulesFormed (isSolid t) ts

@@ -41,7 +41,7 @@ signByte less = 60
 signByte equal = 61
 signByte greater = 62
 
--- the texts of the input, the first of which begins with `text`: lines end at LF, and the last LF opens no further one (readings)
+-- the texts of the input, the first of which begins with `text`: lines end at LF, and the last LF opens no further one (docs/DECISIONS.md)
 unfoldable pub textsFrom : List ℕ → List ℕ → List (List ℕ)
 textsFrom [] [] = []
 textsFrom (c ∷ text) [] = (c ∷ text) ∷ []

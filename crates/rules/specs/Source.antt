@@ -97,7 +97,7 @@ otherLine s ws =
     (if eqb (length ws) 2 && is (getD ws 0 []) "END" && same (getD ws 1 []) (s .place .category) then toPhase s betweenCategories else s)
 
 -- "an unused branch only for conditional keywords opening a line: inner chains are only counted, its own chain's lines read whole. An
--- `END LC_COLLATE` there ends nothing."; "nest at most 8 deep", there too (readings)
+-- `END LC_COLLATE` there ends nothing."; "nest at most 8 deep", there too (docs/DECISIONS.md)
 unfoldable pub unusedLine : State → ℕ → List ℕ → List ℕ → Outcome
 unusedLine s number w marks =
     let b : Blocks = s .blocks in
