@@ -1,2 +1,3 @@
-pub mod RecordLaws
+pub mod LayoutLaws
+pub mod TotalLaws
 pub mod PartLaws

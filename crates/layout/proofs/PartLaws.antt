@@ -1,18 +1,25 @@
 -- Where the parts of an accepted table stand: its rules, each item's record, each item's weights at each level.
 use mathlib.Core.Path.{_≡_, refl, sym, ap, _∙_}
-use mathlib.Core.Bool.{true, false}
+use mathlib.Core.Bool.{Bool, true, false}
 use mathlib.Core.List.{List, [], _∷_, _++_, map, flatten, append-assoc}
-use Prim.Native.Nat.{ℕ, zero, suc, pred, _+_, _*_, _≤_, _<_}
+use Prim.Native.Nat.{ℕ, zero, suc, pred, _+_, _-_, _*_, _≤_, _<_}
+use native.Mathlib.Numerals.{sub-one}
+use native.Mathlib.Nat.{min-le-right}
 use native.Mathlib.Omega.{arith}
-use lib.ListN.{length, getD, take, drop, length-append, length-map}
-use lib.Seq.{drop-drop, drop-cons, take-append-seam, drop-append-seam, drop-append-add, getD-drop}
-use Rattle.rules.specs.Meaning.{Rule, Item, Meaning, countAll, weightCount, sizeOf, good}
-use Rattle.rules.specs.Table.{padded, counts, total, ruleNumber, itemNumbers, weightNumbers, permutation, storedForm, meaningIn, accepted}
+use lib.ListN.{length, getD, take, drop, length-map, length-take, length-drop}
+use lib.Seq.{drop-drop, drop-cons, take-append-seam, drop-append-add, getD-drop}
+use Rattle.rules.specs.Meaning.{Rule, Item, Meaning, goodItem, countAll, weightCount, sizeOf, good}
+use Rattle.rules.specs.Table.{padded, counts, total, ruleNumber, ruleOfNumber, itemNumbers, weightNumbers, permutation, storedForm, meaningIn, accepted}
 use Rattle.rules.specs.Order.{weightsAt, noItem}
-use Rattle.rules.proofs.MeaningLaws.{GoodItem, item-parts, Good, good-parts}
-use Rattle.rules.proofs.TableLaws.{AllStored, meaning-stored, accepted-stored, rules-drop, records-from, records-drop}
+use Rattle.rules.specs.Text.{every}
+use Rattle.rules.proofs.TextLaws.{every-head, every-tail}
+use Rattle.rules.proofs.EntryLaws.{weightsAt-good}
+use Rattle.rules.proofs.WidthLaws.{good-count}
+use Rattle.rules.proofs.MeaningLaws.{item-parts, Good, good-parts}
+use Rattle.rules.proofs.TableLaws.{meaning-stored, accepted-stored, rule-back, rules-drop, records-from}
 use Rattle.rules.proofs.SizeLaws.{stored-size, flatten-length}
-use Rattle.layout.specs.Parts.{recordAt, ruleAt}
+use Rattle.layout.specs.Parts.{recordAt, ruleAt, Within, Holds}
+use Rattle.layout.proofs.LayoutLaws.{recordAt-small, recordAt-room}
 
 -- ## The weights of an item, level by level
 
@@ -46,6 +53,17 @@ weights-from [] rest (suc k) = refl
 weights-from (i ∷ is) rest zero = refl
 weights-from (i ∷ is) rest (suc k) =
     rw (← flatten-length (i .weights), drop-append-add (flatten (i .weights)) (weightNumbers is rest) (weightCount (take k is))) (weights-from is rest k)
+
+stored-levels : (l : ℕ) (is : List Item) (k : ℕ) → k < length is → every (goodItem l) is ≡ true → length (getD is k noItem .weights) ≡ l
+stored-levels l [] k b h = absurd (omega arith)
+stored-levels l (i ∷ is) zero b h = item-parts l i (every-head (goodItem l) i is h) .levels
+stored-levels l (i ∷ is) (suc k) b h = stored-levels l is k (omega arith) (every-tail (goodItem l) i is h)
+
+-- so many numbers can be taken only where they stand
+run-inside : (n from : ℕ) (t : List ℕ) → length (take n (drop from t)) ≡ n → 0 < n → from + n ≤ length t
+run-inside n from t e h =
+    let l : length (take n (drop from t)) ≤ length t - from = rw (length-take n (drop from t), length-drop from t) (min-le-right n (length t - from)) in
+    omega arith
 
 -- ## A stored meaning
 
@@ -143,8 +161,8 @@ module _ (t : List ℕ) (h : accepted t ≡ true) where
   pub table-record : (k : ℕ) → k < length (meaningIn t .items)
       → drop (recordAt (length (meaningIn t .rules)) k) t
       ≡ padded (getD (meaningIn t .items) k noItem .chars)
-          (weightCount (take k (meaningIn t .items)) ∷ getD (drop k (permutation (meaningIn t .items))) 0 0
-          ∷ counts (getD (meaningIn t .items) k noItem .weights) ++ behind t k)
+      (weightCount (take k (meaningIn t .items)) ∷ getD (drop k (permutation (meaningIn t .items))) 0 0
+      ∷ counts (getD (meaningIn t .items) k noItem .weights) ++ behind t k)
   unfolding itemNumbers
   table-record k b =
       ap (λ (x : List ℕ). drop (recordAt (length (meaningIn t .rules)) k) x) whole
@@ -164,3 +182,113 @@ module _ (t : List ℕ) (h : accepted t ≡ true) where
       ∙ ap (λ (x : List ℕ). drop (weightCount (take k (meaningIn t .items))) x) (stored-weights (meaningIn t) (restOf t) good-in)
       ∙ weights-from (meaningIn t .items) (restOf t) k
       ∙ ap (λ (is : List Item). weightNumbers is (restOf t)) (drop-cons (meaningIn t .items) k noItem b)
+
+  -- the header and the rules are in the area
+  pub table-head : 16 + length (meaningIn t .rules) ≤ length t
+  unfolding recordAt
+  table-head = let e = table-long in omega arith
+
+-- ## A rule by its number
+
+-- the number of each rule is its own
+pub rule-unique : (r s : Rule) → ruleNumber r ≡ ruleNumber s → r ≡ s
+unfolding ruleNumber ruleOfNumber
+rule-unique r s e =
+    sym (rule-back (r .backward) (r .position)) ∙ ap ruleOfNumber e ∙ rule-back (s .backward) (s .position)
+
+-- a rule's number is below 4
+pub rule-small : (b p : Bool) → ruleNumber (record { backward = b; position = p }) < 4
+unfolding ruleNumber
+rule-small true true = omega arith
+rule-small true false = omega arith
+rule-small false true = omega arith
+rule-small false false = omega arith
+
+-- ## Where an item's weights at a level are found
+
+-- how large the parts of an accepted table are, with its levels and items counted, and a record's place
+pub record Sizes (t : List ℕ) (place level l n at : ℕ) : Type 0 where
+  pub few-levels : l ≤ 8
+  pub few-items : n ≤ 32768
+  pub level-in : level < l
+  pub place-in : pred place < n
+  pub small : at ≤ 458776
+  pub weights-small : recordAt l n ≤ 458776
+  pub room : at + (6 + l) ≤ length t
+
+module _ (t : List ℕ) (place level l n at : ℕ) (w : Within t place level) (le : l ≡ length (meaningIn t .rules)) (ne : n ≡ length (meaningIn t .items))
+    (ae : at ≡ recordAt l (place - 1)) where
+  pub sizes : Sizes t place level l n at
+  sizes =
+      let g = table-good t (w .checked) in
+      let a : l ≤ 8 = omega (arith, g .few-levels) in
+      let b : n ≤ 32768 = omega (arith, g .few-items) in
+      let p : place - 1 < n = omega (arith, w .from-one, w .in-items) in
+      let long : recordAt l n ≤ length t = rw (le, ne) (let e = table-long t (w .checked) in omega arith) in
+      record {
+        few-levels = a;
+        few-items = b;
+        level-in = omega (arith, w .in-levels);
+        place-in = rw (sub-one place) at p;
+        small = omega (arith, recordAt-small l (place - 1) a (omega arith));
+        weights-small = recordAt-small l n a b;
+        room = omega (arith, recordAt-room l (place - 1) n p);
+      }
+
+  -- its record, with the place from 0
+  record-is : drop at t
+      ≡ padded (getD (meaningIn t .items) (pred place) noItem .chars)
+      (weightCount (take (pred place) (meaningIn t .items)) ∷ getD (drop (pred place) (permutation (meaningIn t .items))) 0 0
+      ∷ counts (getD (meaningIn t .items) (pred place) noItem .weights) ++ behind t (pred place))
+  record-is = rw (ae, sub-one place, le) (table-record t (w .checked) (pred place) (rw ne at (sizes .place-in)))
+
+  start-is : getD t (at + 4) 0 ≡ weightCount (take (pred place) (meaningIn t .items))
+  start-is = sym (getD-drop at t 4 0) ∙ ap (λ (x : List ℕ). getD x 4 0) record-is
+
+  counts-are : drop (at + 6) t ≡ counts (getD (meaningIn t .items) (pred place) noItem .weights) ++ behind t (pred place)
+  counts-are = sym (drop-drop 6 at t) ∙ ap (λ (x : List ℕ). drop 6 x) record-is
+
+  levels-are : length (getD (meaningIn t .items) (pred place) noItem .weights) ≡ length (meaningIn t .rules)
+  levels-are = stored-levels (length (meaningIn t .rules)) (meaningIn t .items) (pred place) (rw ne at (sizes .place-in)) (table-good t (w .checked) .items)
+
+  -- how many weights stand at the level
+  count-is : getD t (at + 6 + level) 0 ≡ length (weightsAt (meaningIn t .items) level place)
+  unfolding weightsAt
+  count-is =
+      sym (getD-drop (at + 6) t level 0)
+      ∙ ap (λ (x : List ℕ). getD x level 0) counts-are
+      ∙ getD-counts (getD (meaningIn t .items) (pred place) noItem .weights) (behind t (pred place)) level (rw levels-are (w .in-levels))
+
+  module _ (before base : ℕ) (be : before ≡ total (take level (drop (at + 6) t))) (we : base ≡ recordAt l n) where
+    before-is : before ≡ countAll (take level (getD (meaningIn t .items) (pred place) noItem .weights))
+    before-is =
+        be
+        ∙ ap (λ (x : List ℕ). total (take level x)) counts-are
+        ∙ ap total (take-counts (getD (meaningIn t .items) (pred place) noItem .weights) (behind t (pred place)) level
+        (rw levels-are (let h = w .in-levels in omega arith)))
+        ∙ total-counts (getD (meaningIn t .items) (pred place) noItem .weights) level
+
+    from-is : drop (base + getD t (at + 4) 0 + before) t
+        ≡ flatten (drop level (getD (meaningIn t .items) (pred place) noItem .weights)) ++ weightNumbers (drop (suc (pred place)) (meaningIn t .items)) (restOf t)
+    from-is =
+        rw (we, start-is, le, ne, ← drop-drop before (recordAt (length (meaningIn t .rules)) (length (meaningIn t .items)) + weightCount (take (pred place) (meaningIn t .items))) t)
+        (ap (λ (x : List ℕ). drop before x) (table-weights t (w .checked) (pred place) (rw ne at (sizes .place-in)))
+        ∙ rw before-is
+        (level-drop (getD (meaningIn t .items) (pred place) noItem .weights) (weightNumbers (drop (suc (pred place)) (meaningIn t .items)) (restOf t)) level))
+
+    few-are : length (weightsAt (meaningIn t .items) level place) ≤ 8
+    few-are = good-count (weightsAt (meaningIn t .items) level place) (weightsAt-good (length (meaningIn t .rules)) (meaningIn t .items) (table-good t (w .checked) .items) level place)
+
+    run-is : take (getD t (at + 6 + level) 0) (drop (base + getD t (at + 4) 0 + before) t) ≡ weightsAt (meaningIn t .items) level place
+    unfolding weightsAt
+    run-is =
+        rw (count-is, from-is)
+        (level-take (getD (meaningIn t .items) (pred place) noItem .weights) (weightNumbers (drop (suc (pred place)) (meaningIn t .items)) (restOf t)) level)
+
+    pub weights-held : Holds t (record { from = base + getD t (at + 4) 0 + before; count = getD t (at + 6 + level) 0 }) (weightsAt (meaningIn t .items) level place)
+    weights-held = record {
+      is = run-is;
+      many = count-is;
+      few = rw count-is few-are;
+      inside = run-inside (getD t (at + 6 + level) 0) (base + getD t (at + 4) 0 + before) t (ap length run-is ∙ sym count-is);
+    }

@@ -5,13 +5,18 @@ use mathlib.Core.List.{List}
 use Prim.Native.Nat.{ℕ, _+_, _*_, _≤_, _<_}
 use lib.ListN.{length, getD, take, drop}
 use Rattle.rules.specs.Meaning as meaning
-use Rattle.rules.specs.Table.{accepted, meaningIn}
+use Rattle.rules.specs.Table.{accepted, meaningIn, total}
 use Rattle.layout.specs.declared.Rule.{Rule}
 use Rattle.layout.specs.declared.Run.{Run}
 
 -- where record k begins, counted from 0, in a table of l levels; the weights begin where record I would
 unfoldable pub recordAt : ℕ → ℕ → ℕ
 recordAt l k = 16 + l + k * (6 + l)
+
+-- The sum of at most eight numbers from a place on.
+pub record Totals (t : List ℕ) (from n r : ℕ) : Type 0 where
+  pub is : r ≡ total (take n (drop from t))
+  pub small : r ≤ 34359738360
 
 -- a rule as the paper has it
 abbrev pub ruleAs : Rule → meaning.Rule
@@ -33,4 +38,4 @@ pub record Holds (t : List ℕ) (r : Run) (weights : List ℕ) : Type 0 where
   pub is : take (r .count) (drop (r .from) t) ≡ weights
   pub many : r .count ≡ length weights
   pub few : r .count ≤ 8
-  pub inside : r .from + r .count ≤ length t
+  pub inside : 0 < r .count → r .from + r .count ≤ length t

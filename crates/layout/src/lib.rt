@@ -2,11 +2,10 @@
 ghost use mathlib.Core.Path.{_≡_};
 ghost use mathlib.Core.Bool.{true};
 ghost use Prim.Native.Nat.{_+_, _≤_, _<_};
-ghost use lib.ListN.{length, getD, take, drop};
-ghost use Rattle.rules.specs.Table.{accepted, meaningIn, total};
+ghost use lib.ListN.{length, getD};
+ghost use Rattle.rules.specs.Table.{accepted, meaningIn};
 ghost use Rattle.rules.specs.Order.{weightsAt};
-ghost use Rattle.layout.specs.Parts.{recordAt, ruleAs, ruleAt, Within, Holds};
-
+ghost use Rattle.layout.specs.Parts.{recordAt, Totals, ruleAs, ruleAt, Within, Holds};
 use units::Rank;
 
 // How the entries of a level are walked.
@@ -29,10 +28,10 @@ pub fn record_at(levels: usize, k: usize) -> usize
     16 + levels + k * (6 + levels)
 }
 
-// The sum of n numbers from a place on.
+// The sum of n numbers from a place on, at most eight of them.
 pub fn total_of(t: &[u32], from: usize, n: usize) -> usize
     requires { ⌜ (from + n ≤ length (now t)) × (n ≤ 8) ⌝ }
-    ensures { λ r. ⌜ r ≡ total (take n (drop from (now (t .entry)))) ⌝ }
+    ensures { λ r. ⌜ Totals (now (t .entry)) from n r ⌝ }
 {
     let mut sum: usize = 0;
     let mut i = from;

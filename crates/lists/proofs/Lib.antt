@@ -1,3 +1,4 @@
 pub mod Bools
 pub mod Places
 pub mod Lists
+pub mod Runs

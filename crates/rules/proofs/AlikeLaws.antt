@@ -1,14 +1,13 @@
 -- No two items are alike exactly where their keys are apart: the linear check of a table's permutation decides it.
 use mathlib.Core.Path.{_≡_, refl, sym, ap, _∙_, subst}
 use mathlib.Core.Logic.{_⊎_, inl, inr}
-use mathlib.Core.Bool.{Bool, true, false, not, _&&_, _||_, false≢true}
+use mathlib.Core.Bool.{Bool, true, false, not, false≢true}
 use mathlib.Core.List.{List, [], _∷_}
 use Prim.Native.Nat.{ℕ, suc, _<_}
 use native.Mathlib.Omega.{arith}
 use native.Mathlib.Decide.{decLt}
 use lib.ListN.{length, take}
-use lib.Dec.{eqb}
-use borrow.Author.Tests.{eq-eqb, eqb-true, not-true}
+use borrow.Author.Tests.{not-true}
 use Rattle.rules.specs.Text.{same, oneOf}
 use Rattle.rules.specs.Meaning.{Item, hasChars, noTwoAlike}
 use Rattle.rules.specs.Table.{placed, before, padded, unpadded, placedFrom}

@@ -11,8 +11,7 @@ use lib.Seq.{take-at, drop-at, getD-append-add}
 use borrow.Author.Tests.{eqb-true, eqb-false, eq-eqb, ne-eqb}
 use Rattle.lists.proofs.Bools.{and-intro, by, cond-true}
 use Rattle.rules.specs.Text.{if_then_else_, every, oneOf, granted}
-use Rattle.rules.specs.Lines.{defaults}
-use Rattle.rules.specs.Charmap.{mapStart, Given, Mapping, MapEnded, noCode, givesByte, mapLinesFrom, codeGiven, firstByte, encodes, numbersFrom, areaOf, charmapOf}
+use Rattle.rules.specs.Charmap.{mapStart, Given, MapEnded, noCode, givesByte, mapLinesFrom, codeGiven, firstByte, encodes, numbersFrom, areaOf, charmapOf}
 use Rattle.rules.specs.Coding.{isCode, goodOnes, onesOf, oneEach, areaAccepted, byteAt}
 use Rattle.rules.proofs.ResultLaws.{granted-else, granted-unique}
 use Rattle.rules.proofs.GivenLaws.{Good, good-none, code-once, code-none, lines-good}

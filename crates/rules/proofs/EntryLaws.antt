@@ -1,17 +1,16 @@
 -- The entries of a level: what each of them is where the weights are good, and how many there are.
 use mathlib.Core.Path.{_≡_, refl, _∙_}
-use mathlib.Core.Bool.{Bool, true, false, _&&_}
+use mathlib.Core.Bool.{Bool, true, false}
 use mathlib.Core.List.{List, [], _∷_, map}
 use Prim.Native.Nat.{ℕ, zero, suc, pred, _+_, _*_, _≤_}
 use native.Mathlib.Omega.{arith}
 use lib.ListN.{length, getD, length-map, length-reverse}
-use lib.Dec.{leb, eqb}
+use lib.Dec.{leb}
 use borrow.Author.Tests.{leb-true}
 use Rattle.lists.proofs.Bools.{and-left, and-right, cond-false, cond-both}
 use Rattle.lists.proofs.Lists.{All}
-use Rattle.rules.specs.Text.{every, oneOf, within}
-use Rattle.rules.specs.Names.{isCharacter}
-use Rattle.rules.specs.Meaning.{Rule, Item, Meaning, countAll, goodWeights, goodItem, hasChars, noTwoAlike, good}
+use Rattle.rules.specs.Text.{every, within}
+use Rattle.rules.specs.Meaning.{Rule, Item, countAll, goodWeights, goodItem}
 use Rattle.rules.specs.Order.{Entry, noItem, weightsAt, more, entriesFrom, walked, levelEntries}
 use Rattle.rules.proofs.TextLaws.{every-head, every-tail, every-getD, every-map, every-reverse, within-low, within-high}
 use Rattle.rules.proofs.MeaningLaws.{item-parts}

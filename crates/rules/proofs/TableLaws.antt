@@ -1,6 +1,6 @@
 -- What stores a good meaning is read back as that meaning, whatever follows it; and exactly what stores one is accepted.
-use mathlib.Core.Path.{_≡_, refl, ap, _∙_}
-use mathlib.Core.Bool.{Bool, true, false, not, _&&_, false≢true}
+use mathlib.Core.Path.{_≡_, refl, _∙_}
+use mathlib.Core.Bool.{Bool, true, false, not, _&&_}
 use mathlib.Core.List.{List, [], _∷_, _++_, map, flatten, append-assoc}
 use Prim.Native.Nat.{ℕ, zero, suc, _+_, _*_, _≤_}
 use native.Mathlib.Omega.{arith}
@@ -18,7 +18,7 @@ use Rattle.rules.specs.Table.{pad, ruleNumber, ruleOfNumber, padded, unp
 
 -- ## Rules
 
-rule-back : (b p : Bool) → ruleOfNumber (ruleNumber (record { backward = b; position = p })) ≡ record { backward = b; position = p }
+pub rule-back : (b p : Bool) → ruleOfNumber (ruleNumber (record { backward = b; position = p })) ≡ record { backward = b; position = p }
 unfolding ruleOfNumber ruleNumber
 rule-back true true = refl
 rule-back true false = refl

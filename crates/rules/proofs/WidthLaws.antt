@@ -1,7 +1,7 @@
 -- The numbers that store a good meaning fit 32 bits, and no two good meanings are stored alike.
 use mathlib.Core.Path.{_≡_, refl, sym, ap, _∙_}
 use mathlib.Core.Bool.{Bool, true, false, not}
-use mathlib.Core.List.{List, [], _∷_, _++_, map, flatten}
+use mathlib.Core.List.{List, [], _∷_, map, flatten}
 use Prim.Native.Nat.{ℕ, zero, suc, _+_, _*_, _≤_, _<_}
 use native.Mathlib.Omega.{arith}
 use lib.ListN.{length, getD, drop}
@@ -25,7 +25,7 @@ stored-unique m n x y g h e = sym (stored-back m x g) ∙ ap meaningIn e ∙ sto
 
 -- ## How many weights there are
 
-good-count : (ws : List ℕ) → goodWeights ws ≡ true → length ws ≤ 8
+pub good-count : (ws : List ℕ) → goodWeights ws ≡ true → length ws ≤ 8
 unfolding goodWeights
 good-count ws h = leb-true (length ws) 8 (and-left (leb (length ws) 8) (every (within 1 32768) ws) h)
 

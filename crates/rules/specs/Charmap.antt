@@ -1,5 +1,5 @@
 -- 01, "Charmaps": a charmap source to its 512 numbers, or a refusal and its line.
-use mathlib.Core.Bool.{Bool, true, false, not, _&&_, _||_}
+use mathlib.Core.Bool.{Bool, true, false, not, _&&_}
 use mathlib.Core.List.{List, [], _∷_, _++_, map}
 use Prim.Native.Nat.{ℕ, zero, suc, pred, _+_, _-_}
 use lib.ListN.{length, drop}

@@ -4,7 +4,7 @@ use mathlib.Core.List.{List, [], _∷_, _++_, map}
 use Prim.Native.Nat.{ℕ, suc, _+_}
 use lib.ListN.{length}
 use lib.Dec.{ltb, leb, eqb}
-use Rattle.rules.specs.Text.{if_then_else_, within, every, oneOf, same, is, _unless_, lower, lowest}
+use Rattle.rules.specs.Text.{if_then_else_, within, every, oneOf, same, is, _unless_, lowest}
 use Rattle.rules.specs.Names.{charShaped, codeOf, isCharacter}
 use Rattle.rules.specs.Tokens.{semi, comma, word, name, quote, Token, tokenAt, isSolid}
 use Rattle.rules.specs.Meaning.{Rule}

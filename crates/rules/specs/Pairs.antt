@@ -1,6 +1,5 @@
 -- 01, "Proved and run examples", the pairs program: what it writes, from the bytes of its two files and of its input. An absent file
 -- is an empty one.
-use mathlib.Core.Bool.{Bool}
 use mathlib.Core.List.{List, [], _∷_, _++_, map}
 use Prim.Native.Nat.{ℕ, zero, suc, _+_, _/_, _%_}
 use lib.ListN.{length}
