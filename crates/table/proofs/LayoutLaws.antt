@@ -1,0 +1,30 @@
+-- Where records begin: the laws of recordAt, which hides a product of two variables.
+use mathlib.Core.Path.{_≡_}
+use Prim.Native.Nat.{ℕ, suc, _+_, _*_, _≤_, _<_}
+use native.Mathlib.Numerals.{add-one}
+use native.Mathlib.Nat.{zero-mul, suc-mul, mul-le-mul, mul-le-mul-right}
+use native.Mathlib.Omega.{arith}
+use Rattle.table.specs.Checks.{recordAt}
+
+-- the records of n items of at most 8 levels take at most 14 numbers each
+product-small : (l n : ℕ) → l ≤ 8 → n ≤ 32768 → n * (6 + l) ≤ 458752
+product-small l n h k = mul-le-mul {n₁ = n} {m₁ = 6 + l} {n₂ = 32768} {m₂ = 14} k (omega arith)
+
+pub recordAt-is : (l k : ℕ) → recordAt l k ≡ 16 + l + k * (6 + l)
+unfolding recordAt
+recordAt-is l k = omega arith
+
+pub recordAt-zero : (l : ℕ) → recordAt l 0 ≡ 16 + l
+recordAt-zero l = omega (arith, recordAt-is l 0, zero-mul (6 + l))
+
+pub recordAt-next : (l k : ℕ) → recordAt l (suc k) ≡ recordAt l k + (6 + l)
+recordAt-next l k = omega (arith, recordAt-is l k, recordAt-is l (suc k), suc-mul k (6 + l))
+
+-- each record ends before the weights
+pub recordAt-room : (l k n : ℕ) → k < n → recordAt l k + (6 + l) ≤ recordAt l n
+recordAt-room l k n h =
+    let m : suc k * (6 + l) ≤ n * (6 + l) = mul-le-mul-right {m = suc k} {n = n} (6 + l) h in
+    omega (arith, recordAt-is l k, recordAt-is l n, suc-mul k (6 + l), m)
+
+pub recordAt-small : (l n : ℕ) → l ≤ 8 → n ≤ 32768 → recordAt l n ≤ 458776
+recordAt-small l n h k = omega (arith, recordAt-is l n, product-small l n h k)
