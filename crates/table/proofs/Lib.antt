@@ -1,3 +1,6 @@
 pub mod LayoutLaws
 pub mod RunLaws
-pub mod LoopLaws
+pub mod WithinLaws
+pub mod TotalLaws
+pub mod CharLaws
+pub mod BeforeLaws

@@ -1,7 +1,7 @@
 -- `table::all_within` meets its contract. The loop's invariant: the whole run passes exactly where its numbers from i on do. The measure is how many are left.
 use borrow.Author.Needs.{needs}
 use Prim.Native.Nat.{_-_}
-use Rattle.table.proofs.LoopLaws.{Within, within-none, within-low, within-high, within-more, within-all}
+use Rattle.table.proofs.WithinLaws.{Within, within-none, within-low, within-high, within-more, within-all}
 use Rattle.table.proofs.all_within.Statement.{statement}
 use Rattle.table.proofs.all_within.Tie as tie
 

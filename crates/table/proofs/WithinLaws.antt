@@ -1,19 +1,13 @@
--- The loops over a run of numbers: what each knows when its test is reached, and what a turn or a return makes of that.
-use mathlib.Core.Path.{_≡_, refl, sym, ap, _∙_}
-use mathlib.Core.Bool.{Bool, true, false, not, _&&_, _||_}
-use mathlib.Core.List.{List, [], _∷_}
-use Prim.Native.Nat.{ℕ, suc, _+_, _-_, _*_, _≤_, _<_}
-use native.Mathlib.Numerals.{add-one}
+-- The loop of all_within: what it knows when its test is reached, and what a turn or a return makes of that.
+use mathlib.Core.Path.{_≡_, sym, _∙_}
+use mathlib.Core.Bool.{true, false}
+use mathlib.Core.List.{List}
+use Prim.Native.Nat.{ℕ, _+_, _≤_, _<_}
 use native.Mathlib.Omega.{arith}
 use lib.ListN.{length, getD, take, drop}
-use lib.Dec.{leb, ltb, eqb}
-use borrow.Author.Tests.{le-leb, lt-leb, lt-ltb, le-ltb, eq-eqb, ne-eqb}
+use borrow.Author.Tests.{le-leb, lt-leb}
 use Rattle.rules.specs.Text.{within, every}
-use Rattle.rules.specs.Names.{isCharacter}
-use Rattle.rules.specs.Table.{pad, before, total}
-use Rattle.table.proofs.RunLaws.{run, run-whole, run-part, run-none, run-cons}
-
--- ## all_within
+use Rattle.table.proofs.RunLaws.{run, run-whole, run-none, run-cons}
 
 -- the numbers before i passed
 pub record Within (t : List ℕ) (from n low high end i : ℕ) : Type 0 where
