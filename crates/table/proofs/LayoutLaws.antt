@@ -4,6 +4,8 @@ use Prim.Native.Nat.{ℕ, suc, _+_, _*_, _≤_, _<_}
 use native.Mathlib.Numerals.{add-one}
 use native.Mathlib.Nat.{zero-mul, suc-mul, mul-le-mul, mul-le-mul-right}
 use native.Mathlib.Omega.{arith}
+use mir.Syntax.{w32, w64}
+use mir.Val.{Fits}
 use Rattle.table.specs.Checks.{recordAt}
 
 -- the records of n items of at most 8 levels take at most 14 numbers each
@@ -28,3 +30,11 @@ recordAt-room l k n h =
 
 pub recordAt-small : (l n : ℕ) → l ≤ 8 → n ≤ 32768 → recordAt l n ≤ 458776
 recordAt-small l n h k = omega (arith, recordAt-is l n, product-small l n h k)
+
+-- a record's first four numbers are inside whatever holds all records
+pub record-room : (l k n : ℕ) {a size : ℕ} → a ≡ recordAt l k → k < n → recordAt l n ≤ size → a + 4 ≤ size
+record-room l k n e h f = omega (arith, e, recordAt-room l k n h)
+
+-- a table's size fits
+pub end-fits : (l k : ℕ) {a w : ℕ} → a ≡ recordAt l k → l ≤ 8 → k ≤ 32768 → Fits w32 w → Fits w64 (a + w)
+end-fits l k e h g f = omega (arith, e, recordAt-small l k h g)

@@ -4,3 +4,4 @@ pub mod WithinLaws
 pub mod TotalLaws
 pub mod CharLaws
 pub mod BeforeLaws
+pub mod HeadLaws
