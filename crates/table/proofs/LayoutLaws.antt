@@ -31,9 +31,9 @@ recordAt-room l k n h =
 pub recordAt-small : (l n : ℕ) → l ≤ 8 → n ≤ 32768 → recordAt l n ≤ 458776
 recordAt-small l n h k = omega (arith, recordAt-is l n, product-small l n h k)
 
--- a record's first four numbers are inside whatever holds all records
-pub record-room : (l k n : ℕ) {a size : ℕ} → a ≡ recordAt l k → k < n → recordAt l n ≤ size → a + 4 ≤ size
-record-room l k n e h f = omega (arith, e, recordAt-room l k n h)
+-- each record lies in what holds them all
+pub record-room : (l k n size : ℕ) {a : ℕ} → a ≡ recordAt l k → k < n → recordAt l n ≤ size → a + 6 + l ≤ size
+record-room l k n size e h f = omega (arith, e, recordAt-room l k n h)
 
 -- a table's size fits
 pub end-fits : (l k : ℕ) {a w : ℕ} → a ≡ recordAt l k → l ≤ 8 → k ≤ 32768 → Fits w32 w → Fits w64 (a + w)

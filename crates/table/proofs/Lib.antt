@@ -5,3 +5,5 @@ pub mod TotalLaws
 pub mod CharLaws
 pub mod BeforeLaws
 pub mod HeadLaws
+pub mod RecordLaws
+pub mod RecordsLaws

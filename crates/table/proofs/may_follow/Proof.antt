@@ -1,6 +1,8 @@
 -- `table::may_follow` meets its contract: any place follows none, and the keys of two places lie in their records.
+use native.Mathlib.Omega.{arith}
 use borrow.Author.Needs.{needs}
 use Prim.Native.Nat.{_-_}
+use lib.ListN.{length}
 use Rattle.table.proofs.LayoutLaws.{record-room}
 use Rattle.table.proofs.BeforeLaws.{follows-first, follows-larger}
 use Rattle.table.proofs.may_follow.Statement.{statement}
@@ -23,10 +25,10 @@ record-at-requires-2 c κs = search needs
 
 before-at-requires : tie.Need-before-at-requires
 before-at-requires c κs =
-    let a = c .before .before .before .before .args in (
-      record-room (a .levels) (a .last - 1) (a .items) (c .before .record-at .ensures) (search needs) (search needs),
-      record-room (a .levels) (a .p - 1) (a .items) (c .record-at2 .ensures) (search needs) (search needs),
-    )
+    let a = c .before .before .before .before .args in
+    let one = record-room (a .levels) (a .last - 1) (a .items) (length (a .t .now)) (c .before .record-at .ensures) (search needs) (search needs) in
+    let other = record-room (a .levels) (a .p - 1) (a .items) (length (a .t .now)) (c .record-at2 .ensures) (search needs) (search needs) in
+    omega arith
 
 returns-2 : tie.Need-returns-2
 returns-2 c = search follows-larger
