@@ -4,6 +4,8 @@ pub mod WithinLaws
 pub mod TotalLaws
 pub mod CharLaws
 pub mod BeforeLaws
+pub mod OneRecordLaws
+pub mod AllRecordsLaws
 pub mod HeadLaws
-pub mod RecordLaws
-pub mod RecordsLaws
+pub mod WholeLaws
+pub mod ShapeLaws

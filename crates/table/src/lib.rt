@@ -223,9 +223,9 @@ fn head_passes(t: &[u32]) -> bool
     false
 }
 
-// Whether the area begins with an accepted table.
-pub fn accepts(t: &[u32]) -> bool
-    ensures { λ r. ⌜ r ≡ accepted (now (t .entry)) ⌝ }
+// Whether the header, the rules, the records and the weights pass.
+fn passes(t: &[u32]) -> bool
+    ensures { λ r. ⌜ r ≡ checks (now (t .entry)) ⌝ }
 {
     let head = head_passes(t);
     if head {
@@ -244,6 +244,13 @@ pub fn accepts(t: &[u32]) -> bool
         return false;
     }
     false
+}
+
+// Whether the area begins with an accepted table.
+pub fn accepts(t: &[u32]) -> bool
+    ensures { λ r. ⌜ r ≡ accepted (now (t .entry)) ⌝ }
+{
+    passes(t)
 }
 
 // The check of a table area: how large the accepted table is, or that it is not accepted. It has no `requires`.

@@ -2,7 +2,7 @@
 use native.Mathlib.Omega.{arith}
 use borrow.Author.Needs.{needs}
 use Prim.Native.Nat.{_+_}
-use Rattle.table.proofs.RecordLaws.{record-chars, record-from, record-none, record-past, record-smaller, record-counts}
+use Rattle.table.proofs.OneRecordLaws.{record-chars, record-from, record-none, record-past, record-smaller, record-counts}
 use Rattle.table.proofs.record_passes.Statement.{statement}
 use Rattle.table.proofs.record_passes.Tie as tie
 

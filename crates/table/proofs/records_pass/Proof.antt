@@ -4,7 +4,7 @@ use native.Mathlib.Omega.{arith}
 use Prim.Native.Nat.{_+_, _-_, _≤_}
 use lib.ListN.{length}
 use Rattle.table.proofs.LayoutLaws.{record-room}
-use Rattle.table.proofs.RecordsLaws.{Records, records-none, records-no, records-fits, records-more, records-last, records-other, records-all}
+use Rattle.table.proofs.AllRecordsLaws.{Records, records-none, records-no, records-fits, records-more, records-last, records-other, records-all}
 use Rattle.table.proofs.records_pass.Statement.{statement}
 use Rattle.table.proofs.records_pass.Tie as tie
 

@@ -1,11 +1,11 @@
 -- The loop of records_pass: what it knows when its test is reached, and what a turn or a return makes of that.
-use mathlib.Core.Path.{_≡_, refl, sym, _∙_}
+use mathlib.Core.Path.{_≡_, sym, _∙_}
 use mathlib.Core.Bool.{Bool, true, false, _&&_}
 use mathlib.Core.List.{List}
 use Prim.Native.Nat.{ℕ, suc, _+_, _-_, _*_, _≤_, _<_}
 use native.Mathlib.Numerals.{add-one, sub-one}
 use native.Mathlib.Omega.{arith}
-use lib.ListN.{length, getD, take, drop}
+use lib.ListN.{getD, take, drop}
 use lib.Seq.{getD-take, getD-drop, drop-drop}
 use lib.Dec.{eqb}
 use mir.Syntax.{w64}
@@ -13,8 +13,8 @@ use mir.Val.{Fits}
 use borrow.Author.Tests.{eq-eqb, ne-eqb}
 use Rattle.rules.specs.Table.{pad, total}
 use Rattle.table.specs.Checks.{recordAt, keyIn, recordPasses, recordsPass}
-use Rattle.table.proofs.LayoutLaws.{recordAt-next}
-use Rattle.table.proofs.RecordLaws.{Passed, record-passed, passed-total}
+use Rattle.table.proofs.LayoutLaws.{recordAt-suc}
+use Rattle.table.proofs.OneRecordLaws.{Passed, record-passed, passed-total}
 
 -- the first k records passed, with sum weights, and their last place is last
 pub record Records (t : List ℕ) (l n w k sum last : ℕ) : Type 0 where
@@ -33,11 +33,10 @@ records-none t l n w = let e : n - 0 ≡ n = omega arith in record {
   same = rw e;
 }
 
--- the record that begins k further
+-- after record k comes record k + 1
 next : (t : List ℕ) (l k : ℕ) → drop l (drop 6 (drop (recordAt l k) t)) ≡ drop (recordAt l (k + 1)) t
 next t l k =
-    let e : recordAt l k + 6 + l ≡ recordAt l (suc k) = omega (arith, recordAt-next l k) in
-    rw (drop-drop 6 (recordAt l k) t, drop-drop l (recordAt l k + 6) t, e, add-one k)
+    rw (drop-drop 6 (recordAt l k) t, drop-drop l (recordAt l k + 6) t, add-one k, recordAt-suc l k)
 
 module _ {t : List ℕ} {l n w k sum last : ℕ} (v : Records t l n w k sum last) where
   module _ {a : ℕ} {ok : Bool} (h : k < n) (at : a ≡ recordAt l k) (is : ok ≡ recordPasses t l n sum last (drop a t)) where
