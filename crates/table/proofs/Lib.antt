@@ -1,0 +1,4 @@
+pub mod ItemLaws
+pub mod ItemsLaws
+pub mod ListedLaws
+pub mod CheckLaws
