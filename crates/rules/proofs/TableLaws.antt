@@ -29,7 +29,7 @@ rules-back : (rs : List Rule) (rest : List ℕ) → map ruleOfNumber (take (leng
 rules-back [] rest = refl
 rules-back (r ∷ rs) rest = rw (rule-back (r .backward) (r .position), rules-back rs rest)
 
-rules-drop : (rs : List Rule) (rest : List ℕ) → drop (length rs) (map ruleNumber rs ++ rest) ≡ rest
+pub rules-drop : (rs : List Rule) (rest : List ℕ) → drop (length rs) (map ruleNumber rs ++ rest) ≡ rest
 rules-drop [] rest = refl
 rules-drop (r ∷ rs) rest = rules-drop rs rest
 
@@ -56,11 +56,11 @@ cut-back [] rest = refl
 cut-back (w ∷ ws) rest =
     rw (append-assoc w (flatten ws) rest, take-append-seam w (flatten ws ++ rest), drop-append-seam w (flatten ws ++ rest), cut-back ws rest)
 
-counts-take : (ws : List (List ℕ)) (rest : List ℕ) → take (length ws) (counts ws ++ rest) ≡ counts ws
+pub counts-take : (ws : List (List ℕ)) (rest : List ℕ) → take (length ws) (counts ws ++ rest) ≡ counts ws
 counts-take [] rest = refl
 counts-take (w ∷ ws) rest = rw (counts-take ws rest)
 
-counts-drop : (ws : List (List ℕ)) (rest : List ℕ) → drop (length ws) (counts ws ++ rest) ≡ rest
+pub counts-drop : (ws : List (List ℕ)) (rest : List ℕ) → drop (length ws) (counts ws ++ rest) ≡ rest
 counts-drop [] rest = refl
 counts-drop (w ∷ ws) rest = counts-drop ws rest
 
@@ -97,7 +97,7 @@ items-back l (i ∷ is) at ps rest more h =
     )
 
 -- the records of I items take I x (6 + L) numbers
-records-drop : (l : ℕ) (is : List Item) (at : ℕ) (ps rest : List ℕ) → AllStored l is → drop (length is * (6 + l)) (itemNumbers at ps is rest) ≡ rest
+pub records-drop : (l : ℕ) (is : List Item) (at : ℕ) (ps rest : List ℕ) → AllStored l is → drop (length is * (6 + l)) (itemNumbers at ps is rest) ≡ rest
 unfolding itemNumbers
 records-drop l [] at ps rest h = simp native.Mathlib.Nat.zero-mul
 records-drop l (i ∷ is) at ps rest h =
@@ -122,7 +122,7 @@ stored-read m rest h =
 
 -- ## A good meaning can be stored
 
-char-no-pad : (c : ℕ) → isCharacter c ≡ true → eqb c pad ≡ false
+pub char-no-pad : (c : ℕ) → isCharacter c ≡ true → eqb c pad ≡ false
 char-no-pad c h =
     let k = leb-true c 0x10FFFF (and-left (leb c 0x10FFFF) (not (within 0xD800 0xDFFF c)) h) in
     ne-eqb c pad (omega arith)
@@ -158,7 +158,7 @@ items-append at ps (i ∷ is) x y =
       items-append (at + countAll (i .weights)) (drop 1 ps) is x y,
     )
 
-weights-append : (is : List Item) (x y : List ℕ) → weightNumbers is x ++ y ≡ weightNumbers is (x ++ y)
+pub weights-append : (is : List Item) (x y : List ℕ) → weightNumbers is x ++ y ≡ weightNumbers is (x ++ y)
 unfolding weightNumbers
 weights-append [] x y = refl
 weights-append (i ∷ is) x y = rw (append-assoc (flatten (i .weights)) (weightNumbers is x) y, weights-append is x y)

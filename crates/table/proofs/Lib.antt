@@ -8,4 +8,8 @@ pub mod OneRecordLaws
 pub mod AllRecordsLaws
 pub mod HeadLaws
 pub mod WholeLaws
+pub mod ItemLaws
+pub mod ItemsLaws
+pub mod ListedLaws
+pub mod CheckLaws
 pub mod ShapeLaws
