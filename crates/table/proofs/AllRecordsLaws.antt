@@ -14,7 +14,7 @@ use borrow.Author.Tests.{eq-eqb, ne-eqb}
 use Rattle.rules.specs.Table.{pad, total}
 use Rattle.table.specs.Checks.{recordAt, keyIn, recordPasses, recordsPass}
 use Rattle.table.proofs.LayoutLaws.{recordAt-suc}
-use Rattle.table.proofs.OneRecordLaws.{Passed, record-passed, passed-total}
+use Rattle.table.proofs.OneRecordLaws.{InRange, record-in-range, in-range-total}
 
 -- the first k records passed, with sum weights, and their last place is last
 pub record Records (t : List ℕ) (l n w k sum last : ℕ) : Type 0 where
@@ -53,17 +53,17 @@ module _ {t : List ℕ} {l n w k sum last : ℕ} (v : Records t l n w k sum last
     records-no e = sym (step ∙ rw e)
 
     module _ (few : l ≤ 8) (yes-record : ok ≡ true) where
-      passed : Passed t l n a
-      passed = record-passed t l n a sum last (sym is ∙ yes-record)
+      passed : InRange t l n a
+      passed = record-in-range t l n a sum last (sym is ∙ yes-record)
 
       module _ {s : ℕ} (counted : s ≡ total (take l (drop (a + 6) t))) where
         pub records-fits : n ≤ 32768 → Fits w64 (sum + s)
-        records-fits g = omega (arith, counted, passed-total passed, v .small)
+        records-fits g = omega (arith, counted, in-range-total passed, v .small)
 
         pub records-more : Records t l n w (k + 1) (sum + s) (getD t (a + 5) 0)
         records-more = record {
           to = omega arith;
-          small = omega (arith, counted, passed-total passed, v .small);
+          small = omega (arith, counted, in-range-total passed, v .small);
           place = passed .place;
           some = λ g. passed .some;
           same = step ∙ rw (yes-record, counted);

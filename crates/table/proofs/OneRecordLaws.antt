@@ -64,13 +64,13 @@ module _ (t : List ℕ) (l n a w last : ℕ) where
 -- ## A record that passes
 
 -- its place is one of n, and its counts are at most 8
-pub record Passed (t : List ℕ) (l n a : ℕ) : Type 0 where
+pub record InRange (t : List ℕ) (l n a : ℕ) : Type 0 where
   pub some : 1 ≤ getD t (a + 5) 0
   pub place : getD t (a + 5) 0 ≤ n
   pub counts : every (within 0 8) (take l (drop (a + 6) t)) ≡ true
 
-pub record-passed : (t : List ℕ) (l n a w last : ℕ) → recordPasses t l n w last (drop a t) ≡ true → Passed t l n a
-record-passed t l n a w last h =
+pub record-in-range : (t : List ℕ) (l n a w last : ℕ) → recordPasses t l n w last (drop a t) ≡ true → InRange t l n a
+record-in-range t l n a w last h =
     let p : ℕ = getD t (a + 5) 0 in
     let chars : Bool = charsPass (take 4 (drop a t)) in
     let from : Bool = eqb (getD t (a + 4) 0) w in
@@ -95,7 +95,7 @@ total-bound (x ∷ xs) h =
     omega arith
 
 -- counts of at most 8 add up to at most 8 for each level
-pub passed-total : {t : List ℕ} {l n a : ℕ} → Passed t l n a → total (take l (drop (a + 6) t)) ≤ 8 * l
-passed-total {t} {l} {n} {a} p =
+pub in-range-total : {t : List ℕ} {l n a : ℕ} → InRange t l n a → total (take l (drop (a + 6) t)) ≤ 8 * l
+in-range-total {t} {l} {n} {a} p =
     let xs : List ℕ = drop (a + 6) t in
     omega (arith, total-bound (take l xs) (p .counts), length-take l xs)

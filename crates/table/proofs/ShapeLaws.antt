@@ -1,72 +1,36 @@
--- The header of an accepted table counts what the table's meaning has: the answers of check.
+-- The answers of check: the header of an accepted table is in its ranges, and counts what the table's meaning has.
 use mathlib.Core.Path.{_≡_, refl, sym, _∙_}
-use mathlib.Core.Bool.{Bool, true, false}
-use mathlib.Core.List.{List, []}
-use Prim.Native.Nat.{ℕ, _+_, _≤_}
-use native.Mathlib.Omega.{arith}
-use lib.ListN.{length, getD, drop}
-use Rattle.rules.specs.Meaning.{Meaning, weightCount, sizeOf, good}
-use Rattle.rules.specs.Table.{storedForm, meaningIn, accepted}
+use mathlib.Core.Bool.{Bool, true, false, _&&_}
+use mathlib.Core.List.{List}
+use Prim.Native.Nat.{ℕ, _+_}
+use lib.ListN.{getD, take, drop}
+use Rattle.lists.proofs.Bools.{and-left}
+use Rattle.rules.specs.Text.{within, every}
+use Rattle.rules.specs.Table.{accepted}
 use Rattle.rules.specs.Calls.{checkCall}
-use Rattle.rules.proofs.MeaningLaws.{good-parts}
-use Rattle.rules.proofs.TableLaws.{accepted-stored}
 use Rattle.units.specs.declared.Refusal.the-variants.{NotAccepted}
 use Rattle.table.specs.declared.Verdict.the-variants.{Accepted, Refused}
-use Rattle.table.specs.Checks.{recordAt}
+use Rattle.table.specs.Checks.{recordAt, headPasses, recordsPass, checks}
 use Rattle.table.specs.Answers.{checkedAs}
+use Rattle.table.proofs.HeadLaws.{Headed, head-parts}
+use Rattle.table.proofs.CheckLaws.{accepted-checks, accepted-sized}
 
--- ## The header of a stored form
-
-stored-levels : (m : Meaning) (rest : List ℕ) → getD (storedForm m rest) 0 0 ≡ length (m .rules)
-unfolding storedForm
-stored-levels m rest = refl
-
-stored-items : (m : Meaning) (rest : List ℕ) → getD (storedForm m rest) 1 0 ≡ length (m .items)
-unfolding storedForm
-stored-items m rest = refl
-
-stored-weights : (m : Meaning) (rest : List ℕ) → getD (storedForm m rest) 2 0 ≡ weightCount (m .items)
-unfolding storedForm
-stored-weights m rest = refl
-
-stored-long : (m : Meaning) (rest : List ℕ) → 16 ≤ length (storedForm m rest)
-unfolding storedForm
-stored-long m rest = omega arith
-
--- ## An accepted table
-
-pub record Shaped (t : List ℕ) : Type 0 where
-  pub long : 16 ≤ length t
-  pub few-levels : getD t 0 0 ≤ 8
-  pub few-items : getD t 1 0 ≤ 32768
-  pub levels : getD t 0 0 ≡ length (meaningIn t .rules)
-  pub items : getD t 1 0 ≡ length (meaningIn t .items)
-  pub size : recordAt (getD t 0 0) (getD t 1 0) + getD t 2 0 ≡ sizeOf (meaningIn t)
-
-shape-stored : (t : List ℕ) (m : Meaning) (rest : List ℕ) → meaningIn t ≡ m → good m ≡ true → t ≡ storedForm m rest → Shaped t
-unfolding recordAt sizeOf
-shape-stored t m rest e g s =
-    let p = good-parts m g in
-    let l : getD t 0 0 ≡ length (m .rules) = rw s (stored-levels m rest) in
-    let i : getD t 1 0 ≡ length (m .items) = rw s (stored-items m rest) in
-    let w : getD t 2 0 ≡ weightCount (m .items) = rw s (stored-weights m rest) in
-    record {
-      long = rw s (stored-long m rest);
-      few-levels = omega (arith, l, p .few-levels);
-      few-items = omega (arith, i, p .few-items);
-      levels = rw e l;
-      items = rw e i;
-      size = rw (e, l, i, w);
-    }
-
-pub accepted-shape : (t : List ℕ) {r : Bool} → r ≡ accepted t → r ≡ true → Shaped t
-accepted-shape t p e =
-    let a = accepted-stored t (sym p ∙ e) in
-    shape-stored t (meaningIn t) (drop (length (storedForm (meaningIn t) [])) t) refl (a .0) (a .1)
-
--- ## check
+checks-head : (t : List ℕ) → checks t ≡ true → headPasses t ≡ true
+unfolding checks
+checks-head t h =
+    let l : ℕ = getD t 0 0 in
+    let n : ℕ = getD t 1 0 in
+    let w : ℕ = getD t 2 0 in
+    let head : Bool = headPasses t in
+    let rules : Bool = every (within 0 3) (take l (drop 16 t)) in
+    let records : Bool = recordsPass t l n w n 0 0 (drop (recordAt l 0) t) in
+    let weights : Bool = every (within 1 32768) (take w (drop (recordAt l n) t)) in
+    and-left head rules (and-left (head && rules) records (and-left (head && rules && records) weights h))
 
 module _ (t : List ℕ) {r : Bool} (is : r ≡ accepted t) where
+  pub accepted-headed : r ≡ true → Headed t
+  accepted-headed e = head-parts t refl (checks-head t (sym (accepted-checks t) ∙ sym is ∙ e))
+
   pub check-refused : r ≡ false → checkedAs (Refused NotAccepted) ≡ checkCall t
   unfolding checkCall
   check-refused e = rw (← is, e)
@@ -74,6 +38,4 @@ module _ (t : List ℕ) {r : Bool} (is : r ≡ accepted t) where
   pub check-accepted : {from : ℕ} → r ≡ true → from ≡ recordAt (getD t 0 0) (getD t 1 0)
       → checkedAs (Accepted (record { levels = getD t 0 0; items = getD t 1 0; size = from + getD t 2 0 })) ≡ checkCall t
   unfolding checkCall
-  check-accepted e f =
-      let s = accepted-shape t is e in
-      rw (← is, e, f, s .size, s .levels, s .items)
+  check-accepted e f = let s = accepted-sized t (sym is ∙ e) in rw (← is, e, f, s .size, s .levels, s .items)
