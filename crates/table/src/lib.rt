@@ -117,7 +117,7 @@ pub fn before_at(t: &[u32], a: usize, b: usize) -> bool
         }
         i += 1;
     }
-    false
+    false // all four are the same
 }
 
 // Whether the place p may follow the place `last` in the permutation, 0 standing before the first.
