@@ -73,6 +73,7 @@ module _ {t : List ℕ} {l n w k sum last : ℕ} (v : Records t l n w k sum last
     pub records-last : 1 ≤ n → 1 ≤ last
     records-last g = v .some (omega arith)
 
+    -- what is left after the last record
     end : recordsPass t l n w n 0 0 (drop (recordAt l 0) t) ≡ (eqb sum w && eqb (getD t (recordAt l (last - 1)) 0) pad)
     unfolding recordsPass keyIn
     end =

@@ -28,7 +28,7 @@ module _ (t : List ℕ) (long : 16 ≤ length t) where
   head-many-levels h = rw (le-leb 16 (length t) long, le-leb 1 (getD t 0 0) (omega arith), lt-leb (getD t 0 0) 8 h)
 
   module _ (some : getD t 0 0 ≡ 0 → ⊥) (few : getD t 0 0 ≤ 8) where
-    -- what is left where there are 1 to 8 levels
+    -- 1 to 8 levels pass
     levels-pass : within 1 8 (getD t 0 0) ≡ true
     levels-pass = rw (le-leb 1 (getD t 0 0) (omega arith), le-leb (getD t 0 0) 8 few)
 
@@ -54,6 +54,7 @@ module _ (t : List ℕ) (long : 16 ≤ length t) where
 
 -- ## A header that passes
 
+-- its numbers are in their ranges, and the area holds what they count
 pub record Headed (t : List ℕ) : Type 0 where
   pub long : 16 ≤ length t
   pub some-levels : 1 ≤ getD t 0 0

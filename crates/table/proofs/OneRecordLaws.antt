@@ -18,39 +18,39 @@ use Rattle.table.specs.Checks.{charsPass, follows, recordPasses}
 
 module _ (t : List ℕ) (l n a w last : ℕ) where
   -- the record at a place, by the table's own places
-  record-at : recordPasses t l n w last (drop a t)
+  record-is : recordPasses t l n w last (drop a t)
       ≡ (charsPass (take 4 (drop a t))
       && eqb (getD t (a + 4) 0) w
       && within 1 n (getD t (a + 5) 0)
       && follows t l last (getD t (a + 5) 0)
       && every (within 0 8) (take l (drop (a + 6) t)))
   unfolding recordPasses
-  record-at = rw (getD-drop a t 4 0, getD-drop a t 5 0, drop-drop 6 a t)
+  record-is = rw (getD-drop a t 4 0, getD-drop a t 5 0, drop-drop 6 a t)
 
   module _ {c : Bool} (chars : c ≡ charsPass (take 4 (drop a t))) where
     pub record-chars : c ≡ false → false ≡ recordPasses t l n w last (drop a t)
-    record-chars e = sym (record-at ∙ rw (← chars, e))
+    record-chars e = sym (record-is ∙ rw (← chars, e))
 
     module _ (yes-chars : c ≡ true) where
       pub record-from : (getD t (a + 4) 0 ≡ w → ⊥) → false ≡ recordPasses t l n w last (drop a t)
-      record-from e = sym (record-at ∙ rw (← chars, yes-chars, ne-eqb (getD t (a + 4) 0) w e))
+      record-from e = sym (record-is ∙ rw (← chars, yes-chars, ne-eqb (getD t (a + 4) 0) w e))
 
       module _ (from : getD t (a + 4) 0 ≡ w) where
         pub record-none : getD t (a + 5) 0 ≡ 0 → false ≡ recordPasses t l n w last (drop a t)
-        record-none e = sym (record-at ∙ rw (← chars, yes-chars, eq-eqb (getD t (a + 4) 0) w from, e))
+        record-none e = sym (record-is ∙ rw (← chars, yes-chars, eq-eqb (getD t (a + 4) 0) w from, e))
 
         module _ (some : getD t (a + 5) 0 ≡ 0 → ⊥) where
           first : leb 1 (getD t (a + 5) 0) ≡ true
           first = le-leb 1 (getD t (a + 5) 0) (omega arith)
 
           pub record-past : n < getD t (a + 5) 0 → false ≡ recordPasses t l n w last (drop a t)
-          record-past h = sym (record-at ∙ rw (← chars, yes-chars, eq-eqb (getD t (a + 4) 0) w from, first, lt-leb (getD t (a + 5) 0) n h))
+          record-past h = sym (record-is ∙ rw (← chars, yes-chars, eq-eqb (getD t (a + 4) 0) w from, first, lt-leb (getD t (a + 5) 0) n h))
 
           module _ (h : getD t (a + 5) 0 ≤ n) {r : Bool} (larger : r ≡ follows t l last (getD t (a + 5) 0)) where
             pub record-smaller : r ≡ false → false ≡ recordPasses t l n w last (drop a t)
             record-smaller e =
                 sym
-                (record-at
+                (record-is
                 ∙ rw (← chars, yes-chars, eq-eqb (getD t (a + 4) 0) w from, first, le-leb (getD t (a + 5) 0) n h, ← larger, e))
 
             pub record-counts : {q : Bool} → r ≡ true → q ≡ every (within 0 8) (take l (drop (a + 6) t))
@@ -58,7 +58,7 @@ module _ (t : List ℕ) (l n a w last : ℕ) where
             record-counts e p =
                 p
                 ∙ sym
-                (record-at
+                (record-is
                 ∙ rw (← chars, yes-chars, eq-eqb (getD t (a + 4) 0) w from, first, le-leb (getD t (a + 5) 0) n h, ← larger, e))
 
 -- ## A record that passes
@@ -77,7 +77,7 @@ record-in-range t l n a w last h =
     let place : Bool = within 1 n p in
     let larger : Bool = follows t l last p in
     let counts : Bool = every (within 0 8) (take l (drop (a + 6) t)) in
-    let all : (chars && from && place && larger && counts) ≡ true = sym (record-at t l n a w last) ∙ h in
+    let all : (chars && from && place && larger && counts) ≡ true = sym (record-is t l n a w last) ∙ h in
     let placed : place ≡ true =
     and-right (chars && from) place (and-left (chars && from && place) larger (and-left (chars && from && place && larger) counts all)) in
     record {

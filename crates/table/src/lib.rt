@@ -1,8 +1,7 @@
 // The check of a table: one pass over its numbers, before any operation reads them. docs/TABLE.md has the layout.
 ghost use mathlib.Core.Path.{_≡_};
-ghost use mathlib.Core.Bool.{true};
-ghost use Prim.Native.Nat.{_+_, _≤_, _<_};
-ghost use lib.ListN.{length, getD, take, drop};
+ghost use Prim.Native.Nat.{_+_, _≤_};
+ghost use lib.ListN.{length, take, drop};
 ghost use Rattle.rules.specs.Text.{within, every};
 ghost use Rattle.rules.specs.Names.{isCharacter};
 ghost use Rattle.rules.specs.Table.{before, total, accepted};
