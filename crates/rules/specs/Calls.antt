@@ -84,7 +84,7 @@ stepCall table s at =
 
 -- ## compare
 
--- The refusal, and the answer; the sign 0 is that of equal strings.
+-- The refusal, and the answer; where all other answers are 0, the sign is that of equal strings.
 pub record Compared : Type 0 where
   pub refusal : ℕ
   pub answer : Answer

@@ -6,7 +6,7 @@ use lib.ListN.{length, drop}
 use lib.Dec.{ltb, leb, eqb}
 use Rattle.rules.specs.Text.{if_then_else_, every, oneOf, is, begins, _unless_, lower, lowest, Result, granted, refused}
 use Rattle.rules.specs.Names.{namesRefusal, hexValue, codeOf, isCharName}
-use Rattle.rules.specs.Tokens.{isText, word, Token, tokenAt, theName, single, withoutBlanks, tokensOf, operands, tokensRefusal, isRange, isEntry}
+use Rattle.rules.specs.Tokens.{isText, word, Token, tokenAt, theName, single, withoutBlanks, tokensOf, operands, isRange, isEntry}
 use Rattle.rules.specs.Lines.{Signs, Scan, lineOf, Chars, defaults, signRefusal, signSet}
 
 -- ## The state between two lines
@@ -42,7 +42,7 @@ leaves r m = record { refusal = r; mapping = m }
 unfoldable pub signHeader : Mapping → Bool → List Token → ℕ → MapOutcome
 signHeader m isComment os bad =
     leaves
-    (lowest (bad ∷ tokensRefusal os ∷ signRefusal (m .chars) isComment os ∷ []))
+    (lower bad (signRefusal (m .chars) isComment os))
     (record { chars = signSet (m .chars) isComment os; opened = false; closed = false; given = [] })
 
 -- a line that begins with `<` (60)

@@ -32,7 +32,7 @@ ranksOf ls xs = map (rankOf ls) xs
 unfoldable pub lineRanks : List OrderLine → OrderLine → List (List ℕ)
 lineRanks ls l = map (ranksOf ls) (l .weights)
 
--- an item for each line but a symbol's; their ranks are their places among `ranked`
+-- an item for each line but a symbol's; a weight's rank is the place of its line among `ranked`
 unfoldable pub itemsFrom : List Declaration → List OrderLine → List OrderLine → List Item
 itemsFrom ds ranked [] = []
 itemsFrom ds ranked (l ∷ ls) =

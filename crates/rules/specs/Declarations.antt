@@ -26,7 +26,7 @@ unfoldable pub declaresChars : List ℕ → Declaration → Bool
 declaresChars cs (symbol m) = false
 declaresChars cs (element m ds) = same cs ds
 
--- "name declared twice or shaped as a character" (5)
+-- a name that is not "declared twice or shaped as a character" (5)
 unfoldable pub isNew : List Declaration → List ℕ → Bool
 isNew ds n = not (charShaped n || oneOf (declares n) ds)
 

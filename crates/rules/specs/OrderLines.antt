@@ -11,7 +11,7 @@ use Rattle.rules.specs.Meaning.{Rule}
 use Rattle.rules.specs.State.{beforeOrder, inOrder, Declaration, Subject, character, named, undefined, OrderLine, Ordered, State, withOrdered, inPhase, toPhase, Outcome, gives}
 use Rattle.rules.specs.Declarations.{declares, declaresSymbol}
 
--- ## order_start
+-- ## Operands
 
 -- the tokens between `;` and `;`, of which the first has begun with `part`
 unfoldable pub splitAt : List Token → List Token → List (List Token)
@@ -25,6 +25,8 @@ splitAt part (t ∷ ts) =
 abbrev pub operandList : List Token → List (List Token)
 operandList [] = []
 operandList (t ∷ ts) = splitAt [] (t ∷ ts)
+
+-- ## order_start
 
 -- 1 forward, 2 backward, 4 position, 0 unknown ("a section name too")
 unfoldable pub ruleWord : Token → ℕ
@@ -55,10 +57,10 @@ unfoldable pub ruleCodes : List Token → List ℕ
 ruleCodes [] = 1 ∷ []
 ruleCodes (t ∷ ts) = map ruleCode (splitAt [] (t ∷ ts))
 
--- Malformed (docs/DECISIONS.md): two words with no comma, and quotes. `glued`: a word or name stands right before
+-- Malformed (docs/DECISIONS.md): two words with no separator between them, and quotes. `after`: a word or name stands right before
 unfoldable pub rulesFormed : Bool → List Token → Bool
-rulesFormed glued [] = true
-rulesFormed glued (t ∷ ts) = not (glued && isSolid t) && not (eqb (t .kind) quote) && rulesFormed (isSolid t) ts
+rulesFormed after [] = true
+rulesFormed after (t ∷ ts) = not (after && isSolid t) && not (eqb (t .kind) quote) && rulesFormed (isSolid t) ts
 
 -- "One `order_start r;r;..`, 1 to 8 levels."
 unfoldable pub orderStartLine : State → List Token → Outcome

@@ -26,7 +26,7 @@ inOrder = 4
 abbrev pub afterOrder : ℕ
 afterOrder = 5
 
--- The phase, the other category's name, and whether LC_COLLATE has stood.
+-- The phase, the name of the category that was opened last, and whether LC_COLLATE has stood.
 pub record Place : Type 0 where
   pub phase : ℕ
   pub category : List ℕ

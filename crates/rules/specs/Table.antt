@@ -1,6 +1,6 @@
 -- 01, "The table": the numbers that store a meaning, and which lists of numbers are accepted.
 --   16 numbers: L, I, W, then 13 zeros; L rules; for each item 4 characters (padded with 110000 hex), where its weights
---   start, one place of the permutation that lists the items in the order of their characters, L counts; then W weights.
+--   start among the weights, from 0, one place of the permutation that lists the items in the order of their characters, L counts; then W weights.
 use mathlib.Core.Bool.{Bool, false, _&&_, _||_}
 use mathlib.Core.List.{List, [], _∷_, _++_, map, flatten}
 use Prim.Native.Nat.{ℕ, zero, suc, _+_, _*_}
@@ -130,7 +130,8 @@ meaningIn t =
 
 -- ## Acceptance
 
--- "It is accepted exactly when it stores a meaning"; "Numbers after it are not read."
+-- "It is accepted exactly when it stores a meaning"; "Numbers after it are not read." The first two tests follow from the others; they
+-- spare reading a meaning of any size.
 unfoldable pub accepted : List ℕ → Bool
 accepted t =
     let m : Meaning = meaningIn t in

@@ -1,6 +1,7 @@
 -- 01, "Reading lines": the tokens of a joined line, from its marks.
 -- A line's marks (Lines) are its bytes in order, without comments and joins. A byte after an escape inside `<..>` or quotes, and
--- the c of a comment_char or escape_char line, is 256 + b: that byte, as it stands. A byte after any other escape is 512 + b.
+-- the c of a comment_char or escape_char line, is 256 + b: that byte, as it stands. A byte after any other escape is 512 + b, and so is
+-- an escape that ends the source.
 use mathlib.Core.Bool.{Bool, false, not, _&&_, _||_}
 use mathlib.Core.List.{List, [], _∷_, _++_}
 use Prim.Native.Nat.{ℕ, _-_, _%_}
@@ -9,11 +10,11 @@ use lib.Dec.{leb, eqb}
 use Rattle.rules.specs.Text.{if_then_else_, within, every, same, is, _unless_, lowest}
 use Rattle.rules.specs.Names.{isBlank, namesRefusal, isAnyHex}
 
--- "byte outside 20 to 7E, tab and LF" (2), "outside comments": also the byte after an escape
+-- any other is a "byte outside 20 to 7E, tab and LF" (2), also after an escape
 abbrev pub isText : ℕ → Bool
 isText m = within 32 126 (m % 256) || eqb (m % 256) 9
 
--- ## The kinds of token: a blank; `;`; `,`; what is malformed; a word; a name; quotes; a byte as it stands
+-- ## The kinds of token: a blank; `;`; `,`; what is malformed, but for the `\x` of a charmap's entry; a word; a name; quotes; a byte as it stands
 
 abbrev pub gap : ℕ
 gap = 0
