@@ -1,2 +1,4 @@
 pub mod ListFacts
 pub mod WalkLaws
+pub mod CompareLaws
+pub mod CountLaws

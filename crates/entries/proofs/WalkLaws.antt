@@ -1,5 +1,5 @@
 -- The entries that a walk has still to come: element by element, weight by weight.
-use mathlib.Core.Path.{_≡_, refl, sym, ap, _∙_}
+use mathlib.Core.Path.{_≡_, refl, sym, ap, _∙_, subst}
 use mathlib.Core.Bool.{Bool, true, false, cond}
 use mathlib.Core.List.{List, [], _∷_, map, reverse}
 use Prim.Native.Nat.{ℕ, zero, suc, _+_, _-_, _*_, _≤_, _<_}
@@ -105,10 +105,14 @@ module _ (t places : List ℕ) (level : ℕ) (rule : Rule) where
   pub fresh-sound : Sound t places fresh
   fresh-sound = record { passed = omega arith; skipped = omega arith; inside = λ h. absurd (omega arith) }
 
-  -- with no weight left of the element, those of the elements not passed
-  pub left-none : (c : Cursor) → c .left ≤ 0 → entriesLeft t places level rule c ≡ entriesOn t places level rule (c .passed) (c .skipped)
+  -- with no weight left of the element, it has those of the elements not passed
+  left-none : (c : Cursor) → c .left ≤ 0 → entriesLeft t places level rule c ≡ entriesOn t places level rule (c .passed) (c .skipped)
   unfolding entriesLeft more
   left-none c h = let e : c .left ≡ 0 = omega arith in rw e
+
+  pub left-on : (c : Cursor) (r : Ahead) → c .left ≤ 0 → Gives t places level rule (entriesOn t places level rule (c .passed) (c .skipped)) r
+      → Gives t places level rule (entriesLeft t places level rule c) r
+  left-on c r h g = subst (λ (es : List order.Entry). Gives t places level rule es r) (sym (left-none c h)) g
 
   -- the next weight of the element
   pub left-more : (c : Cursor) (r : Rank) → Sound t places c → 0 < c .left → r .0 ≡ getD t (c .from) 0
