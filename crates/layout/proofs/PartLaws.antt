@@ -19,7 +19,7 @@ use Rattle.rules.proofs.MeaningLaws.{item-parts, Good, good-parts}
 use Rattle.rules.proofs.TableLaws.{meaning-stored, accepted-stored, rule-back, rules-drop, records-from}
 use Rattle.rules.proofs.SizeLaws.{stored-size, flatten-length}
 use Rattle.layout.specs.Parts.{recordAt, ruleAt, Within, Holds}
-use Rattle.layout.proofs.LayoutLaws.{recordAt-small, recordAt-room}
+use Rattle.layout.proofs.LayoutLaws.{recordAt-bound, recordAt-room}
 
 -- ## The weights of an item, level by level
 
@@ -230,8 +230,8 @@ module _ (t : List ℕ) (place level l n at : ℕ) (w : Within t place level) (l
         few-items = b;
         level-in = omega (arith, w .in-levels);
         place-in = rw (sub-one place) at p;
-        small = omega (arith, recordAt-small l (place - 1) a (omega arith));
-        weights-small = recordAt-small l n a b;
+        small = omega (arith, recordAt-bound l (place - 1) a (omega arith));
+        weights-small = recordAt-bound l n a b;
         room = omega (arith, recordAt-room l (place - 1) n p);
       }
 

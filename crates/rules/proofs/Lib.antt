@@ -25,3 +25,4 @@ pub mod EntryLaws
 pub mod KeyLaws
 pub mod ElementLaws
 pub mod PassedLaws
+pub mod OneAnswer

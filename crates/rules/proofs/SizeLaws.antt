@@ -14,7 +14,7 @@ unfolding flatten countAll
 flatten-length [] = refl
 flatten-length (w ∷ ws) = omega (arith, length-append w (flatten ws), flatten-length ws)
 
-weights-length : (is : List Item) (rest : List ℕ) → length (weightNumbers is rest) ≡ weightCount is + length rest
+pub weights-length : (is : List Item) (rest : List ℕ) → length (weightNumbers is rest) ≡ weightCount is + length rest
 unfolding weightNumbers weightCount
 weights-length [] rest = omega arith
 weights-length (i ∷ is) rest =

@@ -56,11 +56,11 @@ cut-back [] rest = refl
 cut-back (w ∷ ws) rest =
     rw (append-assoc w (flatten ws) rest, take-append-seam w (flatten ws ++ rest), drop-append-seam w (flatten ws ++ rest), cut-back ws rest)
 
-counts-take : (ws : List (List ℕ)) (rest : List ℕ) → take (length ws) (counts ws ++ rest) ≡ counts ws
+pub counts-take : (ws : List (List ℕ)) (rest : List ℕ) → take (length ws) (counts ws ++ rest) ≡ counts ws
 counts-take [] rest = refl
 counts-take (w ∷ ws) rest = rw (counts-take ws rest)
 
-counts-drop : (ws : List (List ℕ)) (rest : List ℕ) → drop (length ws) (counts ws ++ rest) ≡ rest
+pub counts-drop : (ws : List (List ℕ)) (rest : List ℕ) → drop (length ws) (counts ws ++ rest) ≡ rest
 counts-drop [] rest = refl
 counts-drop (w ∷ ws) rest = counts-drop ws rest
 
@@ -134,7 +134,7 @@ stored-read m rest h =
 
 -- ## A good meaning can be stored
 
-char-no-pad : (c : ℕ) → isCharacter c ≡ true → eqb c pad ≡ false
+pub char-no-pad : (c : ℕ) → isCharacter c ≡ true → eqb c pad ≡ false
 char-no-pad c h =
     let k = leb-true c 0x10FFFF (and-left (leb c 0x10FFFF) (not (within 0xD800 0xDFFF c)) h) in
     ne-eqb c pad (omega arith)
@@ -170,7 +170,7 @@ items-append at ps (i ∷ is) x y =
       items-append (at + countAll (i .weights)) (drop 1 ps) is x y,
     )
 
-weights-append : (is : List Item) (x y : List ℕ) → weightNumbers is x ++ y ≡ weightNumbers is (x ++ y)
+pub weights-append : (is : List Item) (x y : List ℕ) → weightNumbers is x ++ y ≡ weightNumbers is (x ++ y)
 unfolding weightNumbers
 weights-append [] x y = refl
 weights-append (i ∷ is) x y = rw (append-assoc (flatten (i .weights)) (weightNumbers is x) y, weights-append is x y)

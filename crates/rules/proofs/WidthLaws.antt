@@ -29,7 +29,7 @@ pub good-count : (ws : List ℕ) → goodWeights ws ≡ true → length ws ≤ 8
 unfolding goodWeights
 good-count ws h = leb-true (length ws) 8 (and-left (leb (length ws) 8) (every (within 1 32768) ws) h)
 
-good-range : (ws : List ℕ) → goodWeights ws ≡ true → every (within 1 32768) ws ≡ true
+pub good-range : (ws : List ℕ) → goodWeights ws ≡ true → every (within 1 32768) ws ≡ true
 unfolding goodWeights
 good-range ws h = and-right (leb (length ws) 8) (every (within 1 32768) ws) h
 

@@ -1,0 +1,12 @@
+pub mod WithinLaws
+pub mod CharLaws
+pub mod BeforeLaws
+pub mod OneRecordLaws
+pub mod AllRecordsLaws
+pub mod HeadLaws
+pub mod WholeLaws
+pub mod ItemLaws
+pub mod ItemsLaws
+pub mod ListedLaws
+pub mod CheckLaws
+pub mod ShapeLaws

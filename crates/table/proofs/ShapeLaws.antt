@@ -1,0 +1,42 @@
+-- The answers of check: the header of an accepted table is in its ranges, and counts what the table's meaning has.
+use mathlib.Core.Path.{_≡_, refl, sym, _∙_}
+use mathlib.Core.Bool.{Bool, true, false, _&&_}
+use mathlib.Core.List.{List}
+use Prim.Native.Nat.{ℕ, _+_}
+use lib.ListN.{getD, take, drop}
+use Rattle.lists.proofs.Bools.{and-left}
+use Rattle.rules.specs.Text.{within, every}
+use Rattle.rules.specs.Table.{accepted}
+use Rattle.rules.specs.Calls.{checkCall}
+use Rattle.units.specs.declared.Refusal.the-variants.{NotAccepted}
+use Rattle.table.specs.declared.Verdict.the-variants.{Accepted, Refused}
+use Rattle.layout.specs.Parts.{recordAt}
+use Rattle.table.specs.Checks.{headPasses, recordsPass, checks}
+use Rattle.table.specs.Answers.{checkedAs}
+use Rattle.table.proofs.HeadLaws.{Headed, head-parts}
+use Rattle.table.proofs.CheckLaws.{accepted-checks, accepted-sized}
+
+checks-head : (t : List ℕ) → checks t ≡ true → headPasses t ≡ true
+unfolding checks
+checks-head t h =
+    let l : ℕ = getD t 0 0 in
+    let n : ℕ = getD t 1 0 in
+    let w : ℕ = getD t 2 0 in
+    let head : Bool = headPasses t in
+    let rules : Bool = every (within 0 3) (take l (drop 16 t)) in
+    let records : Bool = recordsPass t l n w n 0 0 (drop (recordAt l 0) t) in
+    let weights : Bool = every (within 1 32768) (take w (drop (recordAt l n) t)) in
+    and-left head rules (and-left (head && rules) records (and-left (head && rules && records) weights h))
+
+module _ (t : List ℕ) {r : Bool} (is : r ≡ accepted t) where
+  pub accepted-headed : r ≡ true → Headed t
+  accepted-headed e = head-parts t refl (checks-head t (sym (accepted-checks t) ∙ sym is ∙ e))
+
+  pub check-refused : r ≡ false → checkedAs (Refused NotAccepted) ≡ checkCall t
+  unfolding checkCall
+  check-refused e = rw (← is, e)
+
+  pub check-accepted : {from : ℕ} → r ≡ true → from ≡ recordAt (getD t 0 0) (getD t 1 0)
+      → checkedAs (Accepted (record { levels = getD t 0 0; items = getD t 1 0; size = from + getD t 2 0 })) ≡ checkCall t
+  unfolding checkCall
+  check-accepted e f = let s = accepted-sized t (sym is ∙ e) in rw (← is, e, f, s .size, s .levels, s .items)
