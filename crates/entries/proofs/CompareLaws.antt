@@ -1,13 +1,12 @@
 -- Comparing two entries, and two levels entry by entry.
-use mathlib.Core.Path.{_≡_, refl, sym, ap, _∙_, subst}
-use mathlib.Core.List.{List, [], _∷_}
-use Prim.Native.Nat.{ℕ, suc, _+_, _*_, _≤_, _<_}
+use mathlib.Core.Path.{_≡_, sym, ap, _∙_, subst}
+use mathlib.Core.List.{List, []}
+use Prim.Native.Nat.{ℕ, suc, _+_, _≤_, _<_}
 use native.Mathlib.Numerals.{add-one}
 use native.Mathlib.Omega.{arith}
 use lib.ListN.{length}
 use Rattle.rules.specs.Meaning.{Rule}
 use Rattle.rules.specs.Table.{meaningIn}
-use Rattle.rules.specs.Order as order
 use Rattle.rules.specs.Order.{signEntry, levelEntries, less, equal, greater}
 use Rattle.rules.proofs.SignLaws.{signℕ-below, signℕ-same, signℕ-above}
 use Rattle.rules.proofs.EntryLaws.{level-length}
@@ -18,20 +17,19 @@ use Rattle.units.specs.declared.Sign.{Sign}
 use Rattle.units.specs.declared.Sign.the-variants.{Less, Equal, Greater}
 use Rattle.entries.specs.declared.Entry.{Entry}
 use Rattle.entries.specs.declared.Cursor.{Cursor}
-use Rattle.entries.specs.declared.Seen.{Seen}
 use Rattle.entries.specs.declared.Ahead.{Ahead}
 use Rattle.entries.specs.declared.Ahead.the-variants.{One, End}
-use Rattle.entries.specs.Walk.{Level, Sound, fresh, entryAs, entriesLeft, First, Gives, seenAs, Compared}
+use Rattle.entries.specs.Walk.{Level, Sound, fresh, entryAs, entriesLeft, First, Gives, Compared}
 use Rattle.entries.proofs.WalkLaws.{fresh-entries, fresh-sound}
 
 -- ## Two entries
 
 module _ (x y : Entry) where
-  pub count-less : x .count < y .count → order.less ≡ signEntry (entryAs x) (entryAs y)
+  pub count-less : x .count < y .count → less ≡ signEntry (entryAs x) (entryAs y)
   unfolding signEntry
   count-less h = rw (signℕ-below h)
 
-  pub count-greater : y .count < x .count → order.greater ≡ signEntry (entryAs x) (entryAs y)
+  pub count-greater : y .count < x .count → greater ≡ signEntry (entryAs x) (entryAs y)
   unfolding signEntry
   count-greater h = rw (signℕ-above h)
 
@@ -39,15 +37,15 @@ module _ (x y : Entry) where
     same-count : x .count ≡ y .count
     same-count = omega arith
 
-    pub rank-less : x .rank .0 < y .rank .0 → order.less ≡ signEntry (entryAs x) (entryAs y)
+    pub rank-less : x .rank .0 < y .rank .0 → less ≡ signEntry (entryAs x) (entryAs y)
     unfolding signEntry
     rank-less l = rw (signℕ-same same-count, signℕ-below l)
 
-    pub rank-greater : y .rank .0 < x .rank .0 → order.greater ≡ signEntry (entryAs x) (entryAs y)
+    pub rank-greater : y .rank .0 < x .rank .0 → greater ≡ signEntry (entryAs x) (entryAs y)
     unfolding signEntry
     rank-greater l = rw (signℕ-same same-count, signℕ-above l)
 
-    pub rank-equal : y .rank .0 ≤ x .rank .0 → x .rank .0 ≤ y .rank .0 → order.equal ≡ signEntry (entryAs x) (entryAs y)
+    pub rank-equal : y .rank .0 ≤ x .rank .0 → x .rank .0 ≤ y .rank .0 → equal ≡ signEntry (entryAs x) (entryAs y)
     unfolding signEntry
     rank-equal l m =
         let e : x .rank .0 ≡ y .rank .0 = omega arith in

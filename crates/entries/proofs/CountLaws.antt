@@ -1,12 +1,13 @@
 -- How many entries a level has: as many as its elements have weights, in either direction.
-use mathlib.Core.Path.{_≡_, refl, sym, ap, _∙_}
-use mathlib.Core.Bool.{Bool, true, false}
-use mathlib.Core.List.{List, [], _∷_, map, reverse, reverseAux}
+use mathlib.Core.Path.{_≡_, refl, ap, _∙_}
+use mathlib.Core.Bool.{false}
+use mathlib.Core.List.{List, [], _∷_, map, reverseAux}
 use Prim.Native.Nat.{ℕ, suc, _+_, _*_, _≤_, _<_}
 use native.Mathlib.Numerals.{add-one}
 use native.Mathlib.Omega.{arith}
 use lib.ListN.{length, getD, drop, length-map, drop-of-length-le}
 use Rattle.lists.proofs.Bools.{cond-both}
+use Rattle.lists.proofs.Lists.{drop-map-cons}
 use Rattle.rules.specs.Meaning.{Rule, Item, countAll}
 use Rattle.rules.specs.Table.{meaningIn}
 use Rattle.rules.specs.Order.{weightsAt, walked, levelEntries}
@@ -14,7 +15,6 @@ use Rattle.rules.proofs.EntryLaws.{entries-length}
 use Rattle.layout.specs.Parts.{Within, Holds}
 use Rattle.layout.specs.declared.Run.{Run}
 use Rattle.entries.specs.Walk.{Level, Counts}
-use Rattle.entries.proofs.ListFacts.{drop-map-cons}
 use Rattle.entries.proofs.WalkLaws.{directed-forward, element-within}
 
 countAll-reverseAux : (ls ms : List (List ℕ)) → countAll (reverseAux ls ms) ≡ countAll ls + countAll ms

@@ -1,4 +1,3 @@
-pub mod ListFacts
 pub mod WalkLaws
 pub mod CompareLaws
 pub mod CountLaws

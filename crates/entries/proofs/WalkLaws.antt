@@ -1,13 +1,15 @@
 -- The entries that a walk has still to come: element by element, weight by weight.
-use mathlib.Core.Path.{_≡_, refl, sym, ap, _∙_, subst}
+use mathlib.Core.Path.{_≡_, refl, sym, _∙_, subst}
 use mathlib.Core.Bool.{Bool, true, false, cond}
 use mathlib.Core.List.{List, [], _∷_, map, reverse}
-use Prim.Native.Nat.{ℕ, zero, suc, _+_, _-_, _*_, _≤_, _<_}
+use Prim.Native.Nat.{ℕ, suc, _+_, _-_, _≤_, _<_}
 use native.Mathlib.Numerals.{add-one}
 use native.Mathlib.Omega.{arith}
 use lib.ListN.{length, getD, take, drop, length-map, length-reverse, drop-of-length-le}
 use Rattle.lists.proofs.Bools.{cond-true, cond-false, cond-both}
-use Rattle.lists.proofs.Lists.{All, length-zero}
+use Rattle.lists.proofs.Lists.{All, All-getD, All-reverse, map-reverse, drop-map-cons}
+use Rattle.lists.proofs.Places.{getD-reverse}
+use Rattle.lists.proofs.Runs.{run-first}
 use Rattle.rules.specs.Meaning.{Rule}
 use Rattle.rules.specs.Table.{meaningIn}
 use Rattle.rules.specs.Order as order
@@ -19,9 +21,7 @@ use Rattle.units.specs.declared.Rank.{Rank}
 use Rattle.entries.specs.declared.Entry.{Entry}
 use Rattle.entries.specs.declared.Cursor.{Cursor}
 use Rattle.entries.specs.declared.Ahead.{Ahead}
-use Rattle.entries.specs.declared.Ahead.the-variants.{One, End}
-use Rattle.entries.specs.Walk.{directed, Level, Sound, fresh, entryAs, entriesOn, entriesLeft, First, Gives}
-use Rattle.entries.proofs.ListFacts.{All-getD, All-reverse, map-reverse, drop-map-cons, getD-reverse, run-first}
+use Rattle.entries.specs.Walk.{directed, Level, Sound, fresh, entriesOn, entriesLeft, First, Gives}
 
 -- ## The direction
 
@@ -142,9 +142,13 @@ pub element-within : {t places : List ℕ} {level : ℕ} (b : Bool) (i : ℕ) {p
 element-within {t} {places} b i v h e =
     let l : i < length (directed b places) = rw (directed-length b places) h in
     let u : UpTo (length (meaningIn t .items)) (getD (directed b places) i 0) =
-        All-getD (UpTo (length (meaningIn t .items))) (directed b places) i 0 l
-        (directed-all (UpTo (length (meaningIn t .items))) b places (v .listed)) in
+    All-getD (UpTo (length (meaningIn t .items))) (directed b places) i 0 l
+    (directed-all (UpTo (length (meaningIn t .items))) b places (v .listed)) in
     record { checked = v .checked; from-one = omega (arith, u .least); in-items = omega (arith, u .most); in-levels = v .in-levels }
+
+-- the first of an element's weights is in the table
+pub held-first : {t : List ℕ} {r : Run} {ws : List ℕ} → Holds t r ws → 0 < r .count → r .from < length t
+held-first w h = omega (arith, w .inside h)
 
 module _ {t places : List ℕ} {level : ℕ} {rule : Rule} {passed skipped i n : ℕ} (v : Passing t places level rule passed skipped i n) where
   pub passing-end : length places ≤ i → entriesOn t places level rule passed skipped ≡ []
@@ -171,7 +175,7 @@ module _ {t places : List ℕ} {level : ℕ} {rule : Rule} {passed skipped i n :
     passing-found {count} {r} k g f =
         let m : run .from + run .count ≤ length t = w .inside k in
         let first : weightsOn t places level rule i ≡ r .0 ∷ take (run .count - 1) (drop (run .from + 1) t) =
-            sym held ∙ run-first t (run .from) (run .count) k m ∙ rw g in
+        sym held ∙ run-first t (run .from) (run .count) k m ∙ rw g in
         record {
           is = v .same ∙ on-take t places level rule i n (r .0) (take (run .count - 1) (drop (run .from + 1) t)) h first ∙ rw f;
           sound = record { passed = omega arith; skipped = omega arith; inside = λ l. omega arith };

@@ -62,8 +62,25 @@ fn place_at(places: &[u32], backward: bool, i: usize) -> usize
     places[i] as usize
 }
 
+// The count of an entry, n elements without a weight having stood before it.
+fn counted(position: bool, n: usize) -> usize
+    ensures { λ r. ⌜ r ≡ cond position n 0 ⌝ }
+{
+    if position {
+        return n;
+    }
+    0
+}
+
 // The entry that begins the next element with a weight, `passed` elements being passed, the last `skipped` of them without one.
-fn next_element(t: &[u32], places: &[u32], level: usize, rule: Rule, passed: usize, skipped: usize) -> Ahead
+fn next_element(
+    t: &[u32],
+    places: &[u32],
+    level: usize,
+    rule: Rule,
+    passed: usize,
+    skipped: usize,
+) -> Ahead
     requires { ⌜ Level (now t) (now places) level ⌝ }
     requires { ⌜ (passed ≤ length (now places)) × (skipped ≤ passed) ⌝ }
     ensures { λ r. ⌜ Gives (now (t .entry)) (now (places .entry)) level (ruleAs rule) (entriesOn (now (t .entry)) (now (places .entry)) level (ruleAs rule) passed skipped) r ⌝ }
@@ -95,16 +112,6 @@ fn next_element(t: &[u32], places: &[u32], level: usize, rule: Rule, passed: usi
         n += 1;
     }
     Ahead::End
-}
-
-// The count of an entry, n elements without a weight having stood before it.
-fn counted(position: bool, n: usize) -> usize
-    ensures { λ r. ⌜ r ≡ cond position n 0 ⌝ }
-{
-    if position {
-        return n;
-    }
-    0
 }
 
 // The next of a level's entries.

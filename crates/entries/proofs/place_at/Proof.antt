@@ -1,3 +1,4 @@
+-- `entries::place_at` meets its contract: walked backward, the i-th element is the i-th from the end.
 use Rattle.entries.proofs.WalkLaws.{directed-backward, directed-forward}
 use Prim.Native.Nat.{_-_}
 use lib.ListN.{length}
@@ -5,46 +6,34 @@ use native.Mathlib.Omega.{arith}
 use borrow.Author.Needs.{needs}
 use Rattle.entries.proofs.place_at.Statement.{statement}
 use Rattle.entries.proofs.place_at.Tie as tie
-use Rattle.entries.proofs.place_at.Reads as reads
-use Rattle.entries.proofs.place_at.Lts as lts
 
--- src/lib.rt:59:17
 sub-k : tie.Need-sub-k
 sub-k c = search needs
 
--- src/lib.rt:59:17
 sub-k-2 : tie.Need-sub-k-2
 sub-k-2 c = search needs
 
--- src/lib.rt:60:16
 mul-result : tie.Need-mul-result
 mul-result c = search needs
 
--- src/lib.rt:60:16
 shared-slice-read-result : tie.Need-shared-slice-read-result
 shared-slice-read-result c = search needs
 
--- src/lib.rt:60:16
 cast-result : tie.Need-cast-result
 cast-result c = omega (arith, c .shared-slice-known .given (length (c .before .before .args .places .now) - 1 - c .before .before .args .i))
 
--- src/lib.rt:60:9
 returns : tie.Need-returns
 returns c = search directed-backward
 
--- src/lib.rt:62:5
 mul-result-2 : tie.Need-mul-result-2
 mul-result-2 c = search needs
 
--- src/lib.rt:62:5
 shared-slice-read-result-2 : tie.Need-shared-slice-read-result-2
 shared-slice-read-result-2 c = search needs
 
--- src/lib.rt:62:5
 cast-result-2 : tie.Need-cast-result-2
 cast-result-2 c = omega (arith, c .shared-slice-known2 .given (c .before .before .args .i))
 
--- src/lib.rt:54:1
 returns-2 : tie.Need-returns-2
 returns-2 c = search directed-forward
 
