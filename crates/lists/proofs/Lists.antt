@@ -1,14 +1,39 @@
 -- Laws of lists that the kit's lib.ListN, lib.Seq and mathlib.Core.List do not have.
 use mathlib.Core.Path.{_≡_, refl}
-use mathlib.Core.List.{List, [], _∷_}
-use Prim.Native.Nat.{ℕ, zero, suc, pred, _≤_}
+use mathlib.Core.List.{List, [], _∷_, map, reverse, reverseAux}
+use Prim.Native.Nat.{ℕ, zero, suc, pred, _≤_, _<_}
 use native.Mathlib.Omega.{arith}
-use lib.ListN.{length, drop}
+use lib.ListN.{length, getD, drop}
 
 -- P holds of each
 abbrev pub All : {A : Type 0} → (A → Type 0) → List A → Type 0
 All P [] = Unit
 All P (x ∷ xs) = P x × All P xs
+
+pub All-getD : {A : Type 0} (P : A → Type 0) (xs : List A) (i : ℕ) (d : A) → i < length xs → All P xs → P (getD xs i d)
+All-getD P [] i d h a = absurd (omega arith)
+All-getD P (x ∷ xs) zero d h a = a .0
+All-getD P (x ∷ xs) (suc i) d h a = All-getD P xs i d (omega arith) (a .1)
+
+All-reverseAux : {A : Type 0} (P : A → Type 0) (xs ys : List A) → All P xs → All P ys → All P (reverseAux xs ys)
+All-reverseAux P [] ys a b = b
+All-reverseAux P (x ∷ xs) ys a b = All-reverseAux P xs (x ∷ ys) (a .1) (a .0, b)
+
+pub All-reverse : {A : Type 0} (P : A → Type 0) (xs : List A) → All P xs → All P (reverse xs)
+All-reverse P xs a = All-reverseAux P xs [] a tt
+
+map-reverseAux : {A B : Type 0} (f : A → B) (xs ys : List A) → map f (reverseAux xs ys) ≡ reverseAux (map f xs) (map f ys)
+map-reverseAux f [] ys = refl
+map-reverseAux f (x ∷ xs) ys = map-reverseAux f xs (x ∷ ys)
+
+pub map-reverse : {A B : Type 0} (f : A → B) (xs : List A) → map f (reverse xs) ≡ reverse (map f xs)
+map-reverse f xs = map-reverseAux f xs []
+
+pub drop-map-cons : {A B : Type 0} (f : A → B) (xs : List A) (i : ℕ) (d : A) → i < length xs
+    → drop i (map f xs) ≡ f (getD xs i d) ∷ drop (suc i) (map f xs)
+drop-map-cons f [] i d h = absurd (omega arith)
+drop-map-cons f (x ∷ xs) zero d h = refl
+drop-map-cons f (x ∷ xs) (suc i) d h = drop-map-cons f xs i d (omega arith)
 
 pub drop-pred : {A : Type 0} (k : ℕ) (x : A) (xs : List A) → 1 ≤ k → drop (pred k) xs ≡ drop k (x ∷ xs)
 drop-pred zero x xs h = absurd (omega arith)

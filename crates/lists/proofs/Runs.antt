@@ -1,5 +1,5 @@
 -- A run of a list: its numbers from one place up to another, as a loop passes them.
-use mathlib.Core.Path.{_≡_, refl}
+use mathlib.Core.Path.{_≡_, refl, ap}
 use mathlib.Core.List.{List, [], _∷_}
 use Prim.Native.Nat.{ℕ, suc, _+_, _-_, _≤_, _<_}
 use native.Mathlib.Numerals.{add-one}
@@ -30,3 +30,11 @@ run-cons t i end h k =
     let l : i < length t = omega arith in
     let e : end - i ≡ suc (end - (i + 1)) = omega arith in
     rw (e, drop-cons t i 0 l, add-one i)
+
+-- the first of n numbers from a place on, and the others
+pub run-first : (t : List ℕ) (from n : ℕ) → 0 < n → from + n ≤ length t
+    → take n (drop from t) ≡ getD t from 0 ∷ take (n - 1) (drop (from + 1) t)
+run-first t from n h k =
+    let e : n ≡ suc (n - 1) = omega arith in
+    let l : from < length t = omega arith in
+    rw (drop-cons t from 0 l, add-one from) (ap (λ (m : ℕ). take m (getD t from 0 ∷ drop (suc from) t)) e)
