@@ -1,0 +1,92 @@
+use borrow.Author.Needs.{needs}
+use native.Mathlib.Omega.{arith}
+use Rattle.find.proofs.first_from.Statement.{statement}
+use Rattle.find.proofs.first_from.Tie as tie
+use Rattle.find.proofs.first_from.Reads as reads
+use Rattle.find.proofs.first_from.Lts as lts
+use Rattle.find.proofs.before_key.Reads as before-key-reads
+use Rattle.find.proofs.item_at.Reads as item-at-reads
+use Rattle.layout.proofs.record_at.Reads as record-at-reads
+
+abbrev Inv-loop : tie.InvT-loop
+Inv-loop t levels items key lo₀ hi₀ lo hi = ?
+
+abbrev μ-loop : tie.MeasureT-loop
+μ-loop t levels items key lo₀ hi₀ lo hi = ?
+
+-- src/lib.rt:89:18
+sub-hi : tie.Need-sub-hi Inv-loop μ-loop
+sub-hi c = search needs
+
+-- src/lib.rt:90:5
+loop-holds : tie.Need-loop-holds Inv-loop μ-loop
+loop-holds c = search needs
+
+-- src/lib.rt:91:25
+sub-mid : tie.Need-sub-mid Inv-loop μ-loop
+sub-mid c = search needs
+
+-- src/lib.rt:91:19
+add-mid : tie.Need-add-mid Inv-loop μ-loop
+add-mid c = search needs
+
+-- src/lib.rt:92:13
+item-at-requires : tie.Need-item-at-requires Inv-loop μ-loop
+item-at-requires c κs = search needs
+
+-- src/lib.rt:93:36
+sub-record-at : tie.Need-sub-record-at Inv-loop μ-loop
+sub-record-at c = search needs
+
+-- src/lib.rt:93:13
+record-at-requires : tie.Need-record-at-requires Inv-loop μ-loop
+record-at-requires c κs = search needs
+
+-- src/lib.rt:94:13
+before-key-requires : tie.Need-before-key-requires Inv-loop μ-loop
+before-key-requires c κs = search needs
+
+-- src/lib.rt:96:18
+add-lo : tie.Need-add-lo Inv-loop μ-loop
+add-lo c = search needs
+
+-- src/lib.rt:90:5
+loop-less : tie.Need-loop-less Inv-loop μ-loop
+loop-less c = search needs
+
+-- src/lib.rt:90:5
+loop-again : tie.Need-loop-again Inv-loop μ-loop
+loop-again c = search needs
+
+-- src/lib.rt:90:5
+loop-less-2 : tie.Need-loop-less-2 Inv-loop μ-loop
+loop-less-2 c = search needs
+
+-- src/lib.rt:90:5
+loop-again-2 : tie.Need-loop-again-2 Inv-loop μ-loop
+loop-again-2 c = search needs
+
+-- src/lib.rt:82:1
+returns : tie.Need-returns Inv-loop μ-loop
+returns c = search needs
+
+pub first-from-spec : {M : Type 1} → statement M
+first-from-spec =
+    tie.close
+    (tie.spec
+    Inv-loop
+    μ-loop
+    sub-hi
+    loop-holds
+    sub-mid
+    add-mid
+    item-at-requires
+    sub-record-at
+    record-at-requires
+    before-key-requires
+    add-lo
+    loop-less
+    loop-again
+    loop-less-2
+    loop-again-2
+    returns)
