@@ -38,7 +38,7 @@ module _ {t : List ℕ} {levels items : ℕ} (w : Counted t levels items) where
   pub few-items : items ≤ 32768
   few-items = omega (arith, w .items-are, counted-good .few-items)
 
-  record-room : (k : ℕ) {at : ℕ} → k < items → at ≡ recordAt levels k → at + 6 ≤ length t
+  pub record-room : (k : ℕ) {at : ℕ} → k < items → at ≡ recordAt levels k → at + 6 ≤ length t
   record-room k b e =
       let long : recordAt levels items ≤ length t = rw (w .levels-are, w .items-are) (let l = table-long t (w .checked) in omega arith) in
       omega (arith, e, recordAt-room levels k items b)

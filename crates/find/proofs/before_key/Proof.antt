@@ -1,3 +1,4 @@
+use Rattle.find.proofs.KeyLaws.{first-less, first-greater, second-less, second-greater, third-less, third-greater, fourth-decides}
 use native.Mathlib.Omega.{arith}
 use borrow.Author.Needs.{needs}
 use Rattle.find.proofs.before_key.Statement.{statement}
@@ -15,11 +16,11 @@ shared-slice-read-a c = search needs
 
 -- src/lib.rt:59:9
 returns : tie.Need-returns
-returns c = search needs
+returns c = search first-less
 
 -- src/lib.rt:62:9
 returns-2 : tie.Need-returns-2
-returns-2 c = search needs
+returns-2 c = search first-greater
 
 -- src/lib.rt:64:15
 add-b : tie.Need-add-b
@@ -35,11 +36,11 @@ shared-slice-read-b c = search needs
 
 -- src/lib.rt:66:9
 returns-3 : tie.Need-returns-3
-returns-3 c = search needs
+returns-3 c = search second-less
 
 -- src/lib.rt:69:9
 returns-4 : tie.Need-returns-4
-returns-4 c = search needs
+returns-4 c = search second-greater
 
 -- src/lib.rt:71:15
 add-c : tie.Need-add-c
@@ -55,11 +56,11 @@ shared-slice-read-c c = search needs
 
 -- src/lib.rt:73:9
 returns-5 : tie.Need-returns-5
-returns-5 c = search needs
+returns-5 c = search third-less
 
 -- src/lib.rt:76:9
 returns-6 : tie.Need-returns-6
-returns-6 c = search needs
+returns-6 c = search third-greater
 
 -- src/lib.rt:78:7
 add-result : tie.Need-add-result
@@ -75,7 +76,7 @@ shared-slice-read-result c = search needs
 
 -- src/lib.rt:53:1
 returns-7 : tie.Need-returns-7
-returns-7 c = search needs
+returns-7 c = search fourth-decides
 
 pub before-key-spec : {M : Type 1} → statement M
 before-key-spec =

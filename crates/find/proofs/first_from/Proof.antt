@@ -1,3 +1,8 @@
+use Rattle.find.proofs.SearchLaws.{few-levels, few-items, listed-room, half}
+use Prim.Native.Nat.{_-_}
+use Rattle.find.specs.Search.{keyOf}
+use Rattle.rules.specs.Table.{meaningIn}
+use Rattle.find.proofs.SearchLaws.{Halving, halving-start, halving-up, halving-down, halving-end}
 use borrow.Author.Needs.{needs}
 use native.Mathlib.Omega.{arith}
 use Rattle.find.proofs.first_from.Statement.{statement}
@@ -9,10 +14,10 @@ use Rattle.find.proofs.item_at.Reads as item-at-reads
 use Rattle.layout.proofs.record_at.Reads as record-at-reads
 
 abbrev Inv-loop : tie.InvT-loop
-Inv-loop t levels items key lo₀ hi₀ lo hi = ?
+Inv-loop t levels items key lo₀ hi₀ lo hi = Halving (meaningIn t .items) items (keyOf key) lo hi
 
 abbrev μ-loop : tie.MeasureT-loop
-μ-loop t levels items key lo₀ hi₀ lo hi = ?
+μ-loop t levels items key lo₀ hi₀ lo hi = hi - lo
 
 -- src/lib.rt:89:18
 sub-hi : tie.Need-sub-hi Inv-loop μ-loop
@@ -20,7 +25,7 @@ sub-hi c = search needs
 
 -- src/lib.rt:90:5
 loop-holds : tie.Need-loop-holds Inv-loop μ-loop
-loop-holds c = search needs
+loop-holds c = search halving-start
 
 -- src/lib.rt:91:25
 sub-mid : tie.Need-sub-mid Inv-loop μ-loop
@@ -40,11 +45,14 @@ sub-record-at c = search needs
 
 -- src/lib.rt:93:13
 record-at-requires : tie.Need-record-at-requires Inv-loop μ-loop
-record-at-requires c κs = search needs
+record-at-requires c κs = let s = c .before .before .before .before in (few-levels (s .pre .0), omega (arith, few-items (s .pre .0), c .item-at .ensures .in-items))
 
 -- src/lib.rt:94:13
 before-key-requires : tie.Need-before-key-requires Inv-loop μ-loop
-before-key-requires c κs = search needs
+before-key-requires c κs =
+    let s = c .before .before .before .before .before in
+    let v = c .before .before .before .loop in
+    omega (arith, listed-room (s .pre .0) (half (v .lo) (v .hi)) (c .before .item-at .result) (search needs) (c .before .item-at .ensures) (c .record-at .ensures))
 
 -- src/lib.rt:96:18
 add-lo : tie.Need-add-lo Inv-loop μ-loop
@@ -56,7 +64,7 @@ loop-less c = search needs
 
 -- src/lib.rt:90:5
 loop-again : tie.Need-loop-again Inv-loop μ-loop
-loop-again c = search needs
+loop-again c = search halving-up
 
 -- src/lib.rt:90:5
 loop-less-2 : tie.Need-loop-less-2 Inv-loop μ-loop
@@ -64,11 +72,11 @@ loop-less-2 c = search needs
 
 -- src/lib.rt:90:5
 loop-again-2 : tie.Need-loop-again-2 Inv-loop μ-loop
-loop-again-2 c = search needs
+loop-again-2 c = search halving-down
 
 -- src/lib.rt:82:1
 returns : tie.Need-returns Inv-loop μ-loop
-returns c = search needs
+returns c = search halving-end
 
 pub first-from-spec : {M : Type 1} → statement M
 first-from-spec =

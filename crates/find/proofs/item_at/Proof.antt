@@ -1,3 +1,5 @@
+use Prim.Native.Nat.{_+_}
+use Rattle.find.proofs.SearchLaws.{few-levels, few-items, record-room, lists}
 use borrow.Author.Needs.{needs}
 use native.Mathlib.Omega.{arith}
 use Rattle.find.proofs.item_at.Statement.{statement}
@@ -8,27 +10,27 @@ use Rattle.layout.proofs.record_at.Reads as record-at-reads
 
 -- src/lib.rt:48:9
 record-at-requires : tie.Need-record-at-requires
-record-at-requires c κs = search needs
+record-at-requires c κs = let s = c .before in (few-levels (s .pre .0), omega (arith, few-items (s .pre .0)))
 
 -- src/lib.rt:49:7
 add-result : tie.Need-add-result
-add-result c = search needs
+add-result c = let s = c .before .before in omega (arith, record-room (s .pre .0) (s .args .k) (s .pre .1) (c .record-at .ensures))
 
 -- src/lib.rt:49:5
 mul-result : tie.Need-mul-result
-mul-result c = search needs
+mul-result c = let s = c .before .before in omega (arith, record-room (s .pre .0) (s .args .k) (s .pre .1) (c .record-at .ensures))
 
 -- src/lib.rt:49:5
 shared-slice-read-result : tie.Need-shared-slice-read-result
-shared-slice-read-result c = search needs
+shared-slice-read-result c = let s = c .before .before .before in omega (arith, record-room (s .pre .0) (s .args .k) (s .pre .1) (c .before .record-at .ensures))
 
 -- src/lib.rt:49:5
 cast-result : tie.Need-cast-result
-cast-result c = search needs
+cast-result c = omega (arith, c .shared-slice-known2 .given (c .before .record-at .result + 5))
 
 -- src/lib.rt:43:1
 returns : tie.Need-returns
-returns c = search needs
+returns c = search lists
 
 pub item-at-spec : {M : Type 1} → statement M
 item-at-spec =

@@ -1,3 +1,4 @@
+use Rattle.find.proofs.KeyLaws.{number-inside, number-past}
 use native.Mathlib.Omega.{arith}
 use borrow.Author.Needs.{needs}
 use Rattle.find.proofs.number.Statement.{statement}
@@ -19,11 +20,11 @@ shared-slice-read-result c = search needs
 
 -- src/lib.rt:110:9
 returns : tie.Need-returns
-returns c = search needs
+returns c = search number-inside
 
 -- src/lib.rt:105:1
 returns-2 : tie.Need-returns-2
-returns-2 c = search needs
+returns-2 c = search number-past
 
 pub number-spec : {M : Type 1} → statement M
 number-spec = tie.close (tie.spec add-result mul-result shared-slice-read-result returns returns-2)

@@ -1,3 +1,5 @@
+use Prim.Native.Nat.{_-_}
+use Rattle.find.proofs.KeyLaws.{Sharing, sharing-none, sharing-more, shares-some, shares-all}
 use borrow.Author.Needs.{needs}
 use native.Mathlib.Omega.{arith}
 use Rattle.find.proofs.shared.Statement.{statement}
@@ -6,14 +8,14 @@ use Rattle.find.proofs.shared.Reads as reads
 use Rattle.find.proofs.shared.Lts as lts
 
 abbrev Inv-loop : tie.InvT-loop
-Inv-loop t from s at size n₀ n = ?
+Inv-loop t from s at size n₀ n = Sharing t from s at size n
 
 abbrev μ-loop : tie.MeasureT-loop
-μ-loop t from s at size n₀ n = ?
+μ-loop t from s at size n₀ n = size - n
 
 -- src/lib.rt:134:5
 loop-holds : tie.Need-loop-holds Inv-loop μ-loop
-loop-holds c = search needs
+loop-holds c = search sharing-none
 
 -- src/lib.rt:135:14
 add-if1 : tie.Need-add-if1 Inv-loop μ-loop
@@ -49,15 +51,15 @@ loop-less c = search needs
 
 -- src/lib.rt:134:5
 loop-again : tie.Need-loop-again Inv-loop μ-loop
-loop-again c = search needs
+loop-again c = search sharing-more
 
 -- src/lib.rt:138:13
 returns : tie.Need-returns Inv-loop μ-loop
-returns c = search needs
+returns c = search shares-some
 
 -- src/lib.rt:129:1
 returns-2 : tie.Need-returns-2 Inv-loop μ-loop
-returns-2 c = search needs
+returns-2 c = search shares-all
 
 pub shared-spec : {M : Type 1} → statement M
 shared-spec =
