@@ -18,15 +18,9 @@ use Rattle.layout.specs.Parts.{recordAt}
 use Rattle.layout.proofs.LayoutLaws.{recordAt-room, recordAt-small}
 use Rattle.layout.proofs.PartLaws.{table-good, table-long}
 use Rattle.find.specs.Search.{Counted, Lists, listedChars, listedKey, keyIn, Least}
-use Rattle.find.proofs.ListedLaws.{listed-place, listed-rising, number-stored, place-stored}
+use Rattle.find.proofs.ListedLaws.{listed-place, listed-rising, some-item, number-stored, place-stored}
 
 -- ## Reading the permutation and the items' numbers
-
--- How large an accepted table's records are, and where one of them is.
-pub record Room (t : List ℕ) (levels items at : ℕ) : Type 0 where
-  pub few-levels : levels ≤ 8
-  pub few-items : items ≤ 32768
-  pub room : at + 6 ≤ length t
 
 module _ {t : List ℕ} {levels items : ℕ} (w : Counted t levels items) where
   pub counted-good : Good (meaningIn t)
@@ -37,6 +31,9 @@ module _ {t : List ℕ} {levels items : ℕ} (w : Counted t levels items) where
 
   pub few-items : items ≤ 32768
   few-items = omega (arith, w .items-are, counted-good .few-items)
+
+  pub search-some : 1 ≤ items
+  search-some = omega (arith, w .items-are, some-item (meaningIn t) counted-good)
 
   pub record-room : (k : ℕ) {at : ℕ} → k < items → at ≡ recordAt levels k → at + 6 ≤ length t
   record-room k b e =

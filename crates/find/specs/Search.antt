@@ -68,6 +68,13 @@ pub record Shares (t : List ℕ) (a : ℕ) (s : List ℕ) (b size r : ℕ) : Typ
 abbrev pub AtMost : List Item → List ℕ → ℕ → Type 0
 AtMost is s m = (q : ℕ) → q < length is → begins (getD is q noItem .chars) s ≡ true → length (getD is q noItem .chars) ≤ m
 
+-- All characters from a place on, at most four.
+pub record Window (s : List ℕ) (at size : ℕ) : Type 0 where
+  pub some : 0 < size
+  pub few : size ≤ 4
+  pub left : at + size ≤ length s
+  pub all : size < 4 → at + size ≡ length s
+
 -- A string of characters of which `size` are left at a place, that no item that stands there exceeds.
 pub record Ahead (is : List Item) (s : List ℕ) (at size : ℕ) : Type 0 where
   pub characters : every isCharacter s ≡ true

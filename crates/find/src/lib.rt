@@ -12,7 +12,7 @@ ghost use Rattle.rules.specs.Text.{every};
 ghost use Rattle.rules.specs.Names.{isCharacter};
 ghost use Rattle.rules.specs.Table.{pad, padded, before, accepted, meaningIn};
 ghost use Rattle.rules.specs.Order.{stepOf};
-ghost use Rattle.find.specs.Search.{foundAs, keyOf, keyIn, listedKey, Counted, Lists, Least, Shares, Ahead, Looked};
+ghost use Rattle.find.specs.Search.{foundAs, keyOf, keyIn, listedKey, Counted, Lists, Least, Shares, Window, Ahead, Looked};
 use layout::items;
 use layout::levels;
 use layout::record_at;
@@ -81,7 +81,6 @@ fn before_key(t: &[u32], at: usize, key: Key) -> bool
 // The first listed item that does not come before four numbers; UNDEFINED, the last, does not.
 fn first_from(t: &[u32], levels: usize, items: usize, key: Key) -> usize
     requires { ⌜ Counted (now t) levels items ⌝ }
-    requires { ⌜ 1 ≤ items ⌝ }
     requires { ⌜ before (listedKey (meaningIn (now t) .items) (items - 1)) (keyOf key) ≡ false ⌝ }
     ensures { λ r. ⌜ Least (meaningIn (now (t .entry)) .items) items (keyOf key) r ⌝ }
 {
@@ -164,6 +163,18 @@ fn look(t: &[u32], levels: usize, items: usize, s: &[u32], at: usize, size: usiz
     Near::Within(n)
 }
 
+// How many of the characters from a place on can be an item's: at most four.
+fn ahead(s: &[u32], at: usize) -> usize
+    requires { ⌜ at < length (now s) ⌝ }
+    ensures { λ r. ⌜ Window (now (s .entry)) at r ⌝ }
+{
+    let left = s.len() - at;
+    if 4 < left {
+        return 4;
+    }
+    left
+}
+
 // The element that begins at a place of a string of characters.
 pub fn longest(t: &[u32], s: &[u32], at: usize) -> Found
     requires { ⌜ accepted (now t) ≡ true ⌝ }
@@ -173,10 +184,7 @@ pub fn longest(t: &[u32], s: &[u32], at: usize) -> Found
 {
     let l = levels(t);
     let n = items(t);
-    let mut size = s.len() - at;
-    if 4 < size {
-        size = 4;
-    }
+    let mut size = ahead(s, at);
     while 0 < size {
         let look = look(t, l, n, s, at, size);
         match look {

@@ -1,4 +1,4 @@
-use Rattle.find.proofs.SearchLaws.{few-levels, few-items, listed-room, half}
+use Rattle.find.proofs.SearchLaws.{few-levels, few-items, search-some, listed-room, half}
 use Prim.Native.Nat.{_-_}
 use Rattle.find.specs.Search.{keyOf}
 use Rattle.rules.specs.Table.{meaningIn}
@@ -21,11 +21,11 @@ abbrev μ-loop : tie.MeasureT-loop
 
 -- src/lib.rt:89:18
 sub-hi : tie.Need-sub-hi Inv-loop μ-loop
-sub-hi c = search needs
+sub-hi c = omega (arith, search-some (c .before .pre .0))
 
 -- src/lib.rt:90:5
 loop-holds : tie.Need-loop-holds Inv-loop μ-loop
-loop-holds c = search halving-start
+loop-holds c = halving-start _ _ _ (search-some (c .before .pre .0)) (c .before .pre .1)
 
 -- src/lib.rt:91:25
 sub-mid : tie.Need-sub-mid Inv-loop μ-loop
