@@ -1,14 +1,14 @@
 -- The order of four numbers beside the beginnings of a string: of two beginnings the longer comes first, and what comes between two of
 -- them begins with the shorter. Padding is above every character.
 use mathlib.Core.Path.{_≡_, refl, sym, _∙_}
-use mathlib.Core.Bool.{Bool, true, false, not, _&&_, _||_}
+use mathlib.Core.Bool.{true, false, not}
 use mathlib.Core.List.{List, [], _∷_}
 use Prim.Native.Nat.{ℕ, zero, suc, _≤_, _<_}
 use native.Mathlib.Omega.{arith}
 use lib.ListN.{length, getD, take}
 use lib.Seq.{take-nil}
 use lib.Dec.{ltb, leb, eqb}
-use borrow.Author.Tests.{leb-true, lt-ltb, le-ltb, ltb-true, ltb-false, eq-eqb, eqb-true, eqb-false, ne-eqb}
+use borrow.Author.Tests.{leb-true, lt-ltb, le-ltb, ltb-true, ltb-false, eq-eqb, eqb-true, ne-eqb}
 use Rattle.lists.proofs.Bools.{and-left, and-right, and-intro, by, clash}
 use Rattle.rules.specs.Text.{within, every, begins}
 use Rattle.rules.specs.Names.{isCharacter}

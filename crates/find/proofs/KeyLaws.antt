@@ -1,5 +1,5 @@
 -- Keys: the comparison of the four numbers in a record with a key, the key of a string's beginning, and how much a record shares with a string.
-use mathlib.Core.Path.{_≡_, refl, sym, ap, _∙_}
+use mathlib.Core.Path.{_≡_, sym, _∙_}
 use mathlib.Core.Bool.{true, false, and-false, or-false}
 use mathlib.Core.List.{List, [], _∷_}
 use Prim.Native.Nat.{ℕ, _+_, _≤_, _<_}
@@ -9,10 +9,8 @@ use lib.ListN.{length, getD, take, drop, length-take, List·getD-eq-default}
 use lib.Seq.{getD-take, getD-drop}
 use lib.Dec.{ltb, eqb}
 use borrow.Author.Count.{below-more}
-use borrow.Author.Tests.{ltb-true, ltb-false}
-use Rattle.lists.proofs.Bools.{by}
 use Rattle.lists.proofs.Places.{getD-default}
-use Rattle.rules.specs.Table.{pad, padded, before}
+use Rattle.rules.specs.Table.{pad, before}
 use Rattle.find.specs.declared.Key.{Key}
 use Rattle.find.specs.Search.{keyOf, keyIn, Shares}
 use Rattle.find.proofs.BeginningLaws.{before-smaller, before-greater, before-tail}

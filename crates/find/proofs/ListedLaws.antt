@@ -1,31 +1,29 @@
 -- The permutation of an accepted table, place by place: it lists every item once, rising, with UNDEFINED the last; and where its numbers and
 -- the items' numbers stand in the table.
 use mathlib.Core.Path.{_≡_, refl, sym, ap, _∙_}
-use mathlib.Core.Bool.{Bool, true, false, _&&_, _||_, false≢true}
+use mathlib.Core.Bool.{Bool, true, false, _&&_, false≢true}
 use mathlib.Core.List.{List, [], _∷_}
 use Prim.Native.Nat.{ℕ, zero, suc, pred, _+_, _-_, _≤_, _<_}
-use native.Mathlib.Numerals.{sub-one}
 use native.Mathlib.Omega.{arith}
 use native.Mathlib.Decide.{decLt}
-use lib.ListN.{length, getD, take, drop}
+use lib.ListN.{length, getD}
 use lib.Seq.{getD-drop, take-length}
 use lib.Dec.{eqb}
 use borrow.Author.Tests.{eqb-true}
 use Rattle.lists.proofs.Bools.{and-left, and-right, by, clash}
 use Rattle.rules.specs.Text.{within, every, oneOf, same}
 use Rattle.rules.specs.Names.{isCharacter}
-use Rattle.rules.specs.Meaning.{Item, Meaning, goodItem, hasChars, noTwoAlike}
+use Rattle.rules.specs.Meaning.{Item, Meaning, goodItem, hasChars}
 use Rattle.rules.specs.Table.{pad, padded, before, permutation, accepted, meaningIn}
 use Rattle.rules.specs.Order.{noItem}
-use Rattle.rules.proofs.TextLaws.{every-getD, within-low, within-high, within-intro, same-true}
+use Rattle.rules.proofs.TextLaws.{within-low, within-high, within-intro, same-true}
 use Rattle.rules.proofs.MeaningLaws.{Good, GoodItem, item-parts}
 use Rattle.rules.proofs.TableLaws.{items-stored}
 use Rattle.rules.proofs.PermutationLaws.{before-trans}
 use Rattle.rules.proofs.LinearLaws.{many, keyAt, risesAfter, rises, permutes, permutes-places, permutation-permutes, permutation-lists}
 use Rattle.layout.specs.Parts.{recordAt}
-use Rattle.layout.proofs.LayoutLaws.{recordAt-room, recordAt-small}
-use Rattle.layout.proofs.PartLaws.{table-good, table-long, table-record}
-use Rattle.find.specs.Search.{Counted, Lists, listedChars, listedKey, keyIn}
+use Rattle.layout.proofs.PartLaws.{table-record}
+use Rattle.find.specs.Search.{listedChars, listedKey}
 use Rattle.find.proofs.BeginningLaws.{longer-before}
 
 -- ## Places of rising items

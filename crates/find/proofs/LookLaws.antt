@@ -10,7 +10,7 @@ use lib.Seq.{getD-drop}
 use Rattle.lists.proofs.Bools.{clash}
 use Rattle.rules.specs.Text.{every, begins}
 use Rattle.rules.specs.Names.{isCharacter}
-use Rattle.rules.specs.Meaning.{Item, Meaning}
+use Rattle.rules.specs.Meaning.{Meaning}
 use Rattle.rules.specs.Table.{pad, padded, before, permutation, accepted, meaningIn}
 use Rattle.rules.specs.Order.{noItem, undefinedFrom, stepOf}
 use Rattle.rules.proofs.TextLaws.{every-tail, begins-split, within-low, within-high}
@@ -59,9 +59,9 @@ module _ (m : Meaning) (g : Good m) (s : List ℕ) (h : every isCharacter s ≡ 
             elim (decLt i k) [
               | yes l ↦ clash (rw is′ at (least .below i l)) (longer-before s (length cs) size h short)
               | no n ↦ elim (decLt k i) [
-                  | yes l ↦ between-begins (listedChars (m .items) k) s (length cs) size h short left (least .here) (rw is′ at (listed-rising m g k i l c))
-                  | no n′ ↦ let e : i ≡ k = omega arith in rw (← e, is) (begins-agree cs s t)
-                ]
+                | yes l ↦ between-begins (listedChars (m .items) k) s (length cs) size h short left (least .here) (rw is′ at (listed-rising m g k i l c))
+                | no n′ ↦ let e : i ≡ k = omega arith in rw (← e, is) (begins-agree cs s t)
+              ]
             ]
 
     -- where the two part, no item that s begins with reaches

@@ -1,21 +1,20 @@
 -- The search by halving: what the readers of the permutation and of keys give, the loop of first_from, and what one search says of the element.
-use mathlib.Core.Path.{_≡_, refl, sym, ap, _∙_}
-use mathlib.Core.Logic.{_⊎_, inl, inr}
+use mathlib.Core.Path.{_≡_, sym, ap, _∙_}
 use mathlib.Core.Bool.{Bool, true, false}
-use mathlib.Core.List.{List, [], _∷_}
-use Prim.Native.Nat.{ℕ, zero, suc, pred, _+_, _-_, _/_, _≤_, _<_}
+use mathlib.Core.List.{List}
+use Prim.Native.Nat.{ℕ, pred, _+_, _-_, _/_, _≤_, _<_}
 use native.Mathlib.Numerals.{sub-one}
 use native.Mathlib.Omega.{arith}
 use native.Mathlib.Decide.{decLt}
-use lib.ListN.{length, getD, take, drop}
+use lib.ListN.{length, getD}
 use Rattle.rules.specs.Meaning.{Item}
-use Rattle.rules.specs.Table.{pad, padded, before, permutation, accepted, meaningIn}
+use Rattle.rules.specs.Table.{pad, before, permutation, meaningIn}
 use Rattle.rules.specs.Order.{noItem}
 use Rattle.rules.proofs.TextLaws.{within-low, within-high}
 use Rattle.rules.proofs.MeaningLaws.{Good}
 use Rattle.rules.proofs.PermutationLaws.{before-trans}
 use Rattle.layout.specs.Parts.{recordAt}
-use Rattle.layout.proofs.LayoutLaws.{recordAt-room, recordAt-small}
+use Rattle.layout.proofs.LayoutLaws.{recordAt-room}
 use Rattle.layout.proofs.PartLaws.{table-good, table-long}
 use Rattle.find.specs.Search.{Counted, Lists, listedChars, listedKey, keyIn, Least}
 use Rattle.find.proofs.ListedLaws.{listed-place, listed-rising, some-item, number-stored, place-stored}

@@ -1,12 +1,13 @@
-// The element that begins at a place of a string: the longest listed item that stands there, found by halving the table's permutation, or one character as UNDEFINED.
+// The element that begins at a place of a string: the longest listed item that stands there, else one character as UNDEFINED.
 //
-// The permutation lists the items by their four numbers, and the padding is above every character: of two items that begin alike the longer
-// stands first, and UNDEFINED last. A search for the first four characters left comes to an item that shares the most with them; either it is
-// the element, or no item that the string begins with is longer than what they share, and the search goes on for that beginning.
+// A table's permutation lists the items by their four numbers, and padding is above every character: of two items that begin alike the
+// longer is listed first, and UNDEFINED last. Halving finds the first listed item that does not come before the next four characters. It is
+// the element if the string begins with all of it; else no item that stands there is longer than what the two share, and the search goes on
+// for that beginning. Most places need one search, none more than four.
 ghost use mathlib.Core.Path.{_≡_};
 ghost use mathlib.Core.Bool.{true, false};
-ghost use Prim.Native.Nat.{_+_, _-_, _≤_, _<_};
 ghost use mathlib.Core.List.{[]};
+ghost use Prim.Native.Nat.{_+_, _-_, _≤_, _<_};
 ghost use lib.ListN.{length, getD, take, drop};
 ghost use Rattle.rules.specs.Text.{every};
 ghost use Rattle.rules.specs.Names.{isCharacter};
@@ -35,7 +36,7 @@ struct Key {
 enum Near {
     // the element
     Element(Found),
-    // no element, but the number of characters that none of its size exceeds
+    // no item that stands there has more characters than this
     Within(usize),
 }
 
@@ -49,7 +50,7 @@ fn item_at(t: &[u32], levels: usize, items: usize, k: usize) -> usize
     t[at + 5] as usize
 }
 
-// Whether the four numbers of the item whose record begins at a place come before others.
+// Whether the four numbers at a place, where an item's record begins, come before a key.
 fn before_key(t: &[u32], at: usize, key: Key) -> bool
     requires { ⌜ at + 4 ≤ length (now t) ⌝ }
     ensures { λ r. ⌜ r ≡ before (keyIn (now (t .entry)) at) (keyOf key) ⌝ }
@@ -78,7 +79,7 @@ fn before_key(t: &[u32], at: usize, key: Key) -> bool
     t[at + 3] < key.d
 }
 
-// The first listed item that does not come before four numbers; UNDEFINED, the last, does not.
+// Where the first item is listed that does not come before a key, from 0. The last, UNDEFINED, does not.
 fn first_from(t: &[u32], levels: usize, items: usize, key: Key) -> usize
     requires { ⌜ Counted (now t) levels items ⌝ }
     requires { ⌜ before (listedKey (meaningIn (now t) .items) (items - 1)) (keyOf key) ≡ false ⌝ }
@@ -100,9 +101,9 @@ fn first_from(t: &[u32], levels: usize, items: usize, key: Key) -> usize
     lo
 }
 
-// The character that stands i after a place, or the padding from `size` on.
+// Number i of the key of `size` characters from a place on: a character, or padding behind them.
 fn number(s: &[u32], at: usize, size: usize, i: usize) -> u32
-    requires { ⌜ (at + size ≤ length (now s)) × (i < 4) ⌝ }
+    requires { ⌜ at + size ≤ length (now s) ⌝ }
     ensures { λ r. ⌜ r ≡ getD (take size (drop at (now (s .entry)))) i pad ⌝ }
 {
     if i < size {
@@ -111,7 +112,7 @@ fn number(s: &[u32], at: usize, size: usize, i: usize) -> u32
     0x110000
 }
 
-// The first `size` characters from a place on, as four numbers.
+// The key of `size` characters from a place on.
 fn key_at(s: &[u32], at: usize, size: usize) -> Key
     requires { ⌜ at + size ≤ length (now s) ⌝ }
     ensures { λ r. ⌜ keyOf r ≡ padded (take size (drop at (now (s .entry)))) [] ⌝ }
@@ -124,7 +125,7 @@ fn key_at(s: &[u32], at: usize, size: usize) -> Key
     }
 }
 
-// How many of the next `size` characters the item whose record begins at a place begins with.
+// How many of `size` characters from a place on the item begins with whose record begins at `from`.
 fn shared(t: &[u32], from: usize, s: &[u32], at: usize, size: usize) -> usize
     requires { ⌜ (from + 4 ≤ length (now t)) × (at + size ≤ length (now s)) × (size ≤ 4) ⌝ }
     ensures { λ r. ⌜ Shares (now (t .entry)) from (now (s .entry)) at size r ⌝ }
@@ -140,7 +141,7 @@ fn shared(t: &[u32], from: usize, s: &[u32], at: usize, size: usize) -> usize
     n
 }
 
-// One search, for the next `size` characters, where no item that stands there is longer.
+// One search, for `size` characters from a place on, where no item that stands there has more.
 fn look(t: &[u32], levels: usize, items: usize, s: &[u32], at: usize, size: usize) -> Near
     requires { ⌜ Counted (now t) levels items ⌝ }
     requires { ⌜ Ahead (meaningIn (now t) .items) (now s) at size ⌝ }
@@ -155,15 +156,21 @@ fn look(t: &[u32], levels: usize, items: usize, s: &[u32], at: usize, size: usiz
         return Near::Within(0);
     }
     if n == size {
-        return Near::Element(Found { place: place, size: n });
+        return Near::Element(Found {
+            place: place,
+            size: n,
+        });
     }
     if t[from + n] == 0x110000 {
-        return Near::Element(Found { place: place, size: n });
+        return Near::Element(Found {
+            place: place,
+            size: n,
+        });
     }
     Near::Within(n)
 }
 
-// How many of the characters from a place on can be an item's: at most four.
+// How many characters from a place on can be an item's: all that are left, at most four.
 fn ahead(s: &[u32], at: usize) -> usize
     requires { ⌜ at < length (now s) ⌝ }
     ensures { λ r. ⌜ Window (now (s .entry)) at r ⌝ }
@@ -186,8 +193,8 @@ pub fn longest(t: &[u32], s: &[u32], at: usize) -> Found
     let n = items(t);
     let mut size = ahead(s, at);
     while 0 < size {
-        let look = look(t, l, n, s, at, size);
-        match look {
+        let near = look(t, l, n, s, at, size);
+        match near {
             Near::Element(found) => return found,
             Near::Within(m) => {
                 size = m;
@@ -195,5 +202,8 @@ pub fn longest(t: &[u32], s: &[u32], at: usize) -> Found
         }
     }
     let last = item_at(t, l, n, n - 1);
-    Found { place: last, size: 1 }
+    Found {
+        place: last,
+        size: 1,
+    }
 }

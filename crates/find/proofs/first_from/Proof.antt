@@ -1,17 +1,13 @@
-use Rattle.find.proofs.SearchLaws.{few-levels, few-items, search-some, listed-room, half}
+-- `find::first_from` meets its contract. The loop's invariant: the items listed before lo come before the key, and the one listed at hi does not. The measure is hi - lo.
 use Prim.Native.Nat.{_-_}
-use Rattle.find.specs.Search.{keyOf}
-use Rattle.rules.specs.Table.{meaningIn}
-use Rattle.find.proofs.SearchLaws.{Halving, halving-start, halving-up, halving-down, halving-end}
-use borrow.Author.Needs.{needs}
 use native.Mathlib.Omega.{arith}
+use borrow.Author.Needs.{needs}
+use Rattle.rules.specs.Table.{meaningIn}
+use Rattle.find.specs.Search.{keyOf}
+use Rattle.find.proofs.SearchLaws.{few-levels, few-items, search-some, listed-room, half}
+use Rattle.find.proofs.SearchLaws.{Halving, halving-start, halving-up, halving-down, halving-end}
 use Rattle.find.proofs.first_from.Statement.{statement}
 use Rattle.find.proofs.first_from.Tie as tie
-use Rattle.find.proofs.first_from.Reads as reads
-use Rattle.find.proofs.first_from.Lts as lts
-use Rattle.find.proofs.before_key.Reads as before-key-reads
-use Rattle.find.proofs.item_at.Reads as item-at-reads
-use Rattle.layout.proofs.record_at.Reads as record-at-reads
 
 abbrev Inv-loop : tie.InvT-loop
 Inv-loop t levels items key lo₀ hi₀ lo hi = Halving (meaningIn t .items) items (keyOf key) lo hi
@@ -19,62 +15,48 @@ Inv-loop t levels items key lo₀ hi₀ lo hi = Halving (meaningIn t .items) ite
 abbrev μ-loop : tie.MeasureT-loop
 μ-loop t levels items key lo₀ hi₀ lo hi = hi - lo
 
--- src/lib.rt:89:18
 sub-hi : tie.Need-sub-hi Inv-loop μ-loop
 sub-hi c = omega (arith, search-some (c .before .pre .0))
 
--- src/lib.rt:90:5
 loop-holds : tie.Need-loop-holds Inv-loop μ-loop
 loop-holds c = halving-start _ _ _ (search-some (c .before .pre .0)) (c .before .pre .1)
 
--- src/lib.rt:91:25
 sub-mid : tie.Need-sub-mid Inv-loop μ-loop
 sub-mid c = search needs
 
--- src/lib.rt:91:19
 add-mid : tie.Need-add-mid Inv-loop μ-loop
 add-mid c = search needs
 
--- src/lib.rt:92:13
 item-at-requires : tie.Need-item-at-requires Inv-loop μ-loop
 item-at-requires c κs = search needs
 
--- src/lib.rt:93:36
 sub-record-at : tie.Need-sub-record-at Inv-loop μ-loop
 sub-record-at c = search needs
 
--- src/lib.rt:93:13
 record-at-requires : tie.Need-record-at-requires Inv-loop μ-loop
 record-at-requires c κs = let s = c .before .before .before .before in (few-levels (s .pre .0), omega (arith, few-items (s .pre .0), c .item-at .ensures .in-items))
 
--- src/lib.rt:94:13
 before-key-requires : tie.Need-before-key-requires Inv-loop μ-loop
 before-key-requires c κs =
     let s = c .before .before .before .before .before in
     let v = c .before .before .before .loop in
     omega (arith, listed-room (s .pre .0) (half (v .lo) (v .hi)) (c .before .item-at .result) (search needs) (c .before .item-at .ensures) (c .record-at .ensures))
 
--- src/lib.rt:96:18
 add-lo : tie.Need-add-lo Inv-loop μ-loop
 add-lo c = search needs
 
--- src/lib.rt:90:5
 loop-less : tie.Need-loop-less Inv-loop μ-loop
 loop-less c = search needs
 
--- src/lib.rt:90:5
 loop-again : tie.Need-loop-again Inv-loop μ-loop
 loop-again c = search halving-up
 
--- src/lib.rt:90:5
 loop-less-2 : tie.Need-loop-less-2 Inv-loop μ-loop
 loop-less-2 c = search needs
 
--- src/lib.rt:90:5
 loop-again-2 : tie.Need-loop-again-2 Inv-loop μ-loop
 loop-again-2 c = search halving-down
 
--- src/lib.rt:82:1
 returns : tie.Need-returns Inv-loop μ-loop
 returns c = search halving-end
 

@@ -1,34 +1,25 @@
+-- `find::item_at` meets its contract: record k has number k of the permutation.
 use Prim.Native.Nat.{_+_}
-use Rattle.find.proofs.SearchLaws.{few-levels, few-items, record-room, lists}
-use borrow.Author.Needs.{needs}
 use native.Mathlib.Omega.{arith}
+use Rattle.find.proofs.SearchLaws.{few-levels, few-items, record-room, lists}
 use Rattle.find.proofs.item_at.Statement.{statement}
 use Rattle.find.proofs.item_at.Tie as tie
-use Rattle.find.proofs.item_at.Reads as reads
-use Rattle.find.proofs.item_at.Lts as lts
-use Rattle.layout.proofs.record_at.Reads as record-at-reads
 
--- src/lib.rt:48:9
 record-at-requires : tie.Need-record-at-requires
 record-at-requires c κs = let s = c .before in (few-levels (s .pre .0), omega (arith, few-items (s .pre .0)))
 
--- src/lib.rt:49:7
 add-result : tie.Need-add-result
 add-result c = let s = c .before .before in omega (arith, record-room (s .pre .0) (s .args .k) (s .pre .1) (c .record-at .ensures))
 
--- src/lib.rt:49:5
 mul-result : tie.Need-mul-result
 mul-result c = let s = c .before .before in omega (arith, record-room (s .pre .0) (s .args .k) (s .pre .1) (c .record-at .ensures))
 
--- src/lib.rt:49:5
 shared-slice-read-result : tie.Need-shared-slice-read-result
 shared-slice-read-result c = let s = c .before .before .before in omega (arith, record-room (s .pre .0) (s .args .k) (s .pre .1) (c .before .record-at .ensures))
 
--- src/lib.rt:49:5
 cast-result : tie.Need-cast-result
 cast-result c = omega (arith, c .shared-slice-known2 .given (c .before .record-at .result + 5))
 
--- src/lib.rt:43:1
 returns : tie.Need-returns
 returns c = search lists
 

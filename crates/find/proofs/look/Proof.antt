@@ -1,40 +1,28 @@
-use Rattle.find.proofs.SearchLaws.{few-levels, few-items, listed-room}
-use Rattle.find.proofs.LookLaws.{search-ends, look-none, look-all, look-whole, look-part}
+-- `find::look` meets its contract: the first listed item that does not come before the next characters begins as far as each item that stands there.
 use native.Mathlib.Omega.{arith}
 use borrow.Author.Needs.{needs}
+use Rattle.find.proofs.SearchLaws.{few-levels, few-items, listed-room}
+use Rattle.find.proofs.LookLaws.{search-ends, look-none, look-all, look-whole, look-part}
 use Rattle.find.proofs.look.Statement.{statement}
 use Rattle.find.proofs.look.Tie as tie
-use Rattle.find.proofs.look.Reads as reads
-use Rattle.find.proofs.look.Lts as lts
-use Rattle.find.proofs.first_from.Reads as first-from-reads
-use Rattle.find.proofs.item_at.Reads as item-at-reads
-use Rattle.find.proofs.key_at.Reads as key-at-reads
-use Rattle.find.proofs.shared.Reads as shared-reads
-use Rattle.layout.proofs.record_at.Reads as record-at-reads
 
--- src/lib.rt:150:9
 key-at-requires : tie.Need-key-at-requires
 key-at-requires c κs = search needs
 
--- src/lib.rt:151:9
 first-from-requires : tie.Need-first-from-requires
 first-from-requires c κs = let s = c .before .before .before in (s .pre .0, search-ends (s .pre .0) (s .pre .1) (c .key-at .ensures))
 
--- src/lib.rt:152:9
 item-at-requires : tie.Need-item-at-requires
 item-at-requires c κs = search needs
 
--- src/lib.rt:153:34
 sub-record-at : tie.Need-sub-record-at
 sub-record-at c = search needs
 
--- src/lib.rt:153:9
 record-at-requires : tie.Need-record-at-requires
 record-at-requires c κs =
     let w = c .before .before .before .before .before .pre .0 in
     (few-levels w, omega (arith, few-items w, c .item-at .ensures .in-items))
 
--- src/lib.rt:154:9
 shared-requires : tie.Need-shared-requires
 shared-requires c κs =
     let s = c .before .before .before .before .before .before in
@@ -43,15 +31,12 @@ shared-requires c κs =
     let a = s .pre .1 in
     (omega arith, a .left, a .few)
 
--- src/lib.rt:156:9
 returns : tie.Need-returns
 returns c = search look-none
 
--- src/lib.rt:159:9
 returns-2 : tie.Need-returns-2
 returns-2 c = search look-all
 
--- src/lib.rt:161:10
 add-if3 : tie.Need-add-if3
 add-if3 c =
     let r = c .before .before .before in
@@ -63,7 +48,6 @@ add-if3 c =
     let most = c .before .before .shared .ensures .within in
     omega arith
 
--- src/lib.rt:161:8
 mul-if3 : tie.Need-mul-if3
 mul-if3 c =
     let r = c .before .before .before in
@@ -75,7 +59,6 @@ mul-if3 c =
     let most = c .before .before .shared .ensures .within in
     omega arith
 
--- src/lib.rt:161:8
 shared-slice-read-if3 : tie.Need-shared-slice-read-if3
 shared-slice-read-if3 c =
     let r = c .before .before .before .before in
@@ -87,11 +70,9 @@ shared-slice-read-if3 c =
     let most = c .before .before .before .shared .ensures .within in
     omega arith
 
--- src/lib.rt:162:9
 returns-3 : tie.Need-returns-3
 returns-3 c = search look-whole
 
--- src/lib.rt:145:1
 returns-4 : tie.Need-returns-4
 returns-4 c = search look-part
 
