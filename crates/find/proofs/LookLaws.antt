@@ -16,14 +16,14 @@ use Rattle.rules.specs.Order.{noItem, undefinedFrom, stepOf}
 use Rattle.rules.proofs.TextLaws.{every-tail, begins-split, within-low, within-high}
 use Rattle.rules.proofs.MeaningLaws.{Good, item-parts}
 use Rattle.rules.proofs.ElementLaws.{charsAt, step-is, step-undefined, undefined-is}
-use Rattle.layout.specs.Parts.{recordAt}
 use Rattle.find.specs.declared.Found.{Found}
+use Rattle.find.specs.declared.Listed.{Listed}
 use Rattle.find.specs.declared.Near.{Near}
 use Rattle.find.specs.declared.Near.the-variants.{Element, Within}
 use Rattle.find.specs.Search.{foundAs, Counted, Lists, listedChars, listedKey, Least, Shares, AtMost, Window, Ahead, Looked}
 use Rattle.find.proofs.BeginningLaws.{Agree, longer-before, between-begins, begins-short, begins-agree, agree-begins, agree-long, begins-take, pad-over}
 use Rattle.find.proofs.ListedLaws.{listed-place, listed-rising, item-listed, item-good, listed-characters, listed-short, some-item, undefined-last}
-use Rattle.find.proofs.SearchLaws.{counted-good, number-is}
+use Rattle.find.proofs.SearchLaws.{counted-good}
 
 module _ (m : Meaning) (g : Good m) (s : List ℕ) (h : every isCharacter s ≡ true) where
   -- UNDEFINED, which is listed last, comes before no beginning of s
@@ -109,22 +109,19 @@ module _ {t : List ℕ} {levels items : ℕ} (w : Counted t levels items) {s : L
   pub search-ends : before (listedKey (meaningIn t .items) (items - 1)) key ≡ false
   search-ends = rw (ke, w .items-are) (last-from (meaningIn t) (counted-good w) (drop at s) characters size)
 
-  module _ {k : ℕ} (le : Least (meaningIn t .items) items key k) {p : ℕ} (l : Lists t items k p) {from : ℕ} (e : from ≡ recordAt levels (p - 1)) {n : ℕ}
-      (sh : Shares t from s at size n) where
+  module _ {k : ℕ} (le : Least (meaningIn t .items) items key k) {i : Listed} (l : Lists t k i) {n : ℕ}
+      (sh : Shares t (i .from) s at size n) where
     least : Least (meaningIn t .items) (length (meaningIn t .items)) (padded (take size (drop at s)) []) k
     least = rw (ke, w .items-are) at le
 
-    shared-number : (i : ℕ) → i < 4 → getD t (from + i) 0 ≡ getD (listedChars (meaningIn t .items) k) i pad
-    shared-number = number-is w k p (le .inside) l e
-
     agree : Agree (listedChars (meaningIn t .items) k) (drop at s) n
-    agree i b =
-        sym (shared-number i (let few = a .few in let c = sh .within in omega arith)) ∙ sh .same i b ∙ sym (getD-drop at s i 0)
+    agree j b =
+        sym (l .numbers j (let few = a .few in let c = sh .within in omega arith)) ∙ sh .same j b ∙ sym (getD-drop at s j 0)
 
     stop : n < size → getD (listedChars (meaningIn t .items) k) n pad ≡ getD (drop at s) n 0 → ⊥
-    stop b q = sh .stop b (shared-number n (let few = a .few in omega arith) ∙ q ∙ getD-drop at s n 0)
+    stop b q = sh .stop b (l .numbers n (let few = a .few in omega arith) ∙ q ∙ getD-drop at s n 0)
 
-    element : 1 ≤ n → length (listedChars (meaningIn t .items) k) ≤ n → Looked (meaningIn t .items) (drop at s) size (Element (record { place = p; size = n }))
+    element : 1 ≤ n → length (listedChars (meaningIn t .items) k) ≤ n → Looked (meaningIn t .items) (drop at s) size (Element (record { place = i .place; size = n }))
     element b c =
         rw (l .is)
         (whole (meaningIn t) (counted-good w) (drop at s) characters size long (a .most) k least n b (let f = long in let d = sh .within in omega arith) c agree)
@@ -136,7 +133,7 @@ module _ {t : List ℕ} {levels items : ℕ} (w : Counted t levels items) {s : L
     look-none z = rw z at (within (let b = a .some in omega arith))
 
     module _ (z : n ≡ 0 → ⊥) where
-      pub look-all : n ≡ size → Looked (meaningIn t .items) (drop at s) size (Element (record { place = p; size = n }))
+      pub look-all : n ≡ size → Looked (meaningIn t .items) (drop at s) size (Element (record { place = i .place; size = n }))
       look-all q =
           element (omega arith)
           (begins-short (listedChars (meaningIn t .items) k) (drop at s) n (listed-characters (meaningIn t) (counted-good w) k (least .inside))
@@ -145,11 +142,11 @@ module _ {t : List ℕ} {levels items : ℕ} (w : Counted t levels items) {s : L
           (rw q (least .here)) agree)
 
       module _ (y : n ≡ size → ⊥) where
-        pub look-whole : getD t (from + n) 0 ≡ pad → Looked (meaningIn t .items) (drop at s) size (Element (record { place = p; size = n }))
+        pub look-whole : getD t (i .from + n) 0 ≡ pad → Looked (meaningIn t .items) (drop at s) size (Element (record { place = i .place; size = n }))
         look-whole q =
             element (omega arith)
             (pad-over (listedChars (meaningIn t .items) k) n (listed-characters (meaningIn t) (counted-good w) k (least .inside))
-            (sym (shared-number n (let few = a .few in let d = sh .within in omega arith)) ∙ q))
+            (sym (l .numbers n (let few = a .few in let d = sh .within in omega arith)) ∙ q))
 
         pub look-part : Looked (meaningIn t .items) (drop at s) size (Within n)
         look-part = within (let d = sh .within in omega arith)
@@ -210,10 +207,10 @@ module _ {t s : List ℕ} {at levels items size : ℕ} (v : Seeking t s at level
           most = p .1;
         }
 
-  pub seeking-none : size ≤ 0 → {p : ℕ} → Lists t items (items - 1) p → record { place = p; size = 1 } ≡ stepOf (meaningIn t .items) (drop at s)
-  seeking-none h {p} l =
+  pub seeking-none : size ≤ 0 → {i : Listed} → Lists t (items - 1) i → record { place = i .place; size = 1 } ≡ stepOf (meaningIn t .items) (drop at s)
+  seeking-none h {i} l =
       let z : size ≡ 0 = omega arith in
-      let e : p ≡ getD (permutation (meaningIn t .items)) (length (meaningIn t .items) - 1) 0 = rw (v .counted .items-are) at (l .is) in
-      let some : 0 < length (drop at s) = rw (length-drop at s) (let i = v .inside in omega arith) in
+      let e : i .place ≡ getD (permutation (meaningIn t .items)) (length (meaningIn t .items) - 1) 0 = rw (v .counted .items-are) at (l .is) in
+      let some : 0 < length (drop at s) = rw (length-drop at s) (let b = v .inside in omega arith) in
       rw e
       (none-undefined (meaningIn t) (counted-good (v .counted)) (drop at s) (every-drop isCharacter s at (v .characters)) some (rw z at (v .most)))

@@ -16,6 +16,7 @@ use Rattle.rules.proofs.PermutationLaws.{before-trans}
 use Rattle.layout.specs.Parts.{recordAt}
 use Rattle.layout.proofs.LayoutLaws.{recordAt-room}
 use Rattle.layout.proofs.PartLaws.{table-good, table-long}
+use Rattle.find.specs.declared.Listed.{Listed}
 use Rattle.find.specs.Search.{Counted, Lists, listedChars, listedKey, keyIn, Least}
 use Rattle.find.proofs.ListedLaws.{listed-place, listed-rising, some-item, number-stored, place-stored}
 
@@ -39,6 +40,15 @@ module _ {t : List ℕ} {levels items : ℕ} (w : Counted t levels items) where
       let long : recordAt levels items ≤ length t = rw (w .levels-are, w .items-are) (let l = table-long t (w .checked) in omega arith) in
       omega (arith, e, recordAt-room levels k items b)
 
+  -- the numbers of the item at a place that is listed
+  number-is : (k p : ℕ) {from : ℕ} → p ≡ getD (permutation (meaningIn t .items)) k 0 → 1 ≤ p → p ≤ items → from ≡ recordAt levels (p - 1)
+      → (i : ℕ) → i < 4 → getD t (from + i) 0 ≡ getD (listedChars (meaningIn t .items) k) i pad
+  unfolding listedChars
+  number-is k p {from} is low high e i c =
+      let n : getD t (from + i) 0 ≡ getD (getD (meaningIn t .items) (pred p) noItem .chars) i pad =
+      rw (e, sub-one p, w .levels-are) (number-stored t (w .checked) (pred p) (omega (arith, low, high, w .items-are)) i c) in
+      n ∙ ap (λ (x : ℕ). getD (getD (meaningIn t .items) (pred x) noItem .chars) i pad) is
+
   module _ (k : ℕ) {at : ℕ} (b : k < items) (e : at ≡ recordAt levels k) where
     inside : k < length (meaningIn t .items)
     inside = rw (w .items-are) at b
@@ -46,33 +56,28 @@ module _ {t : List ℕ} {levels items : ℕ} (w : Counted t levels items) where
     place-is : getD t (at + 5) 0 ≡ getD (permutation (meaningIn t .items)) k 0
     place-is = rw (e, w .levels-are) (place-stored t (w .checked) k inside)
 
-    pub lists : Lists t items k (getD t (at + 5) 0)
-    lists =
+    -- what is listed is an item's place
+    pub place-within : (1 ≤ getD t (at + 5) 0) × (getD t (at + 5) 0 ≤ items)
+    place-within =
         let p : ℕ = getD (permutation (meaningIn t .items)) k 0 in
         let h = listed-place (meaningIn t) counted-good k inside in
         let low = within-low 1 (length (meaningIn t .items)) p h in
         let high = within-high 1 (length (meaningIn t .items)) p h in
-        record { is = place-is; from-one = omega (arith, place-is); in-items = omega (arith, place-is, w .items-are) }
+        (omega (arith, place-is), omega (arith, place-is, w .items-are))
 
-  module _ (k p : ℕ) {at : ℕ} (b : k < items) (l : Lists t items k p) (e : at ≡ recordAt levels (p - 1)) where
-    item-inside : pred p < length (meaningIn t .items)
-    item-inside = omega (arith, l .from-one, l .in-items, w .items-are)
+    pub lists : {from : ℕ} → from ≡ recordAt levels (getD t (at + 5) 0 - 1) → Lists t k (record { place = getD t (at + 5) 0; from = from })
+    lists f =
+        let p : ℕ = getD t (at + 5) 0 in
+        let within = place-within in
+        let room = record-room (p - 1) (omega arith) f in
+        record { is = place-is; room = omega arith; numbers = λ i c. number-is k p place-is (within .0) (within .1) f i c }
 
-    pub number-is : (i : ℕ) → i < 4 → getD t (at + i) 0 ≡ getD (listedChars (meaningIn t .items) k) i pad
-    unfolding listedChars
-    number-is i c =
-        let n : getD t (at + i) 0 ≡ getD (getD (meaningIn t .items) (pred p) noItem .chars) i pad =
-        rw (e, sub-one p, w .levels-are) (number-stored t (w .checked) (pred p) item-inside i c) in
-        n ∙ ap (λ (x : ℕ). getD (getD (meaningIn t .items) (pred x) noItem .chars) i pad) (l .is)
-
-    pub key-is : keyIn t at ≡ listedKey (meaningIn t .items) k
-    key-is =
-        let z : at + 0 ≡ at = omega arith in
-        let first : getD t at 0 ≡ getD (listedChars (meaningIn t .items) k) 0 pad = rw z at (number-is 0 (omega arith)) in
-        rw (first, number-is 1 (omega arith), number-is 2 (omega arith), number-is 3 (omega arith))
-
-    pub listed-room : at + 6 ≤ length t
-    listed-room = record-room (p - 1) (omega (arith, l .from-one, l .in-items)) e
+-- the four numbers of a listed item
+key-is : {t : List ℕ} {k : ℕ} {i : Listed} → Lists t k i → keyIn t (i .from) ≡ listedKey (meaningIn t .items) k
+key-is {t} {k} {i} l =
+    let z : i .from + 0 ≡ i .from = omega arith in
+    let first : getD t (i .from) 0 ≡ getD (listedChars (meaningIn t .items) k) 0 pad = rw z at (l .numbers 0 (omega arith)) in
+    rw (first, l .numbers 1 (omega arith), l .numbers 2 (omega arith), l .numbers 3 (omega arith))
 
 -- ## Halving
 
@@ -95,9 +100,9 @@ abbrev pub half : ℕ → ℕ → ℕ
 half lo hi = lo + (hi - lo) / 2
 
 module _ {t : List ℕ} {levels items : ℕ} (w : Counted t levels items) {key : List ℕ} {lo hi : ℕ} (v : Halving (meaningIn t .items) items key lo hi) (h : lo < hi)
-    {p at : ℕ} (l : Lists t items (half lo hi) p) (e : at ≡ recordAt levels (p - 1)) {r : Bool} (is : r ≡ before (keyIn t at) key) where
+    {i : Listed} (l : Lists t (half lo hi) i) {r : Bool} (is : r ≡ before (keyIn t (i .from)) key) where
   mid : before (listedKey (meaningIn t .items) (half lo hi)) key ≡ r
-  mid = ap (λ (x : List ℕ). before x key) (sym (key-is w (half lo hi) p (omega (arith, v .inside)) l e)) ∙ sym is
+  mid = ap (λ (x : List ℕ). before x key) (sym (key-is l)) ∙ sym is
 
   pub halving-up : r ≡ true → Halving (meaningIn t .items) items key (half lo hi + 1) hi
   halving-up y = record { ordered = omega arith; inside = v .inside; below = λ k b. lower k b; here = v .here }

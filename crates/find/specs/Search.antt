@@ -7,9 +7,10 @@ use lib.ListN.{length, getD, drop}
 use Rattle.rules.specs.Text.{every, begins}
 use Rattle.rules.specs.Names.{isCharacter}
 use Rattle.rules.specs.Meaning.{Item}
-use Rattle.rules.specs.Table.{padded, before, permutation, accepted, meaningIn}
+use Rattle.rules.specs.Table.{pad, padded, before, permutation, accepted, meaningIn}
 use Rattle.rules.specs.Order.{noItem, Step, stepOf}
 use Rattle.find.specs.declared.Found.{Found}
+use Rattle.find.specs.declared.Listed.{Listed}
 use Rattle.find.specs.declared.Key.{Key}
 use Rattle.find.specs.declared.Near.{Near}
 use Rattle.find.specs.declared.Near.the-variants.{Element, Within}
@@ -26,12 +27,6 @@ pub record Counted (t : List ℕ) (levels items : ℕ) : Type 0 where
   pub levels-are : levels ≡ length (meaningIn t .rules)
   pub items-are : items ≡ length (meaningIn t .items)
 
--- The place, from 1, of the item that is listed at k, from 0.
-pub record Lists (t : List ℕ) (items k r : ℕ) : Type 0 where
-  pub is : r ≡ getD (permutation (meaningIn t .items)) k 0
-  pub from-one : 1 ≤ r
-  pub in-items : r ≤ items
-
 -- the characters of the item that is listed at k, from 0
 unfoldable pub listedChars : List Item → ℕ → List ℕ
 listedChars is k = getD is (pred (getD (permutation is) k 0)) noItem .chars
@@ -39,6 +34,12 @@ listedChars is k = getD is (pred (getD (permutation is) k 0)) noItem .chars
 -- their four numbers
 abbrev pub listedKey : List Item → ℕ → List ℕ
 listedKey is k = padded (listedChars is k) []
+
+-- The item that is listed at k: its place, and where its four numbers stand.
+pub record Lists (t : List ℕ) (k : ℕ) (r : Listed) : Type 0 where
+  pub is : r .place ≡ getD (permutation (meaningIn t .items)) k 0
+  pub room : r .from + 4 ≤ length t
+  pub numbers : (i : ℕ) → i < 4 → getD t (r .from + i) 0 ≡ getD (listedChars (meaningIn t .items) k) i pad
 
 -- ## Keys
 

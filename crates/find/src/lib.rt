@@ -24,6 +24,12 @@ pub struct Found {
     pub size: usize,
 }
 
+// An item that the permutation lists: its place in the table, from 1, and where its record begins.
+struct Listed {
+    pub place: usize,
+    pub from: usize,
+}
+
 // Four numbers to look for: characters, then padding.
 struct Key {
     pub a: u32,
@@ -40,14 +46,19 @@ enum Near {
     Within(usize),
 }
 
-// The place of the item that an accepted table lists at k, from 0.
-fn item_at(t: &[u32], levels: usize, items: usize, k: usize) -> usize
+// The item that an accepted table lists at k, from 0.
+fn item_at(t: &[u32], levels: usize, items: usize, k: usize) -> Listed
     requires { ⌜ Counted (now t) levels items ⌝ }
     requires { ⌜ k < items ⌝ }
-    ensures { λ r. ⌜ Lists (now (t .entry)) items k r ⌝ }
+    ensures { λ r. ⌜ Lists (now (t .entry)) k r ⌝ }
 {
     let at = record_at(levels, k);
-    t[at + 5] as usize
+    let place = t[at + 5] as usize;
+    let from = record_at(levels, place - 1);
+    Listed {
+        place: place,
+        from: from,
+    }
 }
 
 // Whether the four numbers at a place, where an item's record begins, come before a key.
@@ -89,9 +100,8 @@ fn first_from(t: &[u32], levels: usize, items: usize, key: Key) -> usize
     let mut hi = items - 1;
     while lo < hi {
         let mid = lo + (hi - lo) / 2;
-        let place = item_at(t, levels, items, mid);
-        let at = record_at(levels, place - 1);
-        let less = before_key(t, at, key);
+        let item = item_at(t, levels, items, mid);
+        let less = before_key(t, item.from, key);
         if less {
             lo = mid + 1;
         } else {
@@ -149,21 +159,20 @@ fn look(t: &[u32], levels: usize, items: usize, s: &[u32], at: usize, size: usiz
 {
     let key = key_at(s, at, size);
     let k = first_from(t, levels, items, key);
-    let place = item_at(t, levels, items, k);
-    let from = record_at(levels, place - 1);
-    let n = shared(t, from, s, at, size);
+    let item = item_at(t, levels, items, k);
+    let n = shared(t, item.from, s, at, size);
     if n == 0 {
         return Near::Within(0);
     }
     if n == size {
         return Near::Element(Found {
-            place: place,
+            place: item.place,
             size: n,
         });
     }
-    if t[from + n] == 0x110000 {
+    if t[item.from + n] == 0x110000 {
         return Near::Element(Found {
-            place: place,
+            place: item.place,
             size: n,
         });
     }
@@ -203,7 +212,7 @@ pub fn longest(t: &[u32], s: &[u32], at: usize) -> Found
     }
     let last = item_at(t, l, n, n - 1);
     Found {
-        place: last,
+        place: last.place,
         size: 1,
     }
 }

@@ -4,8 +4,7 @@ use native.Mathlib.Omega.{arith}
 use borrow.Author.Needs.{needs}
 use Rattle.rules.specs.Table.{meaningIn}
 use Rattle.find.specs.Search.{keyOf}
-use Rattle.find.proofs.SearchLaws.{few-levels, few-items, search-some, listed-room, half}
-use Rattle.find.proofs.SearchLaws.{Halving, halving-start, halving-up, halving-down, halving-end}
+use Rattle.find.proofs.SearchLaws.{search-some, Halving, halving-start, halving-up, halving-down, halving-end}
 use Rattle.find.proofs.first_from.Statement.{statement}
 use Rattle.find.proofs.first_from.Tie as tie
 
@@ -30,17 +29,8 @@ add-mid c = search needs
 item-at-requires : tie.Need-item-at-requires Inv-loop μ-loop
 item-at-requires c κs = search needs
 
-sub-record-at : tie.Need-sub-record-at Inv-loop μ-loop
-sub-record-at c = search needs
-
-record-at-requires : tie.Need-record-at-requires Inv-loop μ-loop
-record-at-requires c κs = let s = c .before .before .before .before in (few-levels (s .pre .0), omega (arith, few-items (s .pre .0), c .item-at .ensures .in-items))
-
 before-key-requires : tie.Need-before-key-requires Inv-loop μ-loop
-before-key-requires c κs =
-    let s = c .before .before .before .before .before in
-    let v = c .before .before .before .loop in
-    omega (arith, listed-room (s .pre .0) (half (v .lo) (v .hi)) (c .before .item-at .result) (search needs) (c .before .item-at .ensures) (c .record-at .ensures))
+before-key-requires c κs = search needs
 
 add-lo : tie.Need-add-lo Inv-loop μ-loop
 add-lo c = search needs
@@ -71,8 +61,6 @@ first-from-spec =
     sub-mid
     add-mid
     item-at-requires
-    sub-record-at
-    record-at-requires
     before-key-requires
     add-lo
     loop-less
