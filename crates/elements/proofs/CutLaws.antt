@@ -82,7 +82,8 @@ pub record Cutting (t s before places : List ℕ) (at many : ℕ) : Type 0 where
 pub cutting-none : (t s places : List ℕ) → Ready t s places → Cutting t s places places 0 0
 cutting-none t s places r = record { ready = r; cut = record { to = omega arith; fewer = omega arith; same = refl }; kept = refl }
 
-ready-kept : {t s places : List ℕ} (after : List ℕ) → Ready t s places → length after ≡ length places → Ready t s after
+-- an area that keeps its length still has room
+pub ready-kept : {t s places : List ℕ} (after : List ℕ) → Ready t s places → length after ≡ length places → Ready t s after
 ready-kept after r e = record { checked = r .checked; characters = r .characters; short = r .short; room = omega (arith, r .room) }
 
 pub cutting-more : {t s before places after : List ℕ} {at many : ℕ} {f : Found} → Cutting t s before places at many

@@ -1,6 +1,6 @@
 -- The entries of the first level that a walk has still to come: element by element as the string is cut, weight by weight.
 use mathlib.Core.Path.{_≡_, refl, sym, _∙_, subst}
-use mathlib.Core.Bool.{Bool, false, cond}
+use mathlib.Core.Bool.{Bool, cond}
 use mathlib.Core.List.{List, [], _∷_}
 use Prim.Native.Nat.{ℕ, _+_, _-_, _≤_, _<_}
 use native.Mathlib.Numerals.{add-one}
@@ -18,7 +18,7 @@ use Rattle.find.specs.declared.Found.{Found}
 use Rattle.elements.specs.declared.Walk.{Walk}
 use Rattle.elements.specs.declared.Ahead.{Ahead}
 use Rattle.elements.specs.Cuts.{Ready, Cut, CutOne}
-use Rattle.elements.specs.Firsts.{entriesOn, entriesLeft, fresh, Sound, Next, Ended, Gives}
+use Rattle.elements.specs.Firsts.{entriesOn, entriesLeft, firstEntries, fresh, Sound, Next, Ended, Gives}
 use Rattle.elements.proofs.CutLaws.{found-first, Cutting, cutting-none, cutting-more, cut-all}
 
 -- ## Element by element
@@ -92,9 +92,8 @@ held-first w h = omega (arith, w .inside h)
 
 module _ (t s : List ℕ) (position : Bool) where
   -- a fresh walk has the whole level to come
-  pub fresh-entries : entriesLeft t s position fresh
-      ≡ levelEntries (meaningIn t .items) (record { backward = false; position = position }) 0 (elements (meaningIn t .items) 0 s)
-  unfolding entriesLeft more entriesOn levelEntries walked
+  pub fresh-entries : entriesLeft t s position fresh ≡ firstEntries t s position
+  unfolding entriesLeft more entriesOn firstEntries levelEntries walked
   fresh-entries = refl
 
   -- with no weight left of the element, it has those of the string from its place on

@@ -4,9 +4,10 @@ ghost use Prim.Native.Nat.{_≤_, _<_};
 ghost use lib.ListN.{length};
 ghost use Rattle.elements.specs.Cuts.{Ready, Cut, CutOne, Split};
 ghost use mathlib.Core.Bool.{cond};
-ghost use Rattle.elements.specs.Firsts.{fresh, Sound, entriesOn, entriesLeft, Gives};
+ghost use Rattle.elements.specs.Firsts.{fresh, Sound, entriesOn, entriesLeft, Gives, meeting, FirstCompared};
 use entries::Entry;
 use find::Found;
+use units::Sign;
 
 // Where a walk over the first level stands: up to a place of the string so many elements are cut; where the weights begin of the last of
 // them that are still to come, and how many; and the elements without a weight since the last that had one.
@@ -22,6 +23,35 @@ pub struct Walk {
 pub enum Ahead {
     One(Entry, Walk),
     End(usize),
+}
+
+// What the next entries of two walks decide.
+pub enum Meeting {
+    // the first string comes first
+    Before,
+    // the second string comes first
+    After,
+    // both strings end, and have so many elements
+    Over(usize, usize),
+    // nothing: the two are alike, and the walks go on
+    On(Walk, Walk),
+}
+
+// Two strings whose first levels are alike: how many entries agree, and how many elements each string has.
+pub struct Alike {
+    pub agreed: usize,
+    pub first: usize,
+    pub second: usize,
+}
+
+// How the first level of two strings compares.
+pub enum First {
+    // the first string comes first, so many entries having agreed
+    Before(usize),
+    // the second string comes first, so many entries having agreed
+    After(usize),
+    // it does not decide
+    Same(Alike),
 }
 
 // Cuts the element that begins at a place, so many having been cut before it, and keeps its item's place.
@@ -147,4 +177,66 @@ fn next_first(t: &[u32], s: &[u32], places: &mut [u32], position: bool, c: Walk)
         );
     }
     next_element(t, s, places, position, c.at, c.many, c.skipped)
+}
+
+// What two next entries decide: the smaller comes first, or the string that ends.
+fn meet(p: Ahead, q: Ahead) -> Meeting
+    ensures { λ r. ⌜ r ≡ meeting p q ⌝ }
+{
+    match p {
+        Ahead::End(n) => match q {
+            Ahead::End(m) => Meeting::Over(n, m),
+            Ahead::One(_, _) => Meeting::Before,
+        },
+        Ahead::One(e, after) => match q {
+            Ahead::End(_) => Meeting::After,
+            Ahead::One(f, behind) => {
+                let s = entries::order_of(e, f);
+                match s {
+                    Sign::Less => Meeting::Before,
+                    Sign::Greater => Meeting::After,
+                    Sign::Equal => Meeting::On(after, behind),
+                }
+            }
+        },
+    }
+}
+
+// How the entries of the first level compare, walked forward: the first difference decides, and no string is cut further than to it.
+pub fn compare_first(
+    t: &[u32],
+    a: &[u32],
+    b: &[u32],
+    first: &mut [u32],
+    second: &mut [u32],
+    position: bool,
+) -> First
+    requires { ⌜ Ready (now t) (now a) (now first) ⌝ }
+    requires { ⌜ Ready (now t) (now b) (now second) ⌝ }
+    ensures { λ r. ⌜ FirstCompared (now (t .entry)) (now (a .entry)) (now (b .entry)) (now (first .exit)) (now (second .exit)) position r ⌝ }
+{
+    let mut x = start();
+    let mut y = start();
+    let mut agreed: usize = 0;
+    loop {
+        let p = next_first(t, a, first, position, x);
+        let q = next_first(t, b, second, position, y);
+        let met = meet(p, q);
+        match met {
+            Meeting::Before => return First::Before(agreed),
+            Meeting::After => return First::After(agreed),
+            Meeting::Over(n, m) => {
+                return First::Same(Alike {
+                    agreed: agreed,
+                    first: n,
+                    second: m,
+                });
+            }
+            Meeting::On(after, behind) => {
+                x = after;
+                y = behind;
+                agreed += 1;
+            }
+        }
+    }
 }
