@@ -91,9 +91,9 @@ pub cutting-more : {t s before places after : List ℕ} {at many : ℕ} {f : Fou
 cutting-more {after = after} v e w = record { ready = ready-kept after (v .ready) e; cut = w .cut; kept = e ∙ v .kept }
 
 -- where the string ends, all are cut
-pub cut-all : {t s places : List ℕ} {at many : ℕ} → Cut t s places at many → length s ≤ at → Split t s places many
+pub cut-all : {t s before places : List ℕ} {at many : ℕ} → Cutting t s before places at many → length s ≤ at → Split t s places many
 unfolding elements
-cut-all {t} {s} {places} {at} {many} v h = record {
-  is = sym (append-nil (take many places)) ∙ (rw (drop-of-length-le s h) at (v .same));
-  fewer = omega (arith, v .fewer, v .to);
+cut-all {s = s} {places = places} {many = many} v h = record {
+  is = sym (append-nil (take many places)) ∙ (rw (drop-of-length-le s h) at (v .cut .same));
+  inside = omega (arith, v .cut .fewer, v .cut .to, v .ready .room);
 }

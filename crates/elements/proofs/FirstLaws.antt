@@ -82,7 +82,7 @@ module _ {t s before places after : List ℕ} {position : Bool} {at skipped i k 
 pub passing-end : {t s before places : List ℕ} {position : Bool} {at skipped i k n : ℕ} → Passing t s before position at skipped places i k n
     → length s ≤ i → Ended t s places (entriesOn t s position at skipped) k
 passing-end {t} {s} {position = position} {i = i} {n = n} v h =
-    record { is = v .same ∙ on-none t s position i n h; split = cut-all (v .cutting .cut) h }
+    record { is = v .same ∙ on-none t s position i n h; split = cut-all (v .cutting) h }
 
 -- the first of an element's weights is in the table
 pub held-first : {t : List ℕ} {r : Run} {ws : List ℕ} → Holds t r ws → 0 < r .count → r .from < length t

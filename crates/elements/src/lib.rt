@@ -1,9 +1,9 @@
 // The elements of a string: cut all at once, or only as far as the first level is compared.
 ghost use mathlib.Core.Path.{_≡_};
+ghost use mathlib.Core.Bool.{cond};
 ghost use Prim.Native.Nat.{_≤_, _<_};
 ghost use lib.ListN.{length};
 ghost use Rattle.elements.specs.Cuts.{Ready, Cut, CutOne, Split};
-ghost use mathlib.Core.Bool.{cond};
 ghost use Rattle.elements.specs.Firsts.{fresh, Sound, entriesOn, entriesLeft, Gives, meeting, FirstCompared};
 use entries::Entry;
 use find::Found;
@@ -11,7 +11,7 @@ use units::Sign;
 
 // Where a walk over the first level stands: up to a place of the string so many elements are cut; where the weights begin of the last of
 // them that are still to come, and how many; and the elements without a weight since the last that had one.
-pub struct Walk {
+struct Walk {
     pub at: usize,
     pub many: usize,
     pub from: usize,
@@ -20,13 +20,13 @@ pub struct Walk {
 }
 
 // The next entry and where the walk stands after it; or how many elements the string has.
-pub enum Ahead {
+enum Ahead {
     One(Entry, Walk),
     End(usize),
 }
 
 // What the next entries of two walks decide.
-pub enum Meeting {
+enum Meeting {
     // the first string comes first
     Before,
     // the second string comes first

@@ -1,2 +1,3 @@
 pub mod CodeLaws
 pub mod LevelLaws
+pub mod FirstLaws

@@ -3,12 +3,15 @@ ghost use mathlib.Core.Path.{_≡_};
 ghost use Prim.Native.Nat.{_*_, _≤_};
 ghost use lib.ListN.{length};
 ghost use mathlib.Core.List.{[], _∷_};
-ghost use Rattle.rules.specs.Order.{signℕ, codes, answerFrom};
+ghost use Rattle.rules.specs.Order.{signℕ, codes, answerFrom, compareOf};
 ghost use Rattle.rules.specs.Table.{meaningIn};
 ghost use Rattle.rules.proofs.PassedLaws.{withPassed};
 ghost use Rattle.units.specs.Numbers.{signOf};
 ghost use Rattle.order.specs.Answers.{answerAs};
-ghost use Rattle.order.specs.Strings.{CodesCompared, Placed, answerOn};
+ghost use Rattle.elements.specs.Cuts.{Ready};
+ghost use Rattle.order.specs.Strings.{CodesCompared, Placed, answerOn, BothCut, Forward};
+use elements::Alike;
+use elements::First;
 use entries::Seen;
 use units::CodePoint;
 use units::Sign;
@@ -148,4 +151,68 @@ fn compare_from(
         }
     }
     compare_last(a, b, levels + 1, n)
+}
+
+// The answer from a level on, from 0, of two strings that are cut.
+fn compare_cut(
+    t: &[u32],
+    a: &[u32],
+    b: &[u32],
+    first: &[u32],
+    second: &[u32],
+    cut: Alike,
+    level: usize,
+) -> Answer
+    requires { ⌜ BothCut (now t) (now a) (now b) (now first) (now second) cut level ⌝ }
+    ensures { λ r. ⌜ answerAs r ≡ answerOn (now (t .entry)) (now (a .entry)) (now (b .entry)) level (cut .agreed) ⌝ }
+{
+    let n = cut.first;
+    let m = cut.second;
+    compare_from(t, a, b, &first[..n], &second[..m], level, cut.agreed)
+}
+
+// The answer of two strings that are cut first.
+fn compare_split(t: &[u32], a: &[u32], b: &[u32], first: &mut [u32], second: &mut [u32]) -> Answer
+    requires { ⌜ Ready (now t) (now a) (now first) ⌝ }
+    requires { ⌜ Ready (now t) (now b) (now second) ⌝ }
+    ensures { λ r. ⌜ answerAs r ≡ compareOf (meaningIn (now (t .entry))) (now (a .entry)) (now (b .entry)) ⌝ }
+{
+    let n = elements::split(t, a, first);
+    let m = elements::split(t, b, second);
+    let cut = Alike {
+        agreed: 0,
+        first: n,
+        second: m,
+    };
+    compare_cut(t, a, b, first, second, cut, 0)
+}
+
+// The answer of two strings that are cut no further than the first level takes, which is walked forward.
+fn compare_forward(
+    t: &[u32],
+    a: &[u32],
+    b: &[u32],
+    first: &mut [u32],
+    second: &mut [u32],
+    position: bool,
+) -> Answer
+    requires { ⌜ Ready (now t) (now a) (now first) ⌝ }
+    requires { ⌜ Ready (now t) (now b) (now second) ⌝ }
+    requires { ⌜ Forward (now t) position ⌝ }
+    ensures { λ r. ⌜ answerAs r ≡ compareOf (meaningIn (now (t .entry))) (now (a .entry)) (now (b .entry)) ⌝ }
+{
+    let level = elements::compare_first(t, a, b, first, second, position);
+    match level {
+        First::Before(n) => Answer {
+            sign: Sign::Less,
+            level: 1,
+            agreed: n,
+        },
+        First::After(n) => Answer {
+            sign: Sign::Greater,
+            level: 1,
+            agreed: n,
+        },
+        First::Same(cut) => compare_cut(t, a, b, first, second, cut, 1),
+    }
 }
