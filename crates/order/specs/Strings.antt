@@ -6,7 +6,7 @@ use Prim.Native.Nat.{ℕ, suc, _*_, _≤_}
 use lib.ListN.{length, take, drop}
 use Rattle.rules.specs.Table.{accepted, meaningIn}
 use Rattle.rules.specs.Order as order
-use Rattle.rules.specs.Order.{elements, codes, answerFrom, entryLists}
+use Rattle.rules.specs.Order.{goodString, elements, codes, answerFrom, entryLists}
 use Rattle.rules.proofs.PassedLaws.{seen, withPassed}
 use Rattle.layout.specs.Parts.{ruleAt}
 use Rattle.entries.specs.Walk.{seenAs}
@@ -41,3 +41,9 @@ pub record BothCut (t a b as′ bs : List ℕ) (cut : Alike) (level : ℕ) : Typ
 -- The first level of an accepted table is walked forward.
 pub record Forward (t : List ℕ) (position : Bool) : Type 0 where
   pub is : record { backward = false; position = position } ≡ ruleAt t 0
+
+-- An accepted table and two strings that are not refused.
+pub record Good (t a b : List ℕ) : Type 0 where
+  pub checked : accepted t ≡ true
+  pub first : goodString a ≡ true
+  pub second : goodString b ≡ true
