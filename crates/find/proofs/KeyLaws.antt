@@ -11,15 +11,16 @@ use lib.Dec.{ltb, eqb}
 use borrow.Author.Count.{below-more}
 use Rattle.lists.proofs.Places.{getD-default}
 use Rattle.rules.specs.Table.{pad, before}
+use Rattle.rules.proofs.PermutationLaws.{before-less}
 use Rattle.find.specs.declared.Key.{Key}
 use Rattle.find.specs.Search.{keyOf, keyIn, Shares}
-use Rattle.find.proofs.BeginningLaws.{before-smaller, before-greater, before-tail}
+use Rattle.find.proofs.BeginningLaws.{before-greater, before-tail}
 
 -- ## before_key
 
 module _ (t : List ℕ) (at : ℕ) (key : Key) where
   pub first-less : getD t at 0 < key .a → true ≡ before (keyIn t at) (keyOf key)
-  first-less h = sym (before-smaller (getD t at 0) (key .a) _ _ h)
+  first-less h = sym (before-less (getD t at 0) (key .a) _ _ h)
 
   pub first-greater : key .a < getD t at 0 → false ≡ before (keyIn t at) (keyOf key)
   first-greater h = sym (before-greater (getD t at 0) (key .a) _ _ h)
@@ -30,7 +31,7 @@ module _ (t : List ℕ) (at : ℕ) (key : Key) where
     first = before-tail (getD t at 0) (key .a) _ _ (omega arith)
 
     pub second-less : getD t (at + 1) 0 < key .b → true ≡ before (keyIn t at) (keyOf key)
-    second-less h = sym (first ∙ before-smaller (getD t (at + 1) 0) (key .b) _ _ h)
+    second-less h = sym (first ∙ before-less (getD t (at + 1) 0) (key .b) _ _ h)
 
     pub second-greater : key .b < getD t (at + 1) 0 → false ≡ before (keyIn t at) (keyOf key)
     second-greater h = sym (first ∙ before-greater (getD t (at + 1) 0) (key .b) _ _ h)
@@ -40,7 +41,7 @@ module _ (t : List ℕ) (at : ℕ) (key : Key) where
       second = first ∙ before-tail (getD t (at + 1) 0) (key .b) _ _ (omega arith)
 
       pub third-less : getD t (at + 2) 0 < key .c → true ≡ before (keyIn t at) (keyOf key)
-      third-less h = sym (second ∙ before-smaller (getD t (at + 2) 0) (key .c) _ _ h)
+      third-less h = sym (second ∙ before-less (getD t (at + 2) 0) (key .c) _ _ h)
 
       pub third-greater : key .c < getD t (at + 2) 0 → false ≡ before (keyIn t at) (keyOf key)
       third-greater h = sym (second ∙ before-greater (getD t (at + 2) 0) (key .c) _ _ h)
