@@ -40,8 +40,8 @@ pub record Lists (t : List ℕ) (k : ℕ) (r : Listed) : Type 0 where
 -- ## Keys
 
 -- four numbers as a list
-abbrev pub keyOf : Key → List ℕ
-keyOf k = k .a ∷ k .b ∷ k .c ∷ k .d ∷ []
+abbrev pub numbersOf : Key → List ℕ
+numbersOf k = k .a ∷ k .b ∷ k .c ∷ k .d ∷ []
 
 -- the four numbers that stand at a place
 abbrev pub keyIn : List ℕ → ℕ → List ℕ
