@@ -21,7 +21,7 @@ use Rattle.rules.specs.Text.{bytes, Result, granted, refused}
 use Rattle.rules.specs.Meaning.{Meaning, item}
 use Rattle.rules.specs.Compile.{compileOf}
 use Rattle.rules.specs.Table.{storedForm, meaningIn, accepted}
-use Rattle.rules.specs.Order.{less, equal, greater}
+use Rattle.rules.specs.Order.{less, equal, greater, signBytes}
 use Rattle.rules.specs.Charmap.{charmapOf}
 use Rattle.rules.specs.Calls.{compileCall, checkCall, stepCall, compareCall, keyCall, decodeCall, encodeCall, charmapCall, areaCall}
 use Rattle.rules.specs.Pairs.{pairsOf}

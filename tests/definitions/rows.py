@@ -5,6 +5,7 @@ from vectors import DEFINING, FILES, area_lines, edit, hexes, meaning_lines, opt
 
 FILLER = 165  # what a lent area holds before a call
 ROOMY = 1_000_000  # the table area where a row names none
+SIGNS = {"<": "less", "=": "equal", ">": "greater"}
 
 
 # ---------------------------------------------------------------- terms of antt
@@ -252,17 +253,20 @@ class Book:
         row.theorems.append((left, f"record {{ refusal = {no[0] if no else 0}; " + "; ".join(p.format(v) for p, v in zip(parts, values)) + " }"))
 
     def compare(self, st):
-        row, table, (a, b), words = self.call(st, 2, False)
-        signs = {"<": "less", "=": "equal", ">": "greater", 0: "equal"}
-        said = st.one()
-        if refusal(said):
-            said_sign, level, agreed = 0, 0, 0
-        elif re.fullmatch(r"[<=>] \d+ \d+", said):
-            said_sign, level, agreed = said.split()
-        else:
+        row, table, (a, b), _ = self.call(st, 2, False)
+        no, m = refusal(st.one()), re.fullmatch(r"([<=>]) (\d+) (\d+)", st.one())
+        if not (no or m):
             st.fail("expected is `< LEVEL AGREED` with `<`, `=` or `>`, or `refused N`")
-        answer = f"record {{ sign = {signs[said_sign]}; level = {level}; agreed = {agreed} }}"
-        row.theorems.append((f"compareCall {table} {a} {b}", f"record {{ refusal = {(refusal(said) or (0, 0))[0]}; answer = {answer} }}"))
+        sign, level, agreed = m.groups() if m else ("=", 0, 0)
+        answer = f"record {{ sign = {SIGNS[sign]}; level = {level}; agreed = {agreed} }}"
+        row.theorems.append((f"compareCall {table} {a} {b}", f"record {{ refusal = {no[0] if no else 0}; answer = {answer} }}"))
+
+    def keys(self, st):
+        """Two keys, as bytes."""
+        found, words = strings_in(st)
+        if len(found) != 2 or words != ["keys"] or st.one() not in SIGNS:
+            st.fail('it is `keys "key" "key" -> <` with `<`, `=` or `>`')
+        self.row(st).theorems.append((f"signBytes {string(found[0])} {string(found[1])}", SIGNS[st.one()]))
 
     def step(self, st):
         row, table, (s,), words = self.call(st, 1, True)

@@ -2,7 +2,7 @@
 import re
 
 DEFINING = "frame source table map damaged".split()  # statements that name something, in the order in which they may use one another
-ROWS = "compile charmap pairs compare key step check area decode encode".split()  # statements that are rows
+ROWS = "compile charmap pairs compare key keys step check area decode encode".split()  # statements that are rows
 FILES = "locale charmap input".split()  # the inputs of the pairs program
 EDITS = "set cut add".split()  # what changes the numbers of a damaged table or a map
 NO_CODE = 0x110000  # a charmap's number for a byte with no code
