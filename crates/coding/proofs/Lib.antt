@@ -1,0 +1,2 @@
+pub mod CodesLaws
+pub mod OnesLaws

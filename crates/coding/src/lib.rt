@@ -1,0 +1,201 @@
+// A charmap area given back: its check, decoding and encoding. Each public operation checks the area itself and has no `requires`.
+ghost use mathlib.Core.Path.{_≡_};
+ghost use mathlib.Core.Bool.{true};
+ghost use mathlib.Core.List.{map};
+ghost use Prim.Native.Nat.{_≤_};
+ghost use lib.ListN.{length};
+ghost use Rattle.rules.specs.Text.{every, within};
+ghost use Rattle.rules.specs.Names.{isCharacter};
+ghost use Rattle.rules.specs.Coding.{isCode, goodOnes, onesOf, oneEach, areaAccepted, codeAt, byteFrom, byteAt};
+ghost use Rattle.rules.specs.Calls.{over, areaCall, decodeCall, encodeCall};
+ghost use Rattle.coding.specs.Answers.{numberIs, writtenIs};
+use units::Refusal;
+use units::good_string;
+use units::is_character;
+
+pub enum AreaVerdict {
+    Accepted,
+    Refused(Refusal),
+}
+
+// How many numbers were written, or why none was.
+pub enum Coded {
+    Written(usize),
+    Refused(Refusal),
+}
+
+// Whether a number is a code: a character, or none.
+fn is_code(c: u32) -> bool
+    ensures { λ r. ⌜ r ≡ isCode c ⌝ }
+{
+    if c == 0x110000 {
+        return true;
+    }
+    is_character(c)
+}
+
+// Whether each number is a code.
+fn codes_pass(codes: &[u32]) -> bool
+    ensures { λ r. ⌜ r ≡ every isCode (now (codes .entry)) ⌝ }
+{
+    let mut i = 0;
+    while i < codes.len() {
+        let code = is_code(codes[i]);
+        if code {
+            i += 1;
+        } else {
+            return false;
+        }
+    }
+    true
+}
+
+// Whether each number after the codes is 0, or 1 where there is a code.
+fn ones_pass(codes: &[u32], ones: &[u32]) -> bool
+    requires { ⌜ length (now codes) ≡ length (now ones) ⌝ }
+    ensures { λ r. ⌜ r ≡ goodOnes (now (codes .entry)) (now (ones .entry)) ⌝ }
+{
+    let mut i = 0;
+    while i < codes.len() {
+        let o = ones[i];
+        if o == 0 {
+            i += 1;
+        } else {
+            if o != 1 {
+                return false;
+            }
+            let c = codes[i];
+            if c == 0x110000 {
+                return false;
+            }
+            i += 1;
+        }
+    }
+    true
+}
+
+// How often a code has a 1.
+fn ones_of(codes: &[u32], ones: &[u32], c: u32) -> u32
+    requires { ⌜ length (now codes) ≡ length (now ones) ⌝ }
+    requires { ⌜ length (now codes) ≤ 256 ⌝ }
+    requires { ⌜ goodOnes (now codes) (now ones) ≡ true ⌝ }
+    ensures { λ r. ⌜ r ≡ onesOf c (now (codes .entry)) (now (ones .entry)) ⌝ }
+{
+    let mut sum: u32 = 0;
+    let mut i = 0;
+    while i < codes.len() {
+        let d = codes[i];
+        let o = ones[i];
+        if c == d {
+            sum += o;
+        }
+        i += 1;
+    }
+    sum
+}
+
+// Whether each code has one 1.
+fn one_each(codes: &[u32], ones: &[u32]) -> bool
+    requires { ⌜ length (now codes) ≡ length (now ones) ⌝ }
+    requires { ⌜ length (now codes) ≤ 256 ⌝ }
+    requires { ⌜ goodOnes (now codes) (now ones) ≡ true ⌝ }
+    ensures { λ r. ⌜ r ≡ oneEach (now (codes .entry)) (now (codes .entry)) (now (ones .entry)) ⌝ }
+{
+    let mut i = 0;
+    while i < codes.len() {
+        let c = codes[i];
+        if c == 0x110000 {
+            i += 1;
+        } else {
+            let n = ones_of(codes, ones, c);
+            if n != 1 {
+                return false;
+            }
+            i += 1;
+        }
+    }
+    true
+}
+
+// Whether the area begins with an accepted charmap.
+fn accepts(area: &[u32]) -> bool
+    ensures { λ r. ⌜ r ≡ areaAccepted (now (area .entry)) ⌝ }
+{
+    if area.len() < 512 {
+        return false;
+    }
+    let codes = &area[..256];
+    let ones = &area[256..512];
+    let coded = codes_pass(codes);
+    if coded {
+        let marked = ones_pass(codes, ones);
+        if marked {
+            return one_each(codes, ones);
+        }
+        return false;
+    }
+    false
+}
+
+// The check of a charmap area.
+pub fn check_area(area: &[u32]) -> AreaVerdict
+    ensures { λ r. ⌜ numberIs r ≡ areaCall (now (area .entry)) ⌝ }
+{
+    let ok = accepts(area);
+    if ok {
+        return AreaVerdict::Accepted;
+    }
+    AreaVerdict::Refused(Refusal::NotAccepted)
+}
+
+// Whether each byte has a character.
+fn all_mapped(area: &[u32], bytes: &[u8]) -> bool
+    requires { ⌜ areaAccepted (now area) ≡ true ⌝ }
+    ensures { λ r. ⌜ r ≡ every isCharacter (map (codeAt (now (area .entry))) (now (bytes .entry))) ⌝ }
+{
+    let mut i = 0;
+    while i < bytes.len() {
+        let b = bytes[i] as usize;
+        if area[b] == 0x110000 {
+            return false;
+        }
+        i += 1;
+    }
+    true
+}
+
+// The character of each byte, written to the front of the room.
+fn write_codes(area: &[u32], bytes: &[u8], room: &mut [u32])
+    requires { ⌜ areaAccepted (now area) ≡ true ⌝ }
+    requires { ⌜ length (now bytes) ≤ length (now room) ⌝ }
+    ensures { λ _. ⌜ now (room .exit) ≡ over (map (codeAt (now (area .entry))) (now (bytes .entry))) (now (room .entry)) ⌝ }
+{
+    let mut i = 0;
+    while i < bytes.len() {
+        let b = bytes[i] as usize;
+        room[i] = area[b];
+        i += 1;
+    }
+}
+
+// The characters of the bytes, written to the front of the room.
+pub fn decode(area: &[u32], bytes: &[u8], room: &mut [u32]) -> Coded
+    ensures { λ r. ⌜ writtenIs r (now (room .exit)) ≡ decodeCall (now (area .entry)) (now (bytes .entry)) (now (room .entry)) ⌝ }
+{
+    let ok = accepts(area);
+    if !ok {
+        return Coded::Refused(Refusal::NotAccepted);
+    }
+    if 4096 < bytes.len() {
+        return Coded::Refused(Refusal::BadString);
+    }
+    let mapped = all_mapped(area, bytes);
+    if !mapped {
+        return Coded::Refused(Refusal::NotMapped);
+    }
+    if room.len() < bytes.len() {
+        return Coded::Refused(Refusal::NoRoom);
+    }
+    write_codes(area, bytes, room);
+    Coded::Written(bytes.len())
+}
