@@ -199,3 +199,78 @@ pub fn decode(area: &[u32], bytes: &[u8], room: &mut [u32]) -> Coded
     write_codes(area, bytes, room);
     Coded::Written(bytes.len())
 }
+
+// The byte that encodes a code, 256 for none.
+fn find_byte(codes: &[u32], ones: &[u32], c: u32) -> usize
+    requires { ⌜ length (now codes) ≡ length (now ones) ⌝ }
+    ensures { λ r. ⌜ r ≡ byteFrom 0 c (now (codes .entry)) (now (ones .entry)) ⌝ }
+{
+    let mut i: usize = 0;
+    while i < codes.len() {
+        let d = codes[i];
+        if c == d {
+            let o = ones[i];
+            if o == 1 {
+                return i;
+            }
+            i += 1;
+        } else {
+            i += 1;
+        }
+    }
+    256
+}
+
+// Whether each character has a byte.
+fn all_coded(area: &[u32], s: &[u32]) -> bool
+    requires { ⌜ 512 ≤ length (now area) ⌝ }
+    ensures { λ r. ⌜ r ≡ every (within 0 255) (map (byteAt (now (area .entry))) (now (s .entry))) ⌝ }
+{
+    let mut i = 0;
+    while i < s.len() {
+        let b = find_byte(&area[..256], &area[256..512], s[i]);
+        if 255 < b {
+            return false;
+        }
+        i += 1;
+    }
+    true
+}
+
+// The byte of each character, written to the front of the room.
+fn write_bytes(area: &[u32], s: &[u32], room: &mut [u8])
+    requires { ⌜ 512 ≤ length (now area) ⌝ }
+    requires { ⌜ every (within 0 255) (map (byteAt (now area)) (now s)) ≡ true ⌝ }
+    requires { ⌜ length (now s) ≤ length (now room) ⌝ }
+    ensures { λ _. ⌜ now (room .exit) ≡ over (map (byteAt (now (area .entry))) (now (s .entry))) (now (room .entry)) ⌝ }
+{
+    let mut i = 0;
+    while i < s.len() {
+        let b = find_byte(&area[..256], &area[256..512], s[i]);
+        room[i] = b as u8;
+        i += 1;
+    }
+}
+
+// The bytes of a string, written to the front of the room.
+pub fn encode(area: &[u32], s: &[u32], room: &mut [u8]) -> Coded
+    ensures { λ r. ⌜ writtenIs r (now (room .exit)) ≡ encodeCall (now (area .entry)) (now (s .entry)) (now (room .entry)) ⌝ }
+{
+    let ok = accepts(area);
+    if !ok {
+        return Coded::Refused(Refusal::NotAccepted);
+    }
+    let good = good_string(s);
+    if !good {
+        return Coded::Refused(Refusal::BadString);
+    }
+    let coded = all_coded(area, s);
+    if !coded {
+        return Coded::Refused(Refusal::NotMapped);
+    }
+    if room.len() < s.len() {
+        return Coded::Refused(Refusal::NoRoom);
+    }
+    write_bytes(area, s, room);
+    Coded::Written(s.len())
+}
