@@ -1,18 +1,26 @@
 -- The answers of accepts and check_area: one law for each return.
 use mathlib.Core.Path.{_≡_, sym, _∙_}
-use mathlib.Core.Bool.{Bool, true, false}
+use mathlib.Core.Bool.{Bool, true, false, not}
 use mathlib.Core.List.{List}
 use Prim.Native.Nat.{ℕ, _≤_, _<_}
 use native.Mathlib.Omega.{arith}
 use lib.ListN.{length, take, drop, length-drop}
 use lib.Seq.{length-take-le}
-use borrow.Author.Tests.{le-leb, lt-leb}
+use borrow.Author.Tests.{le-leb, lt-leb, not-false}
 use Rattle.rules.specs.Text.{every}
 use Rattle.rules.specs.Coding.{isCode, goodOnes, oneEach, areaAccepted}
 use Rattle.rules.specs.Calls.{areaCall}
 use Rattle.units.specs.declared.Refusal.the-variants.{NotAccepted}
 use Rattle.coding.specs.declared.AreaVerdict.the-variants.{Accepted, Refused}
 use Rattle.coding.specs.Answers.{numberIs}
+
+-- ## What a call answered
+
+pub answered : {r t : Bool} → r ≡ t → r ≡ true → t ≡ true
+answered e f = sym e ∙ f
+
+pub not-denied : {r t : Bool} → r ≡ t → not r ≡ false → t ≡ true
+not-denied {r} e f = sym e ∙ not-false r f
 
 -- ## accepts
 

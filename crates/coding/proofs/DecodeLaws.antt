@@ -65,21 +65,21 @@ module _ {area bs : List ℕ} {i : ℕ} (v : Mapped area bs i) where
 -- ## decode
 
 module _ (area bs room : List ℕ) {a : Bool} (accepts : a ≡ areaAccepted area) where
-  pub decode-unaccepted : a ≡ false → writtenIs (Refused NotAccepted) room ≡ decodeCall area bs room
+  pub decode-unaccepted : not a ≡ true → writtenIs (Refused NotAccepted) room ≡ decodeCall area bs room
   unfolding decodeCall writtenAs decodeOf
   decode-unaccepted e = rw (← accepts, e)
 
-  module _ (yes-area : a ≡ true) where
+  module _ (yes-area : not a ≡ false) where
     pub decode-long : 4096 < length bs → writtenIs (Refused BadString) room ≡ decodeCall area bs room
     unfolding decodeCall writtenAs decodeOf
     decode-long h = rw (← accepts, yes-area, lt-ltb 4096 (length bs) h)
 
     module _ (h : length bs ≤ 4096) {b : Bool} (maps : b ≡ every isCharacter (map (codeAt area) bs)) where
-      pub decode-unmapped : b ≡ false → writtenIs (Refused NotMapped) room ≡ decodeCall area bs room
+      pub decode-unmapped : not b ≡ true → writtenIs (Refused NotMapped) room ≡ decodeCall area bs room
       unfolding decodeCall writtenAs decodeOf
       decode-unmapped e = rw (← accepts, yes-area, le-ltb 4096 (length bs) h, ← maps, e)
 
-      module _ (yes-maps : b ≡ true) where
+      module _ (yes-maps : not b ≡ false) where
         pub decode-short : length room < length bs → writtenIs (Refused NoRoom) room ≡ decodeCall area bs room
         unfolding decodeCall writtenAs decodeOf
         decode-short k =

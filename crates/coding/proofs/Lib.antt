@@ -4,3 +4,4 @@ pub mod AcceptLaws
 pub mod PutLaws
 pub mod DecodeLaws
 pub mod ByteLaws
+pub mod EncodeLaws

@@ -1,6 +1,6 @@
 -- `coding::accepts` meets its contract: one law for each return.
 use borrow.Author.Needs.{needs}
-use Rattle.coding.proofs.AcceptLaws.{codes-count, ones-many, codes-few, accepts-short, accepts-codes, accepts-ones, accepts-each}
+use Rattle.coding.proofs.AcceptLaws.{answered, codes-count, ones-many, codes-few, accepts-short, accepts-codes, accepts-ones, accepts-each}
 use Rattle.coding.proofs.accepts.Statement.{statement}
 use Rattle.coding.proofs.accepts.Tie as tie
 
@@ -26,7 +26,7 @@ ones-pass-requires : tie.Need-ones-pass-requires
 ones-pass-requires c κs = search ones-many
 
 one-each-requires : tie.Need-one-each-requires
-one-each-requires c κs = search (ones-many, codes-few)
+one-each-requires c κs = search (ones-many, codes-few, answered)
 
 returns-2 : tie.Need-returns-2
 returns-2 c = search accepts-each
