@@ -29,8 +29,10 @@ module _ {codes ones : List ℕ} {c i : ℕ} (v : Finding codes ones c i) where
       unfolding byteFrom
       finding-unmarked n =
           let k : i < length ones = omega arith in
-          record { same = v .same
-            ∙ rw (add-one i, drop-cons codes i 0 h, drop-cons ones i 0 k, eq-eqb c (getD codes i 0) e, ne-eqb (getD ones i 0) 1 n) }
+          record {
+            same = v .same
+                ∙ rw (add-one i, drop-cons codes i 0 h, drop-cons ones i 0 k, eq-eqb c (getD codes i 0) e, ne-eqb (getD ones i 0) 1 n);
+          }
 
       pub finding-found : getD ones i 0 ≡ 1 → i ≡ byteFrom 0 c codes ones
       unfolding byteFrom

@@ -30,7 +30,21 @@ same-length : tie.Need-same-length
 same-length c = search needs
 
 returns-5 : tie.Need-returns-5
-returns-5 c = search decode-written
+returns-5 c =
+    let w = c .before .before in
+    let f = w .before .before in
+    let m = f .before .before in
+    decode-written
+    _
+    _
+    _
+    (m .before .before .before .accepts .ensures)
+    (m .before .before .if1 .left)
+    (m .before .if2 .left)
+    (m .all-mapped .ensures)
+    (f .before .if3 .left)
+    (f .if4 .left)
+    (w .write-codes .ensures)
 
 pub decode-spec : {M : Type 1} → statement M
 decode-spec =
