@@ -10,6 +10,7 @@ use borrow.Author.Tests.{le-leb, lt-leb, not-false}
 use Rattle.rules.specs.Text.{every}
 use Rattle.rules.specs.Coding.{isCode, goodOnes, oneEach, areaAccepted}
 use Rattle.rules.specs.Calls.{areaCall}
+use Rattle.rules.proofs.AreaLaws.{accepted-parts}
 use Rattle.units.specs.declared.Refusal.the-variants.{NotAccepted}
 use Rattle.coding.specs.declared.AreaVerdict.the-variants.{Accepted, Refused}
 use Rattle.coding.specs.Answers.{numberIs}
@@ -23,6 +24,9 @@ pub not-denied : {r t : Bool} → r ≡ t → not r ≡ false → t ≡ true
 not-denied {r} e f = sym e ∙ not-false r f
 
 -- ## accepts
+
+pub area-size : (area : List ℕ) → areaAccepted area ≡ true → 512 ≤ length area
+area-size area a = accepted-parts area a .size
 
 module _ (area : List ℕ) (h : 512 ≤ length area) where
   pub codes-count : 256 ≡ length (take 256 area)

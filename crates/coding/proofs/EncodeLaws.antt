@@ -1,4 +1,4 @@
--- Encoding: the loop of all_coded, a byte that is written, and the answers of encode.
+-- Encoding: the loop of all_coded, a byte that is written, and the answers of encode_by and encode.
 use mathlib.Core.Path.{_≡_, refl, sym, _∙_}
 use mathlib.Core.Bool.{Bool, true, false, not}
 use mathlib.Core.List.{List, [], _∷_, map}
@@ -16,11 +16,9 @@ use Rattle.rules.specs.Order.{goodString}
 use Rattle.rules.specs.Coding.{areaAccepted, byteAt, encodeOf}
 use Rattle.rules.specs.Calls.{over, writtenAs, encodeCall}
 use Rattle.rules.proofs.TextLaws.{every-head, every-tail, within-high}
-use Rattle.rules.proofs.AreaLaws.{accepted-parts}
 use Rattle.units.specs.declared.Refusal.the-variants.{NotAccepted, BadString, NotMapped, NoRoom}
 use Rattle.coding.specs.declared.Coded.the-variants.{Written, Refused}
 use Rattle.coding.specs.Answers.{writtenIs}
-use Rattle.coding.proofs.AcceptLaws.{not-denied}
 
 -- ## all_coded
 
@@ -56,6 +54,26 @@ pub byte-fits : (area s : List ℕ) (i : ℕ) {b : ℕ} → every (within 0 255)
     → b ≡ byteAt area (getD s i 0) → Fits w8 b
 byte-fits area s i e h is = rw is (omega (arith, byte-small (byteAt area) s i e h))
 
+-- ## encode_by
+
+module _ (area s room : List ℕ) (accepted : areaAccepted area ≡ true) (good : goodString s ≡ true) {b : Bool}
+    (codes : b ≡ every (within 0 255) (map (byteAt area) s)) where
+  pub encode-uncoded : not b ≡ true → writtenIs (Refused NotMapped) room ≡ encodeCall area s room
+  unfolding encodeCall writtenAs encodeOf
+  encode-uncoded e = rw (accepted, good, ← codes, e)
+
+  module _ (yes-codes : not b ≡ false) where
+    pub encode-short : length room < length s → writtenIs (Refused NoRoom) room ≡ encodeCall area s room
+    unfolding encodeCall writtenAs encodeOf
+    encode-short k = rw (accepted, good, ← codes, yes-codes, length-map s (byteAt area), lt-ltb (length room) (length s) k)
+
+    pub encode-written : {o : List ℕ} → length s ≤ length room → o ≡ over (map (byteAt area) s) room
+        → writtenIs (Written (length s)) o ≡ encodeCall area s room
+    unfolding encodeCall writtenAs encodeOf
+    encode-written k e =
+        rw (e, accepted, good, ← codes, yes-codes, length-map s (byteAt area), le-ltb (length room) (length s) k)
+        (rw (length-map s (byteAt area)))
+
 -- ## encode
 
 module _ (area s room : List ℕ) {a : Bool} (accepts : a ≡ areaAccepted area) where
@@ -63,29 +81,6 @@ module _ (area s room : List ℕ) {a : Bool} (accepts : a ≡ areaAccepted area)
   unfolding encodeCall writtenAs encodeOf
   encode-unaccepted e = rw (← accepts, e)
 
-  module _ (yes-area : not a ≡ false) where
-    pub encode-size : 512 ≤ length area
-    encode-size = accepted-parts area (not-denied accepts yes-area) .size
-
-    module _ {b : Bool} (good : b ≡ goodString s) where
-      pub encode-bad : not b ≡ true → writtenIs (Refused BadString) room ≡ encodeCall area s room
-      unfolding encodeCall writtenAs encodeOf
-      encode-bad e = rw (← accepts, yes-area, ← good, e)
-
-      module _ (yes-string : not b ≡ false) {d : Bool} (codes : d ≡ every (within 0 255) (map (byteAt area) s)) where
-        pub encode-uncoded : not d ≡ true → writtenIs (Refused NotMapped) room ≡ encodeCall area s room
-        unfolding encodeCall writtenAs encodeOf
-        encode-uncoded e = rw (← accepts, yes-area, ← good, yes-string, ← codes, e)
-
-        module _ (yes-codes : not d ≡ false) where
-          pub encode-short : length room < length s → writtenIs (Refused NoRoom) room ≡ encodeCall area s room
-          unfolding encodeCall writtenAs encodeOf
-          encode-short k =
-              rw (← accepts, yes-area, ← good, yes-string, ← codes, yes-codes, length-map s (byteAt area), lt-ltb (length room) (length s) k)
-
-          pub encode-written : {o : List ℕ} → length s ≤ length room → o ≡ over (map (byteAt area) s) room
-              → writtenIs (Written (length s)) o ≡ encodeCall area s room
-          unfolding encodeCall writtenAs encodeOf
-          encode-written k e =
-              rw (e, ← accepts, yes-area, ← good, yes-string, ← codes, yes-codes, length-map s (byteAt area), le-ltb (length room) (length s) k)
-              (rw (length-map s (byteAt area)))
+  pub encode-bad : {b : Bool} → not a ≡ false → b ≡ goodString s → not b ≡ true → writtenIs (Refused BadString) room ≡ encodeCall area s room
+  unfolding encodeCall writtenAs encodeOf
+  encode-bad yes-area good e = rw (← accepts, yes-area, ← good, e)

@@ -1,5 +1,7 @@
 pub mod CodesLaws
 pub mod OnesLaws
+pub mod BlankLaws
+pub mod CountLaws
 pub mod AcceptLaws
 pub mod PutLaws
 pub mod DecodeLaws

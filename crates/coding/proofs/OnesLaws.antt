@@ -1,9 +1,10 @@
--- The numbers after the codes: the loops of ones_pass, ones_of and one_each.
+-- The numbers after the codes: the loops of ones_pass, ones_of and one_each_by.
 use mathlib.Core.Path.{_≡_, refl, sym, _∙_}
-use mathlib.Core.Bool.{Bool, true, false, not, _&&_, _||_}
+use mathlib.Core.Bool.{Bool, true, false, not, _&&_, _||_, false≢true}
 use mathlib.Core.List.{List, [], _∷_}
-use Prim.Native.Nat.{ℕ, _+_, _≤_, _<_}
+use Prim.Native.Nat.{ℕ, zero, suc, _+_, _≤_, _<_}
 use native.Mathlib.Numerals.{add-one}
+use native.Mathlib.Nat.{le-of-suc-le-suc}
 use native.Mathlib.Omega.{arith}
 use mir.Syntax.{w32}
 use mir.Val.{Fits}
@@ -16,7 +17,7 @@ use Rattle.rules.specs.Charmap.{noCode}
 use Rattle.rules.specs.Coding.{goodOnes, onesOf, oneEach}
 
 -- a number after the codes passes where the code is c
-abbrev isOne : ℕ → ℕ → Bool
+abbrev pub isOne : ℕ → ℕ → Bool
 isOne c o = eqb o 0 || (eqb o 1 && not (eqb c noCode))
 
 module _ (codes ones : List ℕ) (i : ℕ) (l : length codes ≡ length ones) (h : i < length codes) where
@@ -26,14 +27,14 @@ module _ (codes ones : List ℕ) (i : ℕ) (l : length codes ≡ length ones) (h
   unfolding goodOnes
   good-cons = let k : i < length ones = omega arith in rw (add-one i, drop-cons codes i 0 h, drop-cons ones i 0 k)
 
-  sum-same : (c : ℕ) → c ≡ getD codes i 0
+  pub sum-same : (c : ℕ) → c ≡ getD codes i 0
       → onesOf c (drop i codes) (drop i ones) ≡ getD ones i 0 + onesOf c (drop (i + 1) codes) (drop (i + 1) ones)
   unfolding onesOf
   sum-same c e =
       let k : i < length ones = omega arith in
       rw (add-one i, drop-cons codes i 0 h, drop-cons ones i 0 k, eq-eqb c (getD codes i 0) e)
 
-  sum-other : (c : ℕ) → (c ≡ getD codes i 0 → ⊥) → onesOf c (drop i codes) (drop i ones) ≡ onesOf c (drop (i + 1) codes) (drop (i + 1) ones)
+  pub sum-other : (c : ℕ) → (c ≡ getD codes i 0 → ⊥) → onesOf c (drop i codes) (drop i ones) ≡ onesOf c (drop (i + 1) codes) (drop (i + 1) ones)
   unfolding onesOf
   sum-other c n =
       let k : i < length ones = omega arith in
@@ -76,50 +77,41 @@ one-small c o h = by (eqb o 0)
     (λ t. omega (arith, eqb-true o 0 t))
     (λ t. omega (arith, eqb-true o 1 (and-left (eqb o 1) (not (eqb c noCode)) (rw t at h))))
 
+pub good-one : (codes ones : List ℕ) (i : ℕ) → goodOnes codes ones ≡ true → i < length codes → getD ones i 0 ≤ 1
+unfolding goodOnes
+good-one [] os i g h = absurd (omega arith)
+good-one (c ∷ cs) [] i g h = absurd (false≢true g)
+good-one (c ∷ cs) (o ∷ os) zero g h = one-small c o (and-left (isOne c o) (goodOnes cs os) g)
+good-one (c ∷ cs) (o ∷ os) (suc i) g h = good-one cs os i (and-right (isOne c o) (goodOnes cs os) g) (le-of-suc-le-suc h)
+
 -- sum is what stands before i at the code c
 pub record Summing (codes ones : List ℕ) (c sum i : ℕ) : Type 0 where
   pub small : sum ≤ i
-  pub good : goodOnes (drop i codes) (drop i ones) ≡ true
   pub same : onesOf c codes ones ≡ sum + onesOf c (drop i codes) (drop i ones)
 
-pub summing-none : (codes ones : List ℕ) (c : ℕ) → goodOnes codes ones ≡ true → Summing codes ones c 0 0
-summing-none codes ones c g = record { small = omega arith; good = g; same = omega arith }
+pub summing-none : (codes ones : List ℕ) (c : ℕ) → Summing codes ones c 0 0
+summing-none codes ones c = record { small = omega arith; same = omega arith }
 
 module _ {codes ones : List ℕ} {c sum i : ℕ} (v : Summing codes ones c sum i) where
   module _ (l : length codes ≡ length ones) (h : i < length codes) where
-    passes : (isOne (getD codes i 0) (getD ones i 0) && goodOnes (drop (i + 1) codes) (drop (i + 1) ones)) ≡ true
-    passes = sym (good-cons codes ones i l h) ∙ v .good
+    module _ (g : goodOnes codes ones ≡ true) where
+      pub summing-fits : length codes ≤ 256 → Fits w32 (sum + getD ones i 0)
+      summing-fits k = omega (arith, good-one codes ones i g h, v .small)
 
-    one-here : getD ones i 0 ≤ 1
-    one-here =
-        one-small (getD codes i 0) (getD ones i 0)
-        (and-left (isOne (getD codes i 0) (getD ones i 0)) (goodOnes (drop (i + 1) codes) (drop (i + 1) ones)) passes)
-
-    good-later : goodOnes (drop (i + 1) codes) (drop (i + 1) ones) ≡ true
-    good-later = and-right (isOne (getD codes i 0) (getD ones i 0)) (goodOnes (drop (i + 1) codes) (drop (i + 1) ones)) passes
-
-    pub summing-fits : length codes ≤ 256 → Fits w32 (sum + getD ones i 0)
-    summing-fits k = omega (arith, one-here, v .small)
-
-    pub summing-same : {s : ℕ} → c ≡ getD codes i 0 → s ≡ sum + getD ones i 0 → Summing codes ones c s (i + 1)
-    summing-same e f = record {
-      small = omega (arith, one-here, v .small);
-      good = good-later;
-      same = omega (arith, v .same, sum-same codes ones i l h c e);
-    }
+      pub summing-same : {s : ℕ} → c ≡ getD codes i 0 → s ≡ sum + getD ones i 0 → Summing codes ones c s (i + 1)
+      summing-same e f = record {
+        small = omega (arith, good-one codes ones i g h, v .small);
+        same = omega (arith, v .same, sum-same codes ones i l h c e);
+      }
 
     pub summing-other : {s : ℕ} → (c ≡ getD codes i 0 → ⊥) → s ≡ sum → Summing codes ones c s (i + 1)
-    summing-other n f = record {
-      small = omega (arith, v .small);
-      good = good-later;
-      same = omega (arith, v .same, sum-other codes ones i l h c n);
-    }
+    summing-other n f = record { small = omega (arith, v .small); same = omega (arith, v .same, sum-other codes ones i l h c n) }
 
   pub summing-all : length codes ≤ i → sum ≡ onesOf c codes ones
   unfolding onesOf
   summing-all h = sym (v .same ∙ rw (drop-of-length-le codes h) (omega arith))
 
--- ## one_each
+-- ## one_each_by
 
 -- each code before i has one 1, so that those from i on decide
 pub record Each (codes ones : List ℕ) (i : ℕ) : Type 0 where

@@ -3,12 +3,14 @@ ghost use mathlib.Core.Path.{_≡_};
 ghost use mathlib.Core.Bool.{true};
 ghost use mathlib.Core.List.{map};
 ghost use Prim.Native.Nat.{_≤_};
-ghost use lib.ListN.{length};
+ghost use lib.ListN.{length, take, drop, replicate};
 ghost use Rattle.rules.specs.Text.{every, within};
 ghost use Rattle.rules.specs.Names.{isCharacter};
+ghost use Rattle.rules.specs.Order.{goodString};
 ghost use Rattle.rules.specs.Coding.{isCode, goodOnes, onesOf, oneEach, areaAccepted, codeAt, byteFrom, byteAt};
 ghost use Rattle.rules.specs.Calls.{over, areaCall, decodeCall, encodeCall};
 ghost use Rattle.coding.specs.Answers.{numberIs, writtenIs};
+ghost use Rattle.coding.specs.Tables.{Counted, Indexed};
 use units::Refusal;
 use units::good_string;
 use units::is_character;
@@ -76,8 +78,7 @@ fn ones_pass(codes: &[u32], ones: &[u32]) -> bool
 
 // How often a code has a 1.
 fn ones_of(codes: &[u32], ones: &[u32], c: u32) -> u32
-    requires { ⌜ length (now codes) ≡ length (now ones) ⌝ }
-    requires { ⌜ length (now codes) ≤ 256 ⌝ }
+    requires { ⌜ (length (now codes) ≡ length (now ones)) × (length (now codes) ≤ 256) ⌝ }
     requires { ⌜ goodOnes (now codes) (now ones) ≡ true ⌝ }
     ensures { λ r. ⌜ r ≡ onesOf c (now (codes .entry)) (now (ones .entry)) ⌝ }
 {
@@ -94,11 +95,42 @@ fn ones_of(codes: &[u32], ones: &[u32], c: u32) -> u32
     sum
 }
 
-// Whether each code has one 1.
-fn one_each(codes: &[u32], ones: &[u32]) -> bool
-    requires { ⌜ length (now codes) ≡ length (now ones) ⌝ }
-    requires { ⌜ length (now codes) ≤ 256 ⌝ }
+// How often each code below the table's length has a 1, into a table of zeros.
+fn count_ones(codes: &[u32], ones: &[u32], counts: &mut [u16])
+    requires { ⌜ (length (now codes) ≡ length (now ones)) × (length (now codes) ≤ 256) ⌝ }
     requires { ⌜ goodOnes (now codes) (now ones) ≡ true ⌝ }
+    requires { ⌜ now counts ≡ replicate (length (now counts)) 0 ⌝ }
+    ensures { λ _. ⌜ Counted (now (codes .entry)) (now (ones .entry)) (now (counts .exit)) ⌝ }
+{
+    let mut i = codes.len();
+    while 0 < i {
+        i -= 1;
+        let d = codes[i] as usize;
+        if d < counts.len() {
+            counts[d] = counts[d] + ones[i] as u16;
+        }
+    }
+}
+
+// How often a code has a 1: by the table, or where the code lies past it, by a scan.
+fn ones_by(codes: &[u32], ones: &[u32], counts: &[u16], c: u32) -> u32
+    requires { ⌜ (length (now codes) ≡ length (now ones)) × (length (now codes) ≤ 256) ⌝ }
+    requires { ⌜ goodOnes (now codes) (now ones) ≡ true ⌝ }
+    requires { ⌜ Counted (now codes) (now ones) (now counts) ⌝ }
+    ensures { λ r. ⌜ r ≡ onesOf c (now (codes .entry)) (now (ones .entry)) ⌝ }
+{
+    let k = c as usize;
+    if k < counts.len() {
+        return counts[k] as u32;
+    }
+    ones_of(codes, ones, c)
+}
+
+// Whether each code has one 1, by a table of counts.
+fn one_each_by(codes: &[u32], ones: &[u32], counts: &[u16]) -> bool
+    requires { ⌜ (length (now codes) ≡ length (now ones)) × (length (now codes) ≤ 256) ⌝ }
+    requires { ⌜ goodOnes (now codes) (now ones) ≡ true ⌝ }
+    requires { ⌜ Counted (now codes) (now ones) (now counts) ⌝ }
     ensures { λ r. ⌜ r ≡ oneEach (now (codes .entry)) (now (codes .entry)) (now (ones .entry)) ⌝ }
 {
     let mut i = 0;
@@ -107,7 +139,7 @@ fn one_each(codes: &[u32], ones: &[u32]) -> bool
         if c == 0x110000 {
             i += 1;
         } else {
-            let n = ones_of(codes, ones, c);
+            let n = ones_by(codes, ones, counts, c);
             if n != 1 {
                 return false;
             }
@@ -115,6 +147,17 @@ fn one_each(codes: &[u32], ones: &[u32]) -> bool
         }
     }
     true
+}
+
+// Whether each code has one 1. The table takes the codes of the common 8-bit charmaps, box drawing too.
+fn one_each(codes: &[u32], ones: &[u32]) -> bool
+    requires { ⌜ (length (now codes) ≡ length (now ones)) × (length (now codes) ≤ 256) ⌝ }
+    requires { ⌜ goodOnes (now codes) (now ones) ≡ true ⌝ }
+    ensures { λ r. ⌜ r ≡ oneEach (now (codes .entry)) (now (codes .entry)) (now (ones .entry)) ⌝ }
+{
+    let mut counts = [0u16; 0x2600];
+    count_ones(codes, ones, &mut counts);
+    one_each_by(codes, ones, &counts)
 }
 
 // Whether the area begins with an accepted charmap.
@@ -221,14 +264,47 @@ fn find_byte(codes: &[u32], ones: &[u32], c: u32) -> usize
     256
 }
 
-// Whether each character has a byte.
-fn all_coded(area: &[u32], s: &[u32]) -> bool
+// The byte that encodes each code below the table's length, into a table of 256s.
+fn index_bytes(codes: &[u32], ones: &[u32], index: &mut [u16])
+    requires { ⌜ (length (now codes) ≡ length (now ones)) × (length (now codes) ≤ 256) ⌝ }
+    requires { ⌜ now index ≡ replicate (length (now index)) 256 ⌝ }
+    ensures { λ _. ⌜ Indexed (now (codes .entry)) (now (ones .entry)) (now (index .exit)) ⌝ }
+{
+    let mut i = codes.len();
+    while 0 < i {
+        i -= 1;
+        let o = ones[i];
+        if o == 1 {
+            let d = codes[i] as usize;
+            if d < index.len() {
+                index[d] = i as u16;
+            }
+        }
+    }
+}
+
+// The byte that encodes a code, 256 for none: by the table, or where the code lies past it, by a scan.
+fn byte_of(area: &[u32], index: &[u16], c: u32) -> usize
     requires { ⌜ 512 ≤ length (now area) ⌝ }
+    requires { ⌜ Indexed (take 256 (now area)) (take 256 (drop 256 (now area))) (now index) ⌝ }
+    ensures { λ r. ⌜ r ≡ byteAt (now (area .entry)) c ⌝ }
+{
+    let k = c as usize;
+    if k < index.len() {
+        return index[k] as usize;
+    }
+    find_byte(&area[..256], &area[256..512], c)
+}
+
+// Whether each character has a byte.
+fn all_coded(area: &[u32], index: &[u16], s: &[u32]) -> bool
+    requires { ⌜ 512 ≤ length (now area) ⌝ }
+    requires { ⌜ Indexed (take 256 (now area)) (take 256 (drop 256 (now area))) (now index) ⌝ }
     ensures { λ r. ⌜ r ≡ every (within 0 255) (map (byteAt (now (area .entry))) (now (s .entry))) ⌝ }
 {
     let mut i = 0;
     while i < s.len() {
-        let b = find_byte(&area[..256], &area[256..512], s[i]);
+        let b = byte_of(area, index, s[i]);
         if 255 < b {
             return false;
         }
@@ -238,18 +314,37 @@ fn all_coded(area: &[u32], s: &[u32]) -> bool
 }
 
 // The byte of each character, written to the front of the room.
-fn write_bytes(area: &[u32], s: &[u32], room: &mut [u8])
+fn write_bytes(area: &[u32], index: &[u16], s: &[u32], room: &mut [u8])
     requires { ⌜ 512 ≤ length (now area) ⌝ }
+    requires { ⌜ Indexed (take 256 (now area)) (take 256 (drop 256 (now area))) (now index) ⌝ }
     requires { ⌜ every (within 0 255) (map (byteAt (now area)) (now s)) ≡ true ⌝ }
     requires { ⌜ length (now s) ≤ length (now room) ⌝ }
     ensures { λ _. ⌜ now (room .exit) ≡ over (map (byteAt (now (area .entry))) (now (s .entry))) (now (room .entry)) ⌝ }
 {
     let mut i = 0;
     while i < s.len() {
-        let b = find_byte(&area[..256], &area[256..512], s[i]);
+        let b = byte_of(area, index, s[i]);
         room[i] = b as u8;
         i += 1;
     }
+}
+
+// The bytes of a string by an accepted area, written to the front of the room.
+fn encode_by(area: &[u32], index: &[u16], s: &[u32], room: &mut [u8]) -> Coded
+    requires { ⌜ areaAccepted (now area) ≡ true ⌝ }
+    requires { ⌜ goodString (now s) ≡ true ⌝ }
+    requires { ⌜ Indexed (take 256 (now area)) (take 256 (drop 256 (now area))) (now index) ⌝ }
+    ensures { λ r. ⌜ writtenIs r (now (room .exit)) ≡ encodeCall (now (area .entry)) (now (s .entry)) (now (room .entry)) ⌝ }
+{
+    let coded = all_coded(area, index, s);
+    if !coded {
+        return Coded::Refused(Refusal::NotMapped);
+    }
+    if room.len() < s.len() {
+        return Coded::Refused(Refusal::NoRoom);
+    }
+    write_bytes(area, index, s, room);
+    Coded::Written(s.len())
 }
 
 // The bytes of a string, written to the front of the room.
@@ -264,13 +359,7 @@ pub fn encode(area: &[u32], s: &[u32], room: &mut [u8]) -> Coded
     if !good {
         return Coded::Refused(Refusal::BadString);
     }
-    let coded = all_coded(area, s);
-    if !coded {
-        return Coded::Refused(Refusal::NotMapped);
-    }
-    if room.len() < s.len() {
-        return Coded::Refused(Refusal::NoRoom);
-    }
-    write_bytes(area, s, room);
-    Coded::Written(s.len())
+    let mut index = [256u16; 0x2600];
+    index_bytes(&area[..256], &area[256..512], &mut index);
+    encode_by(area, &index, s, room)
 }

@@ -2,40 +2,27 @@
 use borrow.Author.Needs.{needs}
 use Prim.Native.Nat.{_-_}
 use lib.ListN.{length}
-use Rattle.coding.proofs.AcceptLaws.{codes-count, ones-many}
 use Rattle.coding.proofs.EncodeLaws.{Coding, coding-none, coding-no, coding-more, coding-all}
 use Rattle.coding.proofs.all_coded.Statement.{statement}
 use Rattle.coding.proofs.all_coded.Tie as tie
 
 abbrev Inv-loop : tie.InvT-loop
-Inv-loop area s i₀ i = Coding area s i
+Inv-loop area index s i₀ i = Coding area s i
 
 abbrev μ-loop : tie.MeasureT-loop
-μ-loop area s i₀ i = length s - i
+μ-loop area index s i₀ i = length s - i
 
 loop-holds : tie.Need-loop-holds Inv-loop μ-loop
 loop-holds c = search coding-none
 
-slice-aggregate-find-byte : tie.Need-slice-aggregate-find-byte Inv-loop μ-loop
-slice-aggregate-find-byte c = search codes-count
+mul-byte-of : tie.Need-mul-byte-of Inv-loop μ-loop
+mul-byte-of c = search needs
 
-sub-find-byte : tie.Need-sub-find-byte Inv-loop μ-loop
-sub-find-byte c = search needs
+shared-slice-read-byte-of : tie.Need-shared-slice-read-byte-of Inv-loop μ-loop
+shared-slice-read-byte-of c = search needs
 
-part-find-byte-start : tie.Need-part-find-byte-start Inv-loop μ-loop
-part-find-byte-start c = search needs
-
-part-find-byte-end : tie.Need-part-find-byte-end Inv-loop μ-loop
-part-find-byte-end c = search needs
-
-mul-find-byte : tie.Need-mul-find-byte Inv-loop μ-loop
-mul-find-byte c = search needs
-
-shared-slice-read-find-byte : tie.Need-shared-slice-read-find-byte Inv-loop μ-loop
-shared-slice-read-find-byte c = search needs
-
-find-byte-requires : tie.Need-find-byte-requires Inv-loop μ-loop
-find-byte-requires c κs = search ones-many
+byte-of-requires : tie.Need-byte-of-requires Inv-loop μ-loop
+byte-of-requires c κs = search needs
 
 returns : tie.Need-returns Inv-loop μ-loop
 returns c = search coding-no
@@ -59,13 +46,9 @@ all-coded-spec =
     Inv-loop
     μ-loop
     loop-holds
-    slice-aggregate-find-byte
-    sub-find-byte
-    part-find-byte-start
-    part-find-byte-end
-    mul-find-byte
-    shared-slice-read-find-byte
-    find-byte-requires
+    mul-byte-of
+    shared-slice-read-byte-of
+    byte-of-requires
     returns
     add-i
     loop-less

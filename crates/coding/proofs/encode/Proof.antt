@@ -1,7 +1,7 @@
--- `coding::encode` meets its contract: one law for each return.
+-- `coding::encode` meets its contract: one law for each refusal, and encode_by for the rest.
 use borrow.Author.Needs.{needs}
-use Rattle.coding.proofs.AcceptLaws.{not-denied}
-use Rattle.coding.proofs.EncodeLaws.{encode-size, encode-unaccepted, encode-bad, encode-uncoded, encode-short, encode-written}
+use Rattle.coding.proofs.AcceptLaws.{not-denied, area-size, codes-count, ones-many, codes-few}
+use Rattle.coding.proofs.EncodeLaws.{encode-unaccepted, encode-bad}
 use Rattle.coding.proofs.encode.Statement.{statement}
 use Rattle.coding.proofs.encode.Tie as tie
 
@@ -17,39 +17,35 @@ good-string-requires c κs = search needs
 returns-2 : tie.Need-returns-2
 returns-2 c = search encode-bad
 
-all-coded-requires : tie.Need-all-coded-requires
-all-coded-requires c κs = search encode-size
+slice-aggregate-index-bytes : tie.Need-slice-aggregate-index-bytes
+slice-aggregate-index-bytes c = search (codes-count, area-size, not-denied)
 
-returns-3 : tie.Need-returns-3
-returns-3 c = search encode-uncoded
+sub-index-bytes : tie.Need-sub-index-bytes
+sub-index-bytes c = search needs
 
-returns-4 : tie.Need-returns-4
-returns-4 c = search encode-short
+part-index-bytes-start : tie.Need-part-index-bytes-start
+part-index-bytes-start c = search needs
 
-write-bytes-requires : tie.Need-write-bytes-requires
-write-bytes-requires c κs = search (encode-size, not-denied)
+part-index-bytes-end : tie.Need-part-index-bytes-end
+part-index-bytes-end c = search (area-size, not-denied)
+
+slice-aggregate-index-bytes-2 : tie.Need-slice-aggregate-index-bytes-2
+slice-aggregate-index-bytes-2 c = search needs
+
+index-bytes-requires : tie.Need-index-bytes-requires
+index-bytes-requires c κs = search (ones-many, codes-few, area-size, not-denied)
+
+slice-aggregate-encode-by : tie.Need-slice-aggregate-encode-by
+slice-aggregate-encode-by c = search needs
+
+encode-by-requires : tie.Need-encode-by-requires
+encode-by-requires c κs = search not-denied
 
 same-length : tie.Need-same-length
 same-length c = search needs
 
-returns-5 : tie.Need-returns-5
-returns-5 c =
-    let w = c .before .before in
-    let f = w .before .before in
-    let m = f .before .before in
-    let g = m .before .before in
-    encode-written
-    _
-    _
-    _
-    (g .before .before .accepts .ensures)
-    (g .before .if1 .left)
-    (g .good-string .ensures)
-    (m .before .if2 .left)
-    (m .all-coded .ensures)
-    (f .before .if3 .left)
-    (f .if4 .left)
-    (w .write-bytes .ensures)
+returns-3 : tie.Need-returns-3
+returns-3 c = search needs
 
 pub encode-spec : {M : Type 1} → statement M
 encode-spec =
@@ -59,9 +55,13 @@ encode-spec =
     returns
     good-string-requires
     returns-2
-    all-coded-requires
-    returns-3
-    returns-4
-    write-bytes-requires
+    slice-aggregate-index-bytes
+    sub-index-bytes
+    part-index-bytes-start
+    part-index-bytes-end
+    slice-aggregate-index-bytes-2
+    index-bytes-requires
+    slice-aggregate-encode-by
+    encode-by-requires
     same-length
-    returns-5)
+    returns-3)

@@ -1,16 +1,16 @@
--- `coding::one_each` meets its contract. The loop's invariant: each code before i has one 1, so that those from i on decide. The measure is how many are left.
+-- `coding::one_each_by` meets its contract. The loop's invariant: each code before i has one 1, so that those from i on decide. The measure is how many are left.
 use borrow.Author.Needs.{needs}
 use Prim.Native.Nat.{_-_}
 use lib.ListN.{length}
 use Rattle.coding.proofs.OnesLaws.{Each, each-none, each-uncoded, each-one, each-other, each-all}
-use Rattle.coding.proofs.one_each.Statement.{statement}
-use Rattle.coding.proofs.one_each.Tie as tie
+use Rattle.coding.proofs.one_each_by.Statement.{statement}
+use Rattle.coding.proofs.one_each_by.Tie as tie
 
 abbrev Inv-loop : tie.InvT-loop
-Inv-loop codes ones i₀ i = Each codes ones i
+Inv-loop codes ones counts i₀ i = Each codes ones i
 
 abbrev μ-loop : tie.MeasureT-loop
-μ-loop codes ones i₀ i = length codes - i
+μ-loop codes ones counts i₀ i = length codes - i
 
 loop-holds : tie.Need-loop-holds Inv-loop μ-loop
 loop-holds c = search each-none
@@ -30,8 +30,8 @@ loop-less c = search needs
 loop-again : tie.Need-loop-again Inv-loop μ-loop
 loop-again c = search each-uncoded
 
-ones-of-requires : tie.Need-ones-of-requires Inv-loop μ-loop
-ones-of-requires c κs = search needs
+ones-by-requires : tie.Need-ones-by-requires Inv-loop μ-loop
+ones-by-requires c κs = search needs
 
 returns : tie.Need-returns Inv-loop μ-loop
 returns c = search each-other
@@ -48,8 +48,8 @@ loop-again-2 c = search each-one
 returns-2 : tie.Need-returns-2 Inv-loop μ-loop
 returns-2 c = search each-all
 
-pub one-each-spec : {M : Type 1} → statement M
-one-each-spec =
+pub one-each-by-spec : {M : Type 1} → statement M
+one-each-by-spec =
     tie.close
     (tie.spec
     Inv-loop
@@ -60,7 +60,7 @@ one-each-spec =
     add-i
     loop-less
     loop-again
-    ones-of-requires
+    ones-by-requires
     returns
     add-i-2
     loop-less-2
