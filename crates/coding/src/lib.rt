@@ -273,8 +273,7 @@ fn index_bytes(codes: &[u32], ones: &[u32], index: &mut [u16])
     let mut i = codes.len();
     while 0 < i {
         i -= 1;
-        let o = ones[i];
-        if o == 1 {
+        if ones[i] == 1 {
             let d = codes[i] as usize;
             if d < index.len() {
                 index[d] = i as u16;

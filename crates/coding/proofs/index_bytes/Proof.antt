@@ -18,11 +18,11 @@ loop-holds c = search indexing-none
 sub-i : tie.Need-sub-i Inv-loop μ-loop
 sub-i c = search needs
 
-mul-o : tie.Need-mul-o Inv-loop μ-loop
-mul-o c = search needs
+mul-if1 : tie.Need-mul-if1 Inv-loop μ-loop
+mul-if1 c = search needs
 
-shared-slice-read-o : tie.Need-shared-slice-read-o Inv-loop μ-loop
-shared-slice-read-o c = search needs
+shared-slice-read-if1 : tie.Need-shared-slice-read-if1 Inv-loop μ-loop
+shared-slice-read-if1 c = search needs
 
 mul-d : tie.Need-mul-d Inv-loop μ-loop
 mul-d c = search needs
@@ -74,8 +74,8 @@ index-bytes-spec =
     μ-loop
     loop-holds
     sub-i
-    mul-o
-    shared-slice-read-o
+    mul-if1
+    shared-slice-read-if1
     mul-d
     shared-slice-read-d
     cast-d
