@@ -6,7 +6,7 @@ use Prim.Native.Nat.{ℕ, _≤_, _<_}
 use native.Mathlib.Omega.{arith}
 use lib.ListN.{length, take, drop, length-drop}
 use lib.Seq.{length-take-le}
-use borrow.Author.Tests.{le-leb, lt-leb, not-false}
+use borrow.Author.Tests.{le-leb, lt-leb, not-true, not-false}
 use Rattle.rules.specs.Text.{every}
 use Rattle.rules.specs.Coding.{isCode, goodOnes, oneEach, areaAccepted}
 use Rattle.rules.specs.Calls.{areaCall}
@@ -17,9 +17,7 @@ use Rattle.coding.specs.Answers.{numberIs}
 
 -- ## What a call answered
 
-pub answered : {r t : Bool} → r ≡ t → r ≡ true → t ≡ true
-answered e f = sym e ∙ f
-
+-- what is not answered by no holds
 pub not-denied : {r t : Bool} → r ≡ t → not r ≡ false → t ≡ true
 not-denied {r} e f = sym e ∙ not-false r f
 
@@ -47,18 +45,18 @@ module _ (area : List ℕ) where
   accepts-short h = rw (lt-leb 512 (length area) h)
 
   module _ (h : 512 ≤ length area) {a : Bool} (codes : a ≡ every isCode (take 256 area)) where
-    pub accepts-codes : a ≡ false → false ≡ areaAccepted area
+    pub accepts-codes : not a ≡ true → false ≡ areaAccepted area
     unfolding areaAccepted
-    accepts-codes e = rw (le-leb 512 (length area) h, ← codes, e)
+    accepts-codes e = rw (le-leb 512 (length area) h, ← codes, not-true a e)
 
-    module _ (yes-codes : a ≡ true) {b : Bool} (ones : b ≡ goodOnes (take 256 area) (take 256 (drop 256 area))) where
-      pub accepts-ones : b ≡ false → false ≡ areaAccepted area
+    module _ (yes-codes : not a ≡ false) {b : Bool} (ones : b ≡ goodOnes (take 256 area) (take 256 (drop 256 area))) where
+      pub accepts-ones : not b ≡ true → false ≡ areaAccepted area
       unfolding areaAccepted
-      accepts-ones e = rw (le-leb 512 (length area) h, ← codes, yes-codes, ← ones, e)
+      accepts-ones e = rw (le-leb 512 (length area) h, ← codes, not-false a yes-codes, ← ones, not-true b e)
 
-      pub accepts-each : {r : Bool} → b ≡ true → r ≡ oneEach (take 256 area) (take 256 area) (take 256 (drop 256 area)) → r ≡ areaAccepted area
+      pub accepts-each : {r : Bool} → not b ≡ false → r ≡ oneEach (take 256 area) (take 256 area) (take 256 (drop 256 area)) → r ≡ areaAccepted area
       unfolding areaAccepted
-      accepts-each e each = each ∙ rw (le-leb 512 (length area) h, ← codes, yes-codes, ← ones, e)
+      accepts-each e each = each ∙ rw (le-leb 512 (length area) h, ← codes, not-false a yes-codes, ← ones, not-false b e)
 
 -- ## check_area
 

@@ -1,6 +1,6 @@
 -- How often each code has a 1: the loop of count_ones, which goes down, and the answers of ones_by.
 use mathlib.Core.Path.{_≡_, refl, sym, _∙_}
-use mathlib.Core.Bool.{Bool, true, false≢true, not, _&&_, _||_}
+use mathlib.Core.Bool.{true, false≢true}
 use mathlib.Core.List.{List, [], _∷_}
 use Prim.Native.Nat.{ℕ, zero, suc, _+_, _-_, _≤_, _<_}
 use native.Mathlib.Omega.{arith}
@@ -10,7 +10,7 @@ use lib.ListN.{length, getD, drop, set, replicate, length-drop, length-set}
 use lib.Seq.{drop-length, getD-set-same, getD-set-other}
 use lib.Dec.{eqb}
 use borrow.Author.Tests.{eqb-true, eqb-false}
-use Rattle.lists.proofs.Bools.{and-left, and-right, by}
+use Rattle.lists.proofs.Bools.{and-right, by}
 use Rattle.rules.specs.Coding.{goodOnes, onesOf}
 use Rattle.coding.specs.Tables.{Counted}
 use Rattle.coding.proofs.BlankLaws.{blank-at}
@@ -18,6 +18,7 @@ use Rattle.coding.proofs.OnesLaws.{isOne, good-one, sum-same, sum-other
 
 -- ## How many 1s there can be
 
+-- at most one for each place
 ones-bound : (c : ℕ) (codes ones : List ℕ) → goodOnes codes ones ≡ true → onesOf c codes ones ≤ length codes
 unfolding goodOnes onesOf
 ones-bound c [] os g = omega arith
@@ -27,6 +28,7 @@ ones-bound c (d ∷ cs) (o ∷ os) g =
     let s = good-one (d ∷ cs) (o ∷ os) 0 g (omega arith) in
     by (eqb c d) (λ t. rw t (omega arith)) (λ t. rw t (omega arith))
 
+-- those from i on pass too
 good-drop : (i : ℕ) (codes ones : List ℕ) → goodOnes codes ones ≡ true → goodOnes (drop i codes) (drop i ones) ≡ true
 unfolding goodOnes
 good-drop zero codes ones g = g

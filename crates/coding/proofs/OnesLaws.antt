@@ -27,6 +27,7 @@ module _ (codes ones : List ℕ) (i : ℕ) (l : length codes ≡ length ones) (h
   unfolding goodOnes
   good-cons = let k : i < length ones = omega arith in rw (add-one i, drop-cons codes i 0 h, drop-cons ones i 0 k)
 
+  -- what the place i adds for its own code, and for another
   pub sum-same : (c : ℕ) → c ≡ getD codes i 0
       → onesOf c (drop i codes) (drop i ones) ≡ getD ones i 0 + onesOf c (drop (i + 1) codes) (drop (i + 1) ones)
   unfolding onesOf
@@ -77,6 +78,7 @@ one-small c o h = by (eqb o 0)
     (λ t. omega (arith, eqb-true o 0 t))
     (λ t. omega (arith, eqb-true o 1 (and-left (eqb o 1) (not (eqb c noCode)) (rw t at h))))
 
+-- each number of those that pass is at most 1
 pub good-one : (codes ones : List ℕ) (i : ℕ) → goodOnes codes ones ≡ true → i < length codes → getD ones i 0 ≤ 1
 unfolding goodOnes
 good-one [] os i g h = absurd (omega arith)

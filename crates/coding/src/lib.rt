@@ -15,12 +15,13 @@ use units::Refusal;
 use units::good_string;
 use units::is_character;
 
+// What the check of an area answers.
 pub enum AreaVerdict {
     Accepted,
     Refused(Refusal),
 }
 
-// How many numbers were written, or why none was.
+// How many numbers were written to the room lent, or why none was.
 pub enum Coded {
     Written(usize),
     Refused(Refusal),
@@ -107,7 +108,7 @@ fn count_ones(codes: &[u32], ones: &[u32], counts: &mut [u16])
         i -= 1;
         let d = codes[i] as usize;
         if d < counts.len() {
-            counts[d] = counts[d] + ones[i] as u16;
+            counts[d] += ones[i] as u16;
         }
     }
 }
@@ -149,7 +150,7 @@ fn one_each_by(codes: &[u32], ones: &[u32], counts: &[u16]) -> bool
     true
 }
 
-// Whether each code has one 1. The table takes the codes of the common 8-bit charmaps, box drawing too.
+// Whether each code has one 1. The table has room for the codes of the common 8-bit charmaps, box drawing too; others are scanned for.
 fn one_each(codes: &[u32], ones: &[u32]) -> bool
     requires { ⌜ (length (now codes) ≡ length (now ones)) × (length (now codes) ≤ 256) ⌝ }
     requires { ⌜ goodOnes (now codes) (now ones) ≡ true ⌝ }
@@ -170,14 +171,14 @@ fn accepts(area: &[u32]) -> bool
     let codes = &area[..256];
     let ones = &area[256..512];
     let coded = codes_pass(codes);
-    if coded {
-        let marked = ones_pass(codes, ones);
-        if marked {
-            return one_each(codes, ones);
-        }
+    if !coded {
         return false;
     }
-    false
+    let marked = ones_pass(codes, ones);
+    if !marked {
+        return false;
+    }
+    one_each(codes, ones)
 }
 
 // The check of a charmap area.
@@ -221,7 +222,8 @@ fn write_codes(area: &[u32], bytes: &[u8], room: &mut [u32])
     }
 }
 
-// The characters of the bytes, written to the front of the room.
+// The characters of the bytes, written to the front of the room, which stays as it was behind them and in a refusal. It is refused by
+// 11, 12, 14 or 13, in this order.
 pub fn decode(area: &[u32], bytes: &[u8], room: &mut [u32]) -> Coded
     ensures { λ r. ⌜ writtenIs r (now (room .exit)) ≡ decodeCall (now (area .entry)) (now (bytes .entry)) (now (room .entry)) ⌝ }
 {
@@ -328,7 +330,7 @@ fn write_bytes(area: &[u32], index: &[u16], s: &[u32], room: &mut [u8])
     }
 }
 
-// The bytes of a string by an accepted area, written to the front of the room.
+// The bytes of a good string by an accepted area and its table, written to the front of the room.
 fn encode_by(area: &[u32], index: &[u16], s: &[u32], room: &mut [u8]) -> Coded
     requires { ⌜ areaAccepted (now area) ≡ true ⌝ }
     requires { ⌜ goodString (now s) ≡ true ⌝ }
@@ -346,7 +348,7 @@ fn encode_by(area: &[u32], index: &[u16], s: &[u32], room: &mut [u8]) -> Coded
     Coded::Written(s.len())
 }
 
-// The bytes of a string, written to the front of the room.
+// The bytes of a string, written to the front of the room, with the same order of refusals.
 pub fn encode(area: &[u32], s: &[u32], room: &mut [u8]) -> Coded
     ensures { λ r. ⌜ writtenIs r (now (room .exit)) ≡ encodeCall (now (area .entry)) (now (s .entry)) (now (room .entry)) ⌝ }
 {

@@ -30,23 +30,20 @@ cast-d c = omega (arith, c .shared-slice-known .given (c .before .before .loop .
 mul-counts : tie.Need-mul-counts Inv-loop μ-loop
 mul-counts c = search needs
 
-slice-read-counts : tie.Need-slice-read-counts Inv-loop μ-loop
-slice-read-counts c = search needs
-
-mul-counts-2 : tie.Need-mul-counts-2 Inv-loop μ-loop
-mul-counts-2 c = search needs
-
 shared-slice-read-counts : tie.Need-shared-slice-read-counts Inv-loop μ-loop
 shared-slice-read-counts c = search needs
 
 cast-counts : tie.Need-cast-counts Inv-loop μ-loop
 cast-counts c = search counting-one
 
+mul-counts-2 : tie.Need-mul-counts-2 Inv-loop μ-loop
+mul-counts-2 c = search needs
+
+slice-read-counts : tie.Need-slice-read-counts Inv-loop μ-loop
+slice-read-counts c = search needs
+
 add-counts : tie.Need-add-counts Inv-loop μ-loop
 add-counts c = search counting-fits
-
-mul-counts-3 : tie.Need-mul-counts-3 Inv-loop μ-loop
-mul-counts-3 c = search needs
 
 slice-write-counts : tie.Need-slice-write-counts Inv-loop μ-loop
 slice-write-counts c = search needs
@@ -81,12 +78,11 @@ count-ones-spec =
     shared-slice-read-d
     cast-d
     mul-counts
-    slice-read-counts
-    mul-counts-2
     shared-slice-read-counts
     cast-counts
+    mul-counts-2
+    slice-read-counts
     add-counts
-    mul-counts-3
     slice-write-counts
     loop-less
     loop-again
