@@ -1,7 +1,7 @@
--- `table::is_character` meets its contract: one law for each return.
-use Rattle.table.proofs.CharLaws.{character-large, character-low, character-high}
-use Rattle.table.proofs.is_character.Statement.{statement}
-use Rattle.table.proofs.is_character.Tie as tie
+-- `units::is_character` meets its contract: one law for each return.
+use Rattle.units.proofs.CharLaws.{character-large, character-low, character-high}
+use Rattle.units.proofs.is_character.Statement.{statement}
+use Rattle.units.proofs.is_character.Tie as tie
 
 returns : tie.Need-returns
 returns c = search character-large
