@@ -1,4 +1,7 @@
 // The units of the product: what must not be mixed up, and what answers are made of. A number of the paper for each is in specs/.
+ghost use mathlib.Core.Path.{_≡_};
+ghost use Rattle.rules.specs.Names.{isCharacter};
+ghost use Rattle.rules.specs.Order.{goodString};
 
 // The place of an order line among the used ones, from 1: what a weight is.
 pub struct Rank(pub u32);
@@ -43,4 +46,36 @@ pub enum Refusal {
     NoRoom,
     // a character or a byte that the charmap does not have
     NotMapped,
+}
+
+// Whether a number is a character.
+pub fn is_character(c: u32) -> bool
+    ensures { λ r. ⌜ r ≡ isCharacter c ⌝ }
+{
+    if 0x10FFFF < c {
+        return false;
+    }
+    if c < 0xD800 {
+        return true;
+    }
+    0xDFFF < c
+}
+
+// Whether a string is not too long, and each of its numbers is a character.
+pub fn good_string(s: &[u32]) -> bool
+    ensures { λ r. ⌜ r ≡ goodString (now (s .entry)) ⌝ }
+{
+    if 4096 < s.len() {
+        return false;
+    }
+    let mut i = 0;
+    while i < s.len() {
+        let character = is_character(s[i]);
+        if character {
+            i += 1;
+        } else {
+            return false;
+        }
+    }
+    true
 }
