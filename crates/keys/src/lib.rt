@@ -1,0 +1,85 @@
+// The key builder: it counts the bytes of a string's key, and writes them where the room lent has place for them all.
+ghost use mathlib.Core.Path.{_≡_};
+ghost use mathlib.Core.Bool.{true};
+ghost use mathlib.Core.List.{[]};
+ghost use Prim.Native.Nat.{_+_, _≤_, _<_};
+ghost use lib.ListN.{length};
+ghost use Rattle.rules.specs.Order.{two, three};
+ghost use Rattle.entries.specs.Walk.{Level, entryAs};
+ghost use Rattle.layout.specs.Parts.{ruleAs};
+ghost use Rattle.keys.specs.Writing.{entryKey, levelBytes, TwoFit, EntryFits, Puts};
+use entries::Ahead;
+use entries::Entry;
+use layout::Rule;
+use units::CodePoint;
+use units::Refusal;
+
+// How many bytes were written, or why none was.
+pub enum Keyed {
+    Written(usize),
+    Refused(Refusal),
+}
+
+// A number as two bytes, high first; the place behind them.
+fn put_two(room: &mut [u8], at: usize, n: u32) -> usize
+    requires { ⌜ TwoFit (now room) at n ⌝ }
+    ensures { λ r. ⌜ Puts (now (room .entry)) at (two n []) (now (room .exit)) r ⌝ }
+{
+    room[at] = (n / 256) as u8;
+    room[at + 1] = (n % 256) as u8;
+    at + 2
+}
+
+// A character as three bytes, high first; the place behind them.
+fn put_three(room: &mut [u8], at: usize, c: CodePoint) -> usize
+    requires { ⌜ (c .0 < 16777216) × (at + 3 ≤ length (now room)) ⌝ }
+    ensures { λ r. ⌜ Puts (now (room .entry)) at (three (c .0) []) (now (room .exit)) r ⌝ }
+{
+    let n = c.0;
+    room[at] = (n / 65536) as u8;
+    room[at + 1] = (n / 256 % 256) as u8;
+    room[at + 2] = (n % 256) as u8;
+    at + 3
+}
+
+// An entry's bytes: with position its count + 1, then its weight; the place behind them.
+fn put_entry(room: &mut [u8], at: usize, position: bool, e: Entry) -> usize
+    requires { ⌜ EntryFits (now room) at position e ⌝ }
+    ensures { λ r. ⌜ Puts (now (room .entry)) at (entryKey position (entryAs e) []) (now (room .exit)) r ⌝ }
+{
+    let rank = e.rank.0;
+    if position {
+        let next = put_two(room, at, e.count as u32 + 1);
+        return put_two(room, next, rank);
+    }
+    put_two(room, at, rank)
+}
+
+// The entries of a level, and 00 00 behind them; the place behind those.
+fn write_level(
+    t: &[u32],
+    places: &[u32],
+    level: usize,
+    rule: Rule,
+    room: &mut [u8],
+    at: usize,
+) -> usize
+    requires { ⌜ Level (now t) (now places) level ⌝ }
+    requires { ⌜ at + length (levelBytes (now t) (now places) level (ruleAs rule)) ≤ length (now room) ⌝ }
+    ensures { λ r. ⌜ Puts (now (room .entry)) at (levelBytes (now (t .entry)) (now (places .entry)) level (ruleAs rule)) (now (room .exit)) r ⌝ }
+{
+    let mut c = entries::start();
+    let mut next = at;
+    loop {
+        let ahead = entries::next(t, places, level, rule, c);
+        match ahead {
+            Ahead::End => {
+                return put_two(room, next, 0);
+            }
+            Ahead::One(e, after) => {
+                next = put_entry(room, next, rule.position, e);
+                c = after;
+            }
+        }
+    }
+}
