@@ -1,2 +1,5 @@
 pub mod PutLaws
 pub mod LevelLaws
+pub mod LevelsLaws
+pub mod CodesLaws
+pub mod WidthLaws

@@ -57,6 +57,11 @@ pub record TwoFit (room : List ℕ) (at n : ℕ) : Type 0 where
   pub small : n < 65536
   pub inside : at + 2 ≤ length room
 
+-- A number that has three bytes, and a room that has place for them.
+pub record ThreeFit (room : List ℕ) (at n : ℕ) : Type 0 where
+  pub small : n < 16777216
+  pub inside : at + 3 ≤ length room
+
 -- An entry whose numbers have two bytes each, and a room that has place for them.
 pub record EntryFits (room : List ℕ) (at : ℕ) (position : Bool) (e : entries.Entry) : Type 0 where
   pub counted : e .count < 65535

@@ -2,12 +2,13 @@
 ghost use mathlib.Core.Path.{_≡_};
 ghost use mathlib.Core.Bool.{true};
 ghost use mathlib.Core.List.{[]};
-ghost use Prim.Native.Nat.{_+_, _≤_, _<_};
+ghost use Prim.Native.Nat.{_+_, _*_, _≤_};
 ghost use lib.ListN.{length};
-ghost use Rattle.rules.specs.Order.{two, three};
+ghost use Rattle.rules.specs.Table.{meaningIn};
+ghost use Rattle.rules.specs.Order.{two, three, codesKey, goodString, keyOf};
 ghost use Rattle.entries.specs.Walk.{Level, entryAs};
 ghost use Rattle.layout.specs.Parts.{ruleAs};
-ghost use Rattle.keys.specs.Writing.{entryKey, levelBytes, TwoFit, EntryFits, Puts};
+ghost use Rattle.keys.specs.Writing.{Listed, entryKey, levelBytes, levelsBytes, LevelWide, levelsWide, TwoFit, ThreeFit, EntryFits, Puts};
 use entries::Ahead;
 use entries::Entry;
 use layout::Rule;
@@ -32,7 +33,7 @@ fn put_two(room: &mut [u8], at: usize, n: u32) -> usize
 
 // A character as three bytes, high first; the place behind them.
 fn put_three(room: &mut [u8], at: usize, c: CodePoint) -> usize
-    requires { ⌜ (c .0 < 16777216) × (at + 3 ≤ length (now room)) ⌝ }
+    requires { ⌜ ThreeFit (now room) at (c .0) ⌝ }
     ensures { λ r. ⌜ Puts (now (room .entry)) at (three (c .0) []) (now (room .exit)) r ⌝ }
 {
     let n = c.0;
@@ -82,4 +83,66 @@ fn write_level(
             }
         }
     }
+}
+
+// The bytes of all levels, written to the front of the room; the place behind them.
+fn write_levels(t: &[u32], places: &[u32], room: &mut [u8]) -> usize
+    requires { ⌜ Listed (now t) (now places) ⌝ }
+    requires { ⌜ length (levelsBytes (now t) (now places) 0) ≤ length (now room) ⌝ }
+    ensures { λ r. ⌜ Puts (now (room .entry)) 0 (levelsBytes (now (t .entry)) (now (places .entry)) 0) (now (room .exit)) r ⌝ }
+{
+    let many = layout::levels(t);
+    let mut level = 0;
+    let mut next = 0;
+    while level < many {
+        let rule = layout::rule_of(t, level);
+        next = write_level(t, places, level, rule, room, next);
+        level += 1;
+    }
+    next
+}
+
+// Each character of a string as three bytes; the place behind them.
+fn write_codes(s: &[u32], room: &mut [u8], at: usize) -> usize
+    requires { ⌜ goodString (now s) ≡ true ⌝ }
+    requires { ⌜ at + length (codesKey (now s)) ≤ length (now room) ⌝ }
+    ensures { λ r. ⌜ Puts (now (room .entry)) at (codesKey (now (s .entry))) (now (room .exit)) r ⌝ }
+{
+    let mut i = 0;
+    let mut next = at;
+    while i < s.len() {
+        let c = CodePoint(s[i]);
+        next = put_three(room, next, c);
+        i += 1;
+    }
+    next
+}
+
+// How many bytes a level takes.
+fn level_width(t: &[u32], places: &[u32], level: usize, rule: Rule) -> usize
+    requires { ⌜ Level (now t) (now places) level ⌝ }
+    ensures { λ r. ⌜ LevelWide (now (t .entry)) (now (places .entry)) level (ruleAs rule) r ⌝ }
+{
+    let n = entries::count_level(t, places, level);
+    if rule.position {
+        return 4 * n + 2;
+    }
+    2 * n + 2
+}
+
+// How many bytes the key takes of a string with n characters.
+fn key_width(t: &[u32], places: &[u32], n: usize) -> usize
+    requires { ⌜ Listed (now t) (now places) ⌝ }
+    requires { ⌜ n ≤ 4096 ⌝ }
+    ensures { λ r. ⌜ r ≡ levelsWide (now (t .entry)) (now (places .entry)) 0 + 3 * n ⌝ }
+{
+    let many = layout::levels(t);
+    let mut level = 0;
+    let mut width = 3 * n;
+    while level < many {
+        let rule = layout::rule_of(t, level);
+        width += level_width(t, places, level, rule);
+        level += 1;
+    }
+    width
 }
