@@ -1,7 +1,7 @@
 -- All levels, one behind the other, as write_levels writes them.
-use mathlib.Core.Path.{_≡_, refl, ap, _∙_}
+use mathlib.Core.Path.{_≡_, refl, sym, ap, _∙_}
 use mathlib.Core.Bool.{Bool, true, false}
-use mathlib.Core.List.{List, [], _∷_, _++_}
+use mathlib.Core.List.{List, [], _∷_, _++_, append-assoc}
 use Prim.Native.Nat.{ℕ, zero, suc, _+_, _/_, _%_, _≤_, _<_}
 use native.Mathlib.Numerals.{add-one}
 use native.Mathlib.Omega.{arith}
@@ -23,6 +23,18 @@ levelKey-rest p [] rest = refl
 levelKey-rest true (e ∷ es) rest =
     ap (λ (k : List ℕ). suc (e .count) / 256 ∷ suc (e .count) % 256 ∷ e .weight / 256 ∷ e .weight % 256 ∷ k) (levelKey-rest true es rest)
 levelKey-rest false (e ∷ es) rest = ap (λ (k : List ℕ). e .weight / 256 ∷ e .weight % 256 ∷ k) (levelKey-rest false es rest)
+
+pub levelsKey-rest : (rs : List meaning.Rule) (ls : List (List Entry)) (rest : List ℕ) → levelsKey rs ls rest ≡ levelsKey rs ls [] ++ rest
+unfolding levelsKey
+levelsKey-rest [] ls rest = refl
+levelsKey-rest (r ∷ rs) [] rest = refl
+levelsKey-rest (r ∷ rs) (l ∷ ls) rest =
+    let p : Bool = r .position in
+    let k : List ℕ = levelsKey rs ls [] in
+    ap (levelKey p l) (levelsKey-rest rs ls rest)
+    ∙ levelKey-rest p l (k ++ rest)
+    ∙ sym (append-assoc (levelKey p l []) k rest)
+    ∙ ap (λ (x : List ℕ). x ++ rest) (sym (levelKey-rest p l k))
 
 -- a level of the places' table
 pub level-at : {t places : List ℕ} {level many : ℕ} → Listed t places → many ≡ length (meaningIn t .rules) → level < many → Level t places level

@@ -3,3 +3,4 @@ pub mod LevelLaws
 pub mod LevelsLaws
 pub mod CodesLaws
 pub mod WidthLaws
+pub mod WholeLaws

@@ -8,7 +8,7 @@ use lib.Seq.{sets}
 use Rattle.lists.proofs.Lists.{All}
 use Rattle.rules.specs.Meaning.{Rule}
 use Rattle.rules.specs.Table.{accepted, meaningIn}
-use Rattle.rules.specs.Order.{Entry, two, levelEntries, levelsFrom, levelKey, levelsKey}
+use Rattle.rules.specs.Order.{goodString, elements, Entry, two, levelEntries, levelsFrom, levelKey, levelsKey}
 use Rattle.rules.proofs.ElementLaws.{UpTo}
 use Rattle.entries.specs.Walk.{entryAs}
 use Rattle.entries.specs.declared.Entry as entries
@@ -19,6 +19,12 @@ pub record Listed (t places : List ℕ) : Type 0 where
   pub checked : accepted t ≡ true
   pub listed : All (UpTo (length (meaningIn t .items))) places
   pub few : length places ≤ 4096
+
+-- An accepted table, a good string, and the places of its elements.
+pub record Spelled (t s places : List ℕ) : Type 0 where
+  pub checked : accepted t ≡ true
+  pub good : goodString s ≡ true
+  pub are : places ≡ elements (meaningIn t .items) 0 s
 
 -- ## The bytes
 

@@ -6,9 +6,11 @@ ghost use Prim.Native.Nat.{_+_, _*_, _≤_};
 ghost use lib.ListN.{length};
 ghost use Rattle.rules.specs.Table.{meaningIn};
 ghost use Rattle.rules.specs.Order.{two, three, codesKey, goodString, keyOf};
+ghost use Rattle.rules.specs.Calls.{keyCall};
 ghost use Rattle.entries.specs.Walk.{Level, entryAs};
 ghost use Rattle.layout.specs.Parts.{ruleAs};
-ghost use Rattle.keys.specs.Writing.{Listed, entryKey, levelBytes, levelsBytes, LevelWide, levelsWide, TwoFit, ThreeFit, EntryFits, Puts};
+ghost use Rattle.keys.specs.Answers.{keyedAs};
+ghost use Rattle.keys.specs.Writing.{Listed, Spelled, entryKey, levelBytes, levelsBytes, LevelWide, levelsWide, TwoFit, ThreeFit, EntryFits, Puts};
 use entries::Ahead;
 use entries::Entry;
 use layout::Rule;
@@ -145,4 +147,27 @@ fn key_width(t: &[u32], places: &[u32], n: usize) -> usize
         level += 1;
     }
     width
+}
+
+// The key of a string, written to the front of the room, which has place for it; how many bytes it takes.
+fn write_key(t: &[u32], s: &[u32], places: &[u32], room: &mut [u8]) -> usize
+    requires { ⌜ Spelled (now t) (now s) (now places) ⌝ }
+    requires { ⌜ length (keyOf (meaningIn (now t)) (now s)) ≤ length (now room) ⌝ }
+    ensures { λ r. ⌜ Puts (now (room .entry)) 0 (keyOf (meaningIn (now (t .entry))) (now (s .entry))) (now (room .exit)) r ⌝ }
+{
+    let next = write_levels(t, places, room);
+    write_codes(s, room, next)
+}
+
+// The key of a string whose elements are cut: counted first, and written where the room has place for it.
+fn key_cut(t: &[u32], s: &[u32], places: &[u32], room: &mut [u8]) -> Keyed
+    requires { ⌜ Spelled (now t) (now s) (now places) ⌝ }
+    ensures { λ r. ⌜ keyedAs r (now (room .exit)) ≡ keyCall (now (t .entry)) (now (s .entry)) (now (room .entry)) ⌝ }
+{
+    let width = key_width(t, places, s.len());
+    if room.len() < width {
+        return Keyed::Refused(Refusal::NoRoom);
+    }
+    let n = write_key(t, s, places, room);
+    Keyed::Written(n)
 }
