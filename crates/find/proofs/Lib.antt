@@ -1,0 +1,5 @@
+pub mod BeginningLaws
+pub mod ListedLaws
+pub mod KeyLaws
+pub mod SearchLaws
+pub mod LookLaws

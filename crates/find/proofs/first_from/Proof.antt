@@ -1,0 +1,70 @@
+-- `find::first_from` meets its contract. The loop's invariant: the items listed before lo come before the key, and the one listed at hi does not. The measure is hi - lo.
+use Prim.Native.Nat.{_-_}
+use native.Mathlib.Omega.{arith}
+use borrow.Author.Needs.{needs}
+use Rattle.rules.specs.Table.{meaningIn}
+use Rattle.find.specs.Search.{keyOf}
+use Rattle.find.proofs.SearchLaws.{search-some, Halving, halving-start, halving-up, halving-down, halving-end}
+use Rattle.find.proofs.first_from.Statement.{statement}
+use Rattle.find.proofs.first_from.Tie as tie
+
+abbrev Inv-loop : tie.InvT-loop
+Inv-loop t levels items key lo₀ hi₀ lo hi = Halving (meaningIn t .items) items (keyOf key) lo hi
+
+abbrev μ-loop : tie.MeasureT-loop
+μ-loop t levels items key lo₀ hi₀ lo hi = hi - lo
+
+sub-hi : tie.Need-sub-hi Inv-loop μ-loop
+sub-hi c = omega (arith, search-some (c .before .pre .0))
+
+loop-holds : tie.Need-loop-holds Inv-loop μ-loop
+loop-holds c = halving-start _ _ _ (search-some (c .before .pre .0)) (c .before .pre .1)
+
+sub-mid : tie.Need-sub-mid Inv-loop μ-loop
+sub-mid c = search needs
+
+add-mid : tie.Need-add-mid Inv-loop μ-loop
+add-mid c = search needs
+
+item-at-requires : tie.Need-item-at-requires Inv-loop μ-loop
+item-at-requires c κs = search needs
+
+before-key-requires : tie.Need-before-key-requires Inv-loop μ-loop
+before-key-requires c κs = search needs
+
+add-lo : tie.Need-add-lo Inv-loop μ-loop
+add-lo c = search needs
+
+loop-less : tie.Need-loop-less Inv-loop μ-loop
+loop-less c = search needs
+
+loop-again : tie.Need-loop-again Inv-loop μ-loop
+loop-again c = search halving-up
+
+loop-less-2 : tie.Need-loop-less-2 Inv-loop μ-loop
+loop-less-2 c = search needs
+
+loop-again-2 : tie.Need-loop-again-2 Inv-loop μ-loop
+loop-again-2 c = search halving-down
+
+returns : tie.Need-returns Inv-loop μ-loop
+returns c = search halving-end
+
+pub first-from-spec : {M : Type 1} → statement M
+first-from-spec =
+    tie.close
+    (tie.spec
+    Inv-loop
+    μ-loop
+    sub-hi
+    loop-holds
+    sub-mid
+    add-mid
+    item-at-requires
+    before-key-requires
+    add-lo
+    loop-less
+    loop-again
+    loop-less-2
+    loop-again-2
+    returns)

@@ -1,0 +1,90 @@
+-- What the search for an element gives, and what its parts find.
+use mathlib.Core.Path.{_≡_}
+use mathlib.Core.Bool.{true, false}
+use mathlib.Core.List.{List, [], _∷_}
+use Prim.Native.Nat.{ℕ, pred, _+_, _≤_, _<_}
+use lib.ListN.{length, getD, drop}
+use Rattle.rules.specs.Text.{every, begins}
+use Rattle.rules.specs.Names.{isCharacter}
+use Rattle.rules.specs.Meaning.{Item}
+use Rattle.rules.specs.Table.{pad, padded, before, permutation, accepted, meaningIn}
+use Rattle.rules.specs.Order.{noItem, Step, stepOf}
+use Rattle.find.specs.declared.Found.{Found}
+use Rattle.find.specs.declared.Listed.{Listed}
+use Rattle.find.specs.declared.Key.{Key}
+use Rattle.find.specs.declared.Near.{Near}
+use Rattle.find.specs.declared.Near.the-variants.{Element, Within}
+
+-- an element as the paper has it
+abbrev pub foundAs : Found → Step
+foundAs f = record { place = f .place; size = f .size }
+
+-- ## The permutation
+
+-- An accepted table, with its levels and items counted.
+pub record Counted (t : List ℕ) (levels items : ℕ) : Type 0 where
+  pub checked : accepted t ≡ true
+  pub levels-are : levels ≡ length (meaningIn t .rules)
+  pub items-are : items ≡ length (meaningIn t .items)
+
+-- the characters of the item that is listed at k, from 0
+unfoldable pub listedChars : List Item → ℕ → List ℕ
+listedChars is k = getD is (pred (getD (permutation is) k 0)) noItem .chars
+
+-- their four numbers
+abbrev pub listedKey : List Item → ℕ → List ℕ
+listedKey is k = padded (listedChars is k) []
+
+-- The item that is listed at k: its place, and where its four numbers stand.
+pub record Lists (t : List ℕ) (k : ℕ) (r : Listed) : Type 0 where
+  pub is : r .place ≡ getD (permutation (meaningIn t .items)) k 0
+  pub room : r .from + 4 ≤ length t
+  pub numbers : (i : ℕ) → i < 4 → getD t (r .from + i) 0 ≡ getD (listedChars (meaningIn t .items) k) i pad
+
+-- ## Keys
+
+-- four numbers as a list
+abbrev pub keyOf : Key → List ℕ
+keyOf k = k .a ∷ k .b ∷ k .c ∷ k .d ∷ []
+
+-- the four numbers that stand at a place
+abbrev pub keyIn : List ℕ → ℕ → List ℕ
+keyIn t at = getD t at 0 ∷ getD t (at + 1) 0 ∷ getD t (at + 2) 0 ∷ getD t (at + 3) 0 ∷ []
+
+-- The first of n listed items that does not come before a key.
+pub record Least (is : List Item) (n : ℕ) (key : List ℕ) (r : ℕ) : Type 0 where
+  pub inside : r < n
+  pub below : (k : ℕ) → k < r → before (listedKey is k) key ≡ true
+  pub here : before (listedKey is r) key ≡ false
+
+-- ## One search
+
+-- So many of the next `size` numbers at two places are the same, and no more.
+pub record Shares (t : List ℕ) (a : ℕ) (s : List ℕ) (b size r : ℕ) : Type 0 where
+  pub within : r ≤ size
+  pub same : (i : ℕ) → i < r → getD t (a + i) 0 ≡ getD s (b + i) 0
+  pub stop : r < size → getD t (a + r) 0 ≡ getD s (b + r) 0 → ⊥
+
+-- no item that s begins with has more than m characters
+abbrev pub AtMost : List Item → List ℕ → ℕ → Type 0
+AtMost is s m = (q : ℕ) → q < length is → begins (getD is q noItem .chars) s ≡ true → length (getD is q noItem .chars) ≤ m
+
+-- All characters from a place on, at most four.
+pub record Window (s : List ℕ) (at size : ℕ) : Type 0 where
+  pub some : 0 < size
+  pub few : size ≤ 4
+  pub left : at + size ≤ length s
+  pub all : size < 4 → at + size ≡ length s
+
+-- A string of characters of which `size` are left at a place, that no item that stands there exceeds.
+pub record Ahead (is : List Item) (s : List ℕ) (at size : ℕ) : Type 0 where
+  pub characters : every isCharacter s ≡ true
+  pub some : 0 < size
+  pub few : size ≤ 4
+  pub left : at + size ≤ length s
+  pub most : AtMost is (drop at s) size
+
+-- the element of s, or fewer characters that no item that s begins with exceeds
+abbrev pub Looked : List Item → List ℕ → ℕ → Near → Type 0
+Looked is s size (Element f) = foundAs f ≡ stepOf is s
+Looked is s size (Within m) = (m < size) × AtMost is s m

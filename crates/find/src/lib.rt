@@ -1,0 +1,218 @@
+// The element that begins at a place of a string: the longest listed item that stands there, else one character as UNDEFINED.
+//
+// A table's permutation lists the items by their four numbers, and padding is above every character: of two items that begin alike the
+// longer is listed first, and UNDEFINED last. Halving finds the first listed item that does not come before the next four characters. It is
+// the element if the string begins with all of it; else no item that stands there is longer than what the two share, and the search goes on
+// for that beginning. Most places need one search, none more than four.
+ghost use mathlib.Core.Path.{_≡_};
+ghost use mathlib.Core.Bool.{true, false};
+ghost use mathlib.Core.List.{[]};
+ghost use Prim.Native.Nat.{_+_, _-_, _≤_, _<_};
+ghost use lib.ListN.{length, getD, take, drop};
+ghost use Rattle.rules.specs.Text.{every};
+ghost use Rattle.rules.specs.Names.{isCharacter};
+ghost use Rattle.rules.specs.Table.{pad, padded, before, accepted, meaningIn};
+ghost use Rattle.rules.specs.Order.{stepOf};
+ghost use Rattle.find.specs.Search.{foundAs, keyOf, keyIn, listedKey, Counted, Lists, Least, Shares, Window, Ahead, Looked};
+use layout::items;
+use layout::levels;
+use layout::record_at;
+
+// An element: its item's place in the table, from 1, and how many characters it takes.
+pub struct Found {
+    pub place: usize,
+    pub size: usize,
+}
+
+// An item that the permutation lists: its place in the table, from 1, and where its record begins.
+struct Listed {
+    pub place: usize,
+    pub from: usize,
+}
+
+// Four numbers to look for: characters, then padding.
+struct Key {
+    pub a: u32,
+    pub b: u32,
+    pub c: u32,
+    pub d: u32,
+}
+
+// What one search comes to.
+enum Near {
+    // the element
+    Element(Found),
+    // no item that stands there has more characters than this
+    Within(usize),
+}
+
+// The item that an accepted table lists at k, from 0.
+fn item_at(t: &[u32], levels: usize, items: usize, k: usize) -> Listed
+    requires { ⌜ Counted (now t) levels items ⌝ }
+    requires { ⌜ k < items ⌝ }
+    ensures { λ r. ⌜ Lists (now (t .entry)) k r ⌝ }
+{
+    let at = record_at(levels, k);
+    let place = t[at + 5] as usize;
+    let from = record_at(levels, place - 1);
+    Listed {
+        place: place,
+        from: from,
+    }
+}
+
+// Whether the four numbers at a place, where an item's record begins, come before a key.
+fn before_key(t: &[u32], at: usize, key: Key) -> bool
+    requires { ⌜ at + 4 ≤ length (now t) ⌝ }
+    ensures { λ r. ⌜ r ≡ before (keyIn (now (t .entry)) at) (keyOf key) ⌝ }
+{
+    let a = t[at];
+    if a < key.a {
+        return true;
+    }
+    if key.a < a {
+        return false;
+    }
+    let b = t[at + 1];
+    if b < key.b {
+        return true;
+    }
+    if key.b < b {
+        return false;
+    }
+    let c = t[at + 2];
+    if c < key.c {
+        return true;
+    }
+    if key.c < c {
+        return false;
+    }
+    t[at + 3] < key.d
+}
+
+// Where the first item is listed that does not come before a key, from 0. The last, UNDEFINED, does not.
+fn first_from(t: &[u32], levels: usize, items: usize, key: Key) -> usize
+    requires { ⌜ Counted (now t) levels items ⌝ }
+    requires { ⌜ before (listedKey (meaningIn (now t) .items) (items - 1)) (keyOf key) ≡ false ⌝ }
+    ensures { λ r. ⌜ Least (meaningIn (now (t .entry)) .items) items (keyOf key) r ⌝ }
+{
+    let mut lo: usize = 0;
+    let mut hi = items - 1;
+    while lo < hi {
+        let mid = lo + (hi - lo) / 2;
+        let item = item_at(t, levels, items, mid);
+        let less = before_key(t, item.from, key);
+        if less {
+            lo = mid + 1;
+        } else {
+            hi = mid;
+        }
+    }
+    lo
+}
+
+// Number i of the key of `size` characters from a place on: a character, or padding behind them.
+fn number(s: &[u32], at: usize, size: usize, i: usize) -> u32
+    requires { ⌜ at + size ≤ length (now s) ⌝ }
+    ensures { λ r. ⌜ r ≡ getD (take size (drop at (now (s .entry)))) i pad ⌝ }
+{
+    if i < size {
+        return s[at + i];
+    }
+    0x110000
+}
+
+// The key of `size` characters from a place on.
+fn key_at(s: &[u32], at: usize, size: usize) -> Key
+    requires { ⌜ at + size ≤ length (now s) ⌝ }
+    ensures { λ r. ⌜ keyOf r ≡ padded (take size (drop at (now (s .entry)))) [] ⌝ }
+{
+    Key {
+        a: number(s, at, size, 0),
+        b: number(s, at, size, 1),
+        c: number(s, at, size, 2),
+        d: number(s, at, size, 3),
+    }
+}
+
+// How many of `size` characters from a place on the item begins with whose record begins at `from`.
+fn shared(t: &[u32], from: usize, s: &[u32], at: usize, size: usize) -> usize
+    requires { ⌜ (from + 4 ≤ length (now t)) × (at + size ≤ length (now s)) × (size ≤ 4) ⌝ }
+    ensures { λ r. ⌜ Shares (now (t .entry)) from (now (s .entry)) at size r ⌝ }
+{
+    let mut n: usize = 0;
+    while n < size {
+        if t[from + n] == s[at + n] {
+            n += 1;
+        } else {
+            return n;
+        }
+    }
+    n
+}
+
+// One search, for `size` characters from a place on, where no item that stands there has more.
+fn look(t: &[u32], levels: usize, items: usize, s: &[u32], at: usize, size: usize) -> Near
+    requires { ⌜ Counted (now t) levels items ⌝ }
+    requires { ⌜ Ahead (meaningIn (now t) .items) (now s) at size ⌝ }
+    ensures { λ r. ⌜ Looked (meaningIn (now (t .entry)) .items) (drop at (now (s .entry))) size r ⌝ }
+{
+    let key = key_at(s, at, size);
+    let k = first_from(t, levels, items, key);
+    let item = item_at(t, levels, items, k);
+    let n = shared(t, item.from, s, at, size);
+    if n == 0 {
+        return Near::Within(0);
+    }
+    if n == size {
+        return Near::Element(Found {
+            place: item.place,
+            size: n,
+        });
+    }
+    if t[item.from + n] == 0x110000 {
+        return Near::Element(Found {
+            place: item.place,
+            size: n,
+        });
+    }
+    Near::Within(n)
+}
+
+// How many characters from a place on can be an item's: all that are left, at most four.
+fn ahead(s: &[u32], at: usize) -> usize
+    requires { ⌜ at < length (now s) ⌝ }
+    ensures { λ r. ⌜ Window (now (s .entry)) at r ⌝ }
+{
+    let left = s.len() - at;
+    if 4 < left {
+        return 4;
+    }
+    left
+}
+
+// The element that begins at a place of a string of characters.
+pub fn longest(t: &[u32], s: &[u32], at: usize) -> Found
+    requires { ⌜ accepted (now t) ≡ true ⌝ }
+    requires { ⌜ at < length (now s) ⌝ }
+    requires { ⌜ every isCharacter (now s) ≡ true ⌝ }
+    ensures { λ r. ⌜ foundAs r ≡ stepOf (meaningIn (now (t .entry)) .items) (drop at (now (s .entry))) ⌝ }
+{
+    let l = levels(t);
+    let n = items(t);
+    let mut size = ahead(s, at);
+    while 0 < size {
+        let near = look(t, l, n, s, at, size);
+        match near {
+            Near::Element(found) => return found,
+            Near::Within(m) => {
+                size = m;
+            }
+        }
+    }
+    let last = item_at(t, l, n, n - 1);
+    Found {
+        place: last.place,
+        size: 1,
+    }
+}
