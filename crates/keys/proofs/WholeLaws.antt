@@ -1,13 +1,16 @@
 -- The whole key: its levels and then its characters, how long it is, and what the operation answers in each case.
 use mathlib.Core.Path.{_≡_, refl, sym, ap, _∙_}
-use mathlib.Core.Bool.{true, false}
+use mathlib.Core.Bool.{Bool, true, false}
 use mathlib.Core.List.{List, [], _++_}
 use Prim.Native.Nat.{ℕ, _+_, _*_, _≤_, _<_}
 use native.Mathlib.Omega.{arith}
 use lib.ListN.{length, take, drop, length-append}
-use lib.Seq.{sets, sets-eq, length-sets}
-use lib.Dec.{ltb}
-use borrow.Author.Tests.{lt-ltb, le-ltb}
+use lib.Seq.{sets-eq, length-sets, length-take-le}
+use lib.Dec.{leb}
+use borrow.Author.Tests.{lt-ltb, le-ltb, le-leb}
+use Rattle.lists.proofs.Bools.{and-right, and-intro}
+use Rattle.rules.specs.Text.{every}
+use Rattle.rules.specs.Names.{isCharacter}
 use Rattle.rules.specs.Table.{accepted, meaningIn}
 use Rattle.rules.specs.Order.{goodString, elements, levelsOf, levelsFrom, codesKey, levelsKey, keyOf}
 use Rattle.rules.specs.Calls.{over, writtenAs, keyFor, keyCall}
@@ -15,6 +18,7 @@ use Rattle.rules.proofs.ElementLaws.{elements-place, elements-length}
 use Rattle.rules.proofs.KeyLaws.{goodString-length, levelsWidth, key-length}
 use Rattle.layout.proofs.PartLaws.{table-good}
 use Rattle.units.specs.declared.Refusal.the-variants.{NotAccepted, BadString, NoRoom}
+use Rattle.elements.specs.Cuts.{Ready, Split}
 use Rattle.keys.specs.declared.Keyed.the-variants.{Written, Refused}
 use Rattle.keys.specs.Answers.{keyedAs}
 use Rattle.keys.specs.Writing.{Listed, Spelled, levelsBytes, levelsWide, Puts}
@@ -59,16 +63,43 @@ module _ {t s places : List ℕ} (v : Spelled t s places) where
       pub key-put : {after : List ℕ} {behind : ℕ} → Puts now next (codesKey s) after behind → Puts room 0 (keyOf (meaningIn t) s) after behind
       key-put q = rw key-parts (puts-then p q)
 
+-- ## Cutting it
+
+-- the area has a number for each character
+pub area-ready : {t s : List ℕ} (places : List ℕ) → accepted t ≡ true → goodString s ≡ true → 4096 ≤ length places → Ready t s places
+unfolding goodString
+area-ready {s = s} places a g h = record {
+  checked = a;
+  characters = and-right (leb (length s) 4096) (every isCharacter s) g;
+  short = goodString-length s g;
+  room = omega (arith, goodString-length s g);
+}
+
+module _ {t s places cut : List ℕ} {n : ℕ} (v : Ready t s places) (w : Split t s cut n) where
+  pub split-inside : length cut ≡ length places → n ≤ length cut
+  split-inside l = omega (arith, v .room, w .fewer)
+
+  pub split-count : length cut ≡ length places → n ≡ length (take n cut)
+  split-count l = sym (length-take-le n cut (split-inside l))
+
+  pub split-spelled : Spelled t s (take n cut)
+  unfolding goodString
+  split-spelled = record { checked = v .checked; good = and-intro (le-leb (length s) 4096 (v .short)) (v .characters); are = w .is }
+
 -- ## The answers
 
-module _ (t s room : List ℕ) where
-  pub key-unaccepted : false ≡ accepted t → keyedAs (Refused NotAccepted) room ≡ keyCall t s room
-  unfolding keyCall keyFor writtenAs
-  key-unaccepted a = rw (sym a)
+-- a test that passed
+pub passed : {a b : Bool} → a ≡ b → a ≡ true → b ≡ true
+passed e h = sym e ∙ h
 
-  pub key-bad : accepted t ≡ true → false ≡ goodString s → keyedAs (Refused BadString) room ≡ keyCall t s room
+module _ (t s room : List ℕ) {a : Bool} (e : a ≡ accepted t) where
+  pub key-unaccepted : a ≡ false → keyedAs (Refused NotAccepted) room ≡ keyCall t s room
   unfolding keyCall keyFor writtenAs
-  key-bad a g = rw (a, sym g)
+  key-unaccepted h = rw (← e, h)
+
+  pub key-bad : {g : Bool} → a ≡ true → g ≡ goodString s → g ≡ false → keyedAs (Refused BadString) room ≡ keyCall t s room
+  unfolding keyCall keyFor writtenAs
+  key-bad h f k = rw (← e, h, ← f, k)
 
 module _ {t s places : List ℕ} (v : Spelled t s places) (room : List ℕ) {n : ℕ} (e : n ≡ levelsWide t places 0 + 3 * length s) where
   pub key-short : length room < n → keyedAs (Refused NoRoom) room ≡ keyCall t s room

@@ -4,10 +4,11 @@ ghost use mathlib.Core.Bool.{true};
 ghost use mathlib.Core.List.{[]};
 ghost use Prim.Native.Nat.{_+_, _*_, _≤_};
 ghost use lib.ListN.{length};
-ghost use Rattle.rules.specs.Table.{meaningIn};
+ghost use Rattle.rules.specs.Table.{accepted, meaningIn};
 ghost use Rattle.rules.specs.Order.{two, three, codesKey, goodString, keyOf};
 ghost use Rattle.rules.specs.Calls.{keyCall};
 ghost use Rattle.entries.specs.Walk.{Level, entryAs};
+ghost use Rattle.elements.specs.Cuts.{Ready};
 ghost use Rattle.layout.specs.Parts.{ruleAs};
 ghost use Rattle.keys.specs.Answers.{keyedAs};
 ghost use Rattle.keys.specs.Writing.{Listed, Spelled, entryKey, levelBytes, levelsBytes, LevelWide, levelsWide, TwoFit, ThreeFit, EntryFits, Puts};
@@ -170,4 +171,38 @@ fn key_cut(t: &[u32], s: &[u32], places: &[u32], room: &mut [u8]) -> Keyed
     }
     let n = write_key(t, s, places, room);
     Keyed::Written(n)
+}
+
+// The same of a string that is still to be cut, with an area for its elements' places.
+fn key_uncut(t: &[u32], s: &[u32], places: &mut [u32], room: &mut [u8]) -> Keyed
+    requires { ⌜ Ready (now t) (now s) (now places) ⌝ }
+    ensures { λ r. ⌜ keyedAs r (now (room .exit)) ≡ keyCall (now (t .entry)) (now (s .entry)) (now (room .entry)) ⌝ }
+{
+    let n = elements::split(t, s, places);
+    key_cut(t, s, &places[..n], room)
+}
+
+// The same with an area of its own.
+fn key_checked(t: &[u32], s: &[u32], room: &mut [u8]) -> Keyed
+    requires { ⌜ (accepted (now t) ≡ true) × (goodString (now s) ≡ true) ⌝ }
+    ensures { λ r. ⌜ keyedAs r (now (room .exit)) ≡ keyCall (now (t .entry)) (now (s .entry)) (now (room .entry)) ⌝ }
+{
+    let mut places = [0u32; 4096];
+    key_uncut(t, s, &mut places, room)
+}
+
+// The key of a string under a table, written to the front of the room lent: how many bytes it takes, or why there is none; then
+// the room is as it was. It has no `requires`.
+pub fn key(t: &[u32], s: &[u32], room: &mut [u8]) -> Keyed
+    ensures { λ r. ⌜ keyedAs r (now (room .exit)) ≡ keyCall (now (t .entry)) (now (s .entry)) (now (room .entry)) ⌝ }
+{
+    let accepted = table::accepts(t);
+    if accepted {
+        let good = units::good_string(s);
+        if good {
+            return key_checked(t, s, room);
+        }
+        return Keyed::Refused(Refusal::BadString);
+    }
+    Keyed::Refused(Refusal::NotAccepted)
 }
