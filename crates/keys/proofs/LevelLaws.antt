@@ -36,15 +36,16 @@ entry-two e h = rw h
 module _ {room : List ℕ} {at : ℕ} {p : Bool} {e : Entry} (f : EntryFits room at p e) where
   -- with position the count, then the weight
   module _ (h : p ≡ true) where
-    pub count-fits : TwoFit room at (e .count + 1)
-    count-fits = record { small = omega (arith, f .counted); inside = omega (arith, f .inside, entry-four (entryAs e) h) }
+    pub count-inside : at + 2 ≤ length room
+    count-inside = omega (arith, f .inside, entry-four (entryAs e) h)
 
-    module _ {first : List ℕ} {next : ℕ} (q : Puts room at (two (e .count + 1) []) first next) where
+    module _ (n : ℕ) {first : List ℕ} {next : ℕ} (q : Puts room at (two n []) first next) where
       pub rank-fits : TwoFit first next (e .rank .0)
       rank-fits =
-          let l : length first ≡ length room = ap length (q .is) ∙ length-sets room at (two (e .count + 1) []) in
+          let l : length first ≡ length room = ap length (q .is) ∙ length-sets room at (two n []) in
           record { small = f .ranked; inside = omega (arith, f .inside, q .to, entry-four (entryAs e) h) }
 
+    module _ {first : List ℕ} {next : ℕ} (q : Puts room at (two (e .count + 1) []) first next) where
       pub entry-positioned : {second : List ℕ} {behind : ℕ} → Puts first next (two (e .rank .0) []) second behind
           → Puts room at (entryKey p (entryAs e) []) second behind
       unfolding entryKey

@@ -95,8 +95,8 @@ fn write_levels(t: &[u32], places: &[u32], room: &mut [u8]) -> usize
     ensures { λ r. ⌜ Puts (now (room .entry)) 0 (levelsBytes (now (t .entry)) (now (places .entry)) 0) (now (room .exit)) r ⌝ }
 {
     let many = layout::levels(t);
-    let mut level = 0;
-    let mut next = 0;
+    let mut level: usize = 0;
+    let mut next: usize = 0;
     while level < many {
         let rule = layout::rule_of(t, level);
         next = write_level(t, places, level, rule, room, next);
@@ -196,8 +196,8 @@ fn key_checked(t: &[u32], s: &[u32], room: &mut [u8]) -> Keyed
 pub fn key(t: &[u32], s: &[u32], room: &mut [u8]) -> Keyed
     ensures { λ r. ⌜ keyedAs r (now (room .exit)) ≡ keyCall (now (t .entry)) (now (s .entry)) (now (room .entry)) ⌝ }
 {
-    let accepted = table::accepts(t);
-    if accepted {
+    let ok = table::accepts(t);
+    if ok {
         let good = units::good_string(s);
         if good {
             return key_checked(t, s, room);

@@ -1,6 +1,6 @@
 -- `keys::put_entry` meets its contract: with position four bytes, else the two of the weight.
 use borrow.Author.Needs.{needs}
-use Rattle.keys.proofs.LevelLaws.{count-fits, rank-fits, entry-positioned, rank-fits-alone, entry-plain}
+use Rattle.keys.proofs.LevelLaws.{count-inside, rank-fits, entry-positioned, rank-fits-alone, entry-plain}
 use Rattle.keys.proofs.put_entry.Statement.{statement}
 use Rattle.keys.proofs.put_entry.Tie as tie
 
@@ -11,7 +11,7 @@ add-put-two : tie.Need-add-put-two
 add-put-two c = search needs
 
 put-two-requires : tie.Need-put-two-requires
-put-two-requires c κs = search count-fits
+put-two-requires c κs = record { small = search needs; inside = search count-inside }
 
 put-two-requires-2 : tie.Need-put-two-requires-2
 put-two-requires-2 c κs = search rank-fits
