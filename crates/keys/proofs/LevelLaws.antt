@@ -1,8 +1,8 @@
 -- The bytes of an entry and of a level, as put_entry and write_level write them.
-use mathlib.Core.Path.{_≡_, refl, sym, ap, _∙_, subst}
+use mathlib.Core.Path.{_≡_, refl, ap, _∙_, subst}
 use mathlib.Core.Bool.{Bool, true, false}
 use mathlib.Core.List.{List, [], _∷_, _++_}
-use Prim.Native.Nat.{ℕ, suc, _+_, _≤_, _<_}
+use Prim.Native.Nat.{ℕ, _+_, _≤_, _<_}
 use native.Mathlib.Numerals.{add-one}
 use native.Mathlib.Omega.{arith}
 use lib.ListN.{length}
@@ -20,17 +20,17 @@ use Rattle.entries.specs.declared.Ahead.{Ahead}
 use Rattle.entries.specs.declared.Ahead.the-variants.{One, End}
 use Rattle.entries.specs.Walk.{Level, Sound, fresh, entryAs, entriesLeft, First, Gives}
 use Rattle.entries.proofs.WalkLaws.{fresh-entries, fresh-sound}
-use Rattle.keys.specs.Writing.{entryKey, levelBytes, TwoFit, EntryFits, Puts}
+use Rattle.keys.specs.Writing.{entryBytes, levelBytes, TwoFit, EntryFits, Puts}
 use Rattle.keys.proofs.PutLaws.{puts-then, Putting, putting-none, putting-room, putting-more, putting-all}
 
 -- ## An entry
 
-entry-four : (e : order.Entry) {p : Bool} → p ≡ true → length (entryKey p e []) ≡ 4
-unfolding entryKey
+entry-four : (e : order.Entry) {p : Bool} → p ≡ true → length (entryBytes p e) ≡ 4
+unfolding entryBytes
 entry-four e h = rw h
 
-entry-two : (e : order.Entry) {p : Bool} → p ≡ false → length (entryKey p e []) ≡ 2
-unfolding entryKey
+entry-two : (e : order.Entry) {p : Bool} → p ≡ false → length (entryBytes p e) ≡ 2
+unfolding entryBytes
 entry-two e h = rw h
 
 module _ {room : List ℕ} {at : ℕ} {p : Bool} {e : Entry} (f : EntryFits room at p e) where
@@ -47,8 +47,8 @@ module _ {room : List ℕ} {at : ℕ} {p : Bool} {e : Entry} (f : EntryFits room
 
     module _ {first : List ℕ} {next : ℕ} (q : Puts room at (two (e .count + 1) []) first next) where
       pub entry-positioned : {second : List ℕ} {behind : ℕ} → Puts first next (two (e .rank .0) []) second behind
-          → Puts room at (entryKey p (entryAs e) []) second behind
-      unfolding entryKey
+          → Puts room at (entryBytes p (entryAs e)) second behind
+      unfolding entryBytes
       entry-positioned r = rw (h, ← add-one (e .count)) (puts-then q r)
 
   -- without it the weight alone
@@ -56,14 +56,14 @@ module _ {room : List ℕ} {at : ℕ} {p : Bool} {e : Entry} (f : EntryFits room
     pub rank-fits-alone : TwoFit room at (e .rank .0)
     rank-fits-alone = record { small = f .ranked; inside = omega (arith, f .inside, entry-two (entryAs e) h) }
 
-    pub entry-plain : {second : List ℕ} {behind : ℕ} → Puts room at (two (e .rank .0) []) second behind → Puts room at (entryKey p (entryAs e) []) second behind
-    unfolding entryKey
+    pub entry-plain : {second : List ℕ} {behind : ℕ} → Puts room at (two (e .rank .0) []) second behind → Puts room at (entryBytes p (entryAs e)) second behind
+    unfolding entryBytes
     entry-plain q = rw h q
 
 -- ## A level
 
-levelKey-cons : (p : Bool) (e : order.Entry) (es : List order.Entry) → levelKey p (e ∷ es) [] ≡ entryKey p e [] ++ levelKey p es []
-unfolding levelKey entryKey
+levelKey-cons : (p : Bool) (e : order.Entry) (es : List order.Entry) → levelKey p (e ∷ es) [] ≡ entryBytes p e ++ levelKey p es []
+unfolding levelKey entryBytes
 levelKey-cons true e es = refl
 levelKey-cons false e es = refl
 
@@ -111,7 +111,7 @@ module _ {t places room now : List ℕ} {level at next : ℕ} {rule : Rule} {c :
     ahead = subst (Gives t places level rule (entriesLeft t places level rule c)) i g
 
     entry-left : levelKey (rule .position) (entriesLeft t places level rule c) []
-        ≡ entryKey (rule .position) (entryAs e) [] ++ levelKey (rule .position) (entriesLeft t places level rule d) []
+        ≡ entryBytes (rule .position) (entryAs e) ++ levelKey (rule .position) (entriesLeft t places level rule d) []
     entry-left = rw (ahead .is) (levelKey-cons (rule .position) (entryAs e) (entriesLeft t places level rule d))
 
     fits : Fits (rule .position) (length places) (entryAs e) × All (Fits (rule .position) (length places)) (entriesLeft t places level rule d)
@@ -122,17 +122,17 @@ module _ {t places room now : List ℕ} {level at next : ℕ} {rule : Rule} {c :
       counted = omega (arith, fits .0 .counted, l .few);
       ranked = omega (arith, fits .0 .small);
       inside =
-          putting-room (v .putting) (entryKey (rule .position) (entryAs e) []) (levelKey (rule .position) (entriesLeft t places level rule d) [])
+          putting-room (v .putting) (entryBytes (rule .position) (entryAs e)) (levelKey (rule .position) (entriesLeft t places level rule d) [])
           entry-left h;
     }
 
-    pub levelling-more : {after : List ℕ} {behind : ℕ} → Puts now next (entryKey (rule .position) (entryAs e) []) after behind
+    pub levelling-more : {after : List ℕ} {behind : ℕ} → Puts now next (entryBytes (rule .position) (entryAs e)) after behind
         → Levelling t places level rule room at after d behind
     levelling-more p = record {
       sound = ahead .sound;
       fit = fits .1;
       putting =
-          putting-more (v .putting) (entryKey (rule .position) (entryAs e) []) (levelKey (rule .position) (entriesLeft t places level rule d) [])
+          putting-more (v .putting) (entryBytes (rule .position) (entryAs e)) (levelKey (rule .position) (entriesLeft t places level rule d) [])
           entry-left p;
     }
 

@@ -2,13 +2,13 @@
 use mathlib.Core.Path.{_≡_, refl, sym, ap, _∙_}
 use mathlib.Core.Bool.{Bool, true, false}
 use mathlib.Core.List.{List, [], _∷_, _++_, append-assoc}
-use Prim.Native.Nat.{ℕ, zero, suc, _+_, _/_, _%_, _≤_, _<_}
+use Prim.Native.Nat.{ℕ, suc, _+_, _/_, _%_, _≤_, _<_}
 use native.Mathlib.Numerals.{add-one}
 use native.Mathlib.Omega.{arith}
-use lib.ListN.{length, getD, drop, drop-of-length-le}
+use lib.ListN.{length, drop, drop-of-length-le}
 use lib.Seq.{drop-cons}
 use Rattle.rules.specs.Meaning as meaning
-use Rattle.rules.specs.Table.{accepted, meaningIn}
+use Rattle.rules.specs.Table.{meaningIn}
 use Rattle.rules.specs.Order.{Entry, levelKey, levelsKey, levelEntries, levelsFrom}
 use Rattle.layout.specs.Parts.{ruleAs, ruleAt}
 use Rattle.layout.specs.declared.Rule.{Rule}

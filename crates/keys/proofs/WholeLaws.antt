@@ -1,7 +1,7 @@
 -- The whole key: its levels and then its characters, how long it is, and what the operation answers in each case.
-use mathlib.Core.Path.{_≡_, refl, sym, ap, _∙_}
+use mathlib.Core.Path.{_≡_, sym, ap, _∙_}
 use mathlib.Core.Bool.{Bool, true, false}
-use mathlib.Core.List.{List, [], _++_}
+use mathlib.Core.List.{List, _++_}
 use Prim.Native.Nat.{ℕ, _+_, _*_, _≤_, _<_}
 use native.Mathlib.Omega.{arith}
 use lib.ListN.{length, take, drop, length-append}
@@ -12,10 +12,10 @@ use Rattle.lists.proofs.Bools.{and-right, and-intro}
 use Rattle.rules.specs.Text.{every}
 use Rattle.rules.specs.Names.{isCharacter}
 use Rattle.rules.specs.Table.{accepted, meaningIn}
-use Rattle.rules.specs.Order.{goodString, elements, levelsOf, levelsFrom, codesKey, levelsKey, keyOf}
+use Rattle.rules.specs.Order.{goodString, elements, levelsOf, levelsFrom, codesKey, keyOf}
 use Rattle.rules.specs.Calls.{over, writtenAs, keyFor, keyCall}
 use Rattle.rules.proofs.ElementLaws.{elements-place, elements-length}
-use Rattle.rules.proofs.KeyLaws.{goodString-length, levelsWidth, key-length}
+use Rattle.rules.proofs.KeyLaws.{goodString-length, key-length}
 use Rattle.layout.proofs.PartLaws.{table-good}
 use Rattle.units.specs.declared.Refusal.the-variants.{NotAccepted, BadString, NoRoom}
 use Rattle.elements.specs.Cuts.{Ready, Split}

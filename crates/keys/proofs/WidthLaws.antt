@@ -1,16 +1,16 @@
 -- How many bytes a level and a whole key take, as level_width and key_width count them.
-use mathlib.Core.Path.{_≡_, refl, sym, ap, _∙_}
+use mathlib.Core.Path.{_≡_, sym, _∙_}
 use mathlib.Core.Bool.{Bool, true, false}
-use mathlib.Core.List.{List, [], _∷_}
-use Prim.Native.Nat.{ℕ, suc, _+_, _*_, _≤_, _<_}
+use mathlib.Core.List.{List}
+use Prim.Native.Nat.{ℕ, _+_, _*_, _≤_, _<_}
 use native.Mathlib.Numerals.{add-one}
 use native.Mathlib.Omega.{arith}
 use mir.Syntax.{w64}
 use mir.Val.{Fits}
-use lib.ListN.{length, getD, drop, drop-of-length-le}
+use lib.ListN.{length, drop, drop-of-length-le}
 use lib.Seq.{drop-cons}
 use Rattle.rules.specs.Meaning as meaning
-use Rattle.rules.specs.Table.{accepted, meaningIn}
+use Rattle.rules.specs.Table.{meaningIn}
 use Rattle.rules.specs.Order.{levelEntries, levelsFrom}
 use Rattle.rules.proofs.KeyLaws.{entryWidth, levelsWidth}
 use Rattle.layout.specs.Parts.{ruleAs, ruleAt}

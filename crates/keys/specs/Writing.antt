@@ -10,9 +10,9 @@ use Rattle.rules.specs.Meaning.{Rule}
 use Rattle.rules.specs.Table.{accepted, meaningIn}
 use Rattle.rules.specs.Order.{goodString, elements, Entry, two, levelEntries, levelsFrom, levelKey, levelsKey}
 use Rattle.rules.proofs.ElementLaws.{UpTo}
+use Rattle.rules.proofs.KeyLaws.{entryWidth, levelsWidth}
 use Rattle.entries.specs.Walk.{entryAs}
 use Rattle.entries.specs.declared.Entry as entries
-use Rattle.rules.proofs.KeyLaws.{entryWidth, levelsWidth}
 
 -- An accepted table, and the places of a string's elements in it.
 pub record Listed (t places : List ℕ) : Type 0 where
@@ -28,10 +28,10 @@ pub record Spelled (t s places : List ℕ) : Type 0 where
 
 -- ## The bytes
 
--- of an entry, and what follows them
-unfoldable pub entryKey : Bool → Entry → List ℕ → List ℕ
-entryKey true e rest = two (suc (e .count)) (two (e .weight) rest)
-entryKey false e rest = two (e .weight) rest
+-- of an entry
+unfoldable pub entryBytes : Bool → Entry → List ℕ
+entryBytes true e = two (suc (e .count)) (two (e .weight) [])
+entryBytes false e = two (e .weight) []
 
 -- of a level
 unfoldable pub levelBytes : List ℕ → List ℕ → ℕ → Rule → List ℕ
@@ -72,7 +72,7 @@ pub record ThreeFit (room : List ℕ) (at n : ℕ) : Type 0 where
 pub record EntryFits (room : List ℕ) (at : ℕ) (position : Bool) (e : entries.Entry) : Type 0 where
   pub counted : e .count < 65535
   pub ranked : e .rank .0 < 65536
-  pub inside : at + length (entryKey position (entryAs e) []) ≤ length room
+  pub inside : at + length (entryBytes position (entryAs e)) ≤ length room
 
 -- These bytes stand in the room from a place on, nothing else in it is changed, and `next` is the place behind them.
 pub record Puts (room : List ℕ) (at : ℕ) (bytes : List ℕ) (after : List ℕ) (next : ℕ) : Type 0 where

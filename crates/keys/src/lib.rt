@@ -11,7 +11,7 @@ ghost use Rattle.entries.specs.Walk.{Level, entryAs};
 ghost use Rattle.elements.specs.Cuts.{Ready};
 ghost use Rattle.layout.specs.Parts.{ruleAs};
 ghost use Rattle.keys.specs.Answers.{keyedAs};
-ghost use Rattle.keys.specs.Writing.{Listed, Spelled, entryKey, levelBytes, levelsBytes, LevelWide, levelsWide, TwoFit, ThreeFit, EntryFits, Puts};
+ghost use Rattle.keys.specs.Writing.{Listed, Spelled, entryBytes, levelBytes, levelsBytes, LevelWide, levelsWide, TwoFit, ThreeFit, EntryFits, Puts};
 use entries::Ahead;
 use entries::Entry;
 use layout::Rule;
@@ -49,7 +49,7 @@ fn put_three(room: &mut [u8], at: usize, c: CodePoint) -> usize
 // An entry's bytes: with position its count + 1, then its weight; the place behind them.
 fn put_entry(room: &mut [u8], at: usize, position: bool, e: Entry) -> usize
     requires { ⌜ EntryFits (now room) at position e ⌝ }
-    ensures { λ r. ⌜ Puts (now (room .entry)) at (entryKey position (entryAs e) []) (now (room .exit)) r ⌝ }
+    ensures { λ r. ⌜ Puts (now (room .entry)) at (entryBytes position (entryAs e)) (now (room .exit)) r ⌝ }
 {
     let rank = e.rank.0;
     if position {
