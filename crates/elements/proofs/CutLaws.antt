@@ -12,6 +12,7 @@ use Rattle.rules.specs.Meaning.{Item}
 use Rattle.rules.specs.Table.{meaningIn}
 use Rattle.rules.specs.Order.{Step, stepOf, elements}
 use Rattle.rules.proofs.ElementLaws.{UpTo, step-size, step-place, elements-step}
+use Rattle.layout.specs.Parts.{Within}
 use Rattle.layout.proofs.PartLaws.{table-good}
 use Rattle.find.specs.Search.{foundAs}
 use Rattle.find.specs.declared.Found.{Found}
@@ -25,10 +26,18 @@ module _ {t s places : List ℕ} {at : ℕ} {f : Found} (r : Ready t s places) (
   some-left = rw (length-drop at s) (omega arith)
 
   -- its place is that of an item
-  pub found-place : UpTo (length (meaningIn t .items)) (f .place)
+  found-place : UpTo (length (meaningIn t .items)) (f .place)
   found-place =
       let p : f .place ≡ stepOf (meaningIn t .items) (drop at s) .place = ap (λ (x : Step). x .place) e in
       rw p (step-place (meaningIn t .items) (drop at s) some-left (table-good t (r .checked) .undefined))
+
+  pub found-within : Within t (f .place) 0
+  found-within = record {
+    checked = r .checked;
+    from-one = found-place .least;
+    in-items = found-place .most;
+    in-levels = omega (arith, table-good t (r .checked) .some-level);
+  }
 
   pub found-fits : Fits w32 (f .place)
   found-fits = record { fits = omega (arith, found-place .most, table-good t (r .checked) .few-items) }
@@ -39,7 +48,8 @@ module _ {t s places : List ℕ} {at : ℕ} {f : Found} (r : Ready t s places) (
       let p : f .size ≡ stepOf (meaningIn t .items) (drop at s) .size = ap (λ (x : Step). x .size) e in
       rw (p, ← length-drop at s) (step-size (meaningIn t .items) (drop at s) some-left)
 
-  found-first : elements (meaningIn t .items) 0 (drop at s) ≡ f .place ∷ elements (meaningIn t .items) 0 (drop (at + f .size) s)
+  -- it is the first of the elements that are left
+  pub found-first : elements (meaningIn t .items) 0 (drop at s) ≡ f .place ∷ elements (meaningIn t .items) 0 (drop (at + f .size) s)
   found-first =
       let p : f .place ≡ stepOf (meaningIn t .items) (drop at s) .place = ap (λ (x : Step). x .place) e in
       let q : f .size ≡ stepOf (meaningIn t .items) (drop at s) .size = ap (λ (x : Step). x .size) e in
@@ -72,7 +82,8 @@ pub record Cutting (t s before places : List ℕ) (at many : ℕ) : Type 0 where
 pub cutting-none : (t s places : List ℕ) → Ready t s places → Cutting t s places places 0 0
 cutting-none t s places r = record { ready = r; cut = record { to = omega arith; fewer = omega arith; same = refl }; kept = refl }
 
-ready-kept : {t s places : List ℕ} (after : List ℕ) → Ready t s places → length after ≡ length places → Ready t s after
+-- an area that keeps its length still has room
+pub ready-kept : {t s places : List ℕ} (after : List ℕ) → Ready t s places → length after ≡ length places → Ready t s after
 ready-kept after r e = record { checked = r .checked; characters = r .characters; short = r .short; room = omega (arith, r .room) }
 
 pub cutting-more : {t s before places after : List ℕ} {at many : ℕ} {f : Found} → Cutting t s before places at many
@@ -80,9 +91,9 @@ pub cutting-more : {t s before places after : List ℕ} {at many : ℕ} {f : Fou
 cutting-more {after = after} v e w = record { ready = ready-kept after (v .ready) e; cut = w .cut; kept = e ∙ v .kept }
 
 -- where the string ends, all are cut
-pub cut-all : {t s places : List ℕ} {at many : ℕ} → Cut t s places at many → length s ≤ at → Split t s places many
+pub cut-all : {t s before places : List ℕ} {at many : ℕ} → Cutting t s before places at many → length s ≤ at → Split t s places many
 unfolding elements
-cut-all {t} {s} {places} {at} {many} v h = record {
-  is = sym (append-nil (take many places)) ∙ (rw (drop-of-length-le s h) at (v .same));
-  fewer = omega (arith, v .fewer, v .to);
+cut-all {s = s} {places = places} {many = many} v h = record {
+  is = sym (append-nil (take many places)) ∙ (rw (drop-of-length-le s h) at (v .cut .same));
+  inside = omega (arith, v .cut .fewer, v .cut .to, v .ready .room);
 }

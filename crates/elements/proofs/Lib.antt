@@ -1,1 +1,3 @@
 pub mod CutLaws
+pub mod FirstLaws
+pub mod CompareLaws

@@ -30,7 +30,7 @@ pub record CutOne (t s places : List ℕ) (at many : ℕ) (found : Found) : Type
   pub some : 1 ≤ found .size
   pub cut : Cut t s places (at + found .size) (many + 1)
 
--- A string's elements, so many, are the places in front.
+-- A string is cut: its elements, so many, are the places in front.
 pub record Split (t s places : List ℕ) (many : ℕ) : Type 0 where
   pub is : take many places ≡ elements (meaningIn t .items) 0 s
-  pub fewer : many ≤ length s
+  pub inside : many ≤ length places

@@ -1,9 +1,58 @@
 // The elements of a string: cut all at once, or only as far as the first level is compared.
 ghost use mathlib.Core.Path.{_≡_};
-ghost use Prim.Native.Nat.{_+_, _<_};
+ghost use mathlib.Core.Bool.{cond};
+ghost use Prim.Native.Nat.{_≤_, _<_};
 ghost use lib.ListN.{length};
 ghost use Rattle.elements.specs.Cuts.{Ready, Cut, CutOne, Split};
+ghost use Rattle.elements.specs.Firsts.{fresh, Sound, entriesOn, entriesLeft, Gives, meeting, FirstCompared};
+use entries::Entry;
 use find::Found;
+use units::Sign;
+
+// Where a walk over the first level stands: up to a place of the string so many elements are cut; where the weights begin of the last of
+// them that are still to come, and how many; and the elements without a weight since the last that had one.
+struct Walk {
+    pub at: usize,
+    pub many: usize,
+    pub from: usize,
+    pub left: usize,
+    pub skipped: usize,
+}
+
+// The next entry and where the walk stands after it; or how many elements the string has.
+enum Ahead {
+    One(Entry, Walk),
+    End(usize),
+}
+
+// What the next entries of two walks decide.
+enum Meeting {
+    // the first string comes first
+    Before,
+    // the second string comes first
+    After,
+    // both strings end, and have so many elements
+    Over(usize, usize),
+    // nothing: the two are alike, and the walks go on
+    On(Walk, Walk),
+}
+
+// Two strings whose first levels are alike: how many entries agree, and how many elements each string has.
+pub struct Alike {
+    pub agreed: usize,
+    pub first: usize,
+    pub second: usize,
+}
+
+// How the first level of two strings compares.
+pub enum First {
+    // the first string comes first, so many entries having agreed
+    Before(usize),
+    // the second string comes first, so many entries having agreed
+    After(usize),
+    // it does not decide
+    Same(Alike),
+}
 
 // Cuts the element that begins at a place, so many having been cut before it, and keeps its item's place.
 fn cut_one(t: &[u32], s: &[u32], places: &mut [u32], at: usize, many: usize) -> Found
@@ -30,4 +79,164 @@ pub fn split(t: &[u32], s: &[u32], places: &mut [u32]) -> usize
         many += 1;
     }
     many
+}
+
+// The start of a walk.
+fn start() -> Walk
+    ensures { λ r. ⌜ r ≡ fresh ⌝ }
+{
+    Walk {
+        at: 0,
+        many: 0,
+        from: 0,
+        left: 0,
+        skipped: 0,
+    }
+}
+
+// The count of an entry, n elements without a weight having stood before it.
+fn counted(position: bool, n: usize) -> usize
+    ensures { λ r. ⌜ r ≡ cond position n 0 ⌝ }
+{
+    if position {
+        return n;
+    }
+    0
+}
+
+// The entry that begins the next element with a weight, cut from a place on, `many` elements being cut before it, the last `skipped` of
+// them without a weight.
+fn next_element(
+    t: &[u32],
+    s: &[u32],
+    places: &mut [u32],
+    position: bool,
+    at: usize,
+    many: usize,
+    skipped: usize,
+) -> Ahead
+    requires { ⌜ Ready (now t) (now s) (now places) ⌝ }
+    requires { ⌜ Cut (now t) (now s) (now places) at many ⌝ }
+    requires { ⌜ skipped ≤ many ⌝ }
+    ensures { λ r. ⌜ Gives (now (t .entry)) (now (s .entry)) (now (places .exit)) position (entriesOn (now (t .entry)) (now (s .entry)) position at skipped) r ⌝ }
+{
+    let mut i = at;
+    let mut k = many;
+    let mut n = skipped;
+    while i < s.len() {
+        let found = cut_one(t, s, places, i, k);
+        let run = layout::weights(t, found.place, 0);
+        let from = run.from;
+        let left = run.count;
+        i += found.size;
+        k += 1;
+        if 0 < left {
+            let rank = layout::weight(t, from);
+            let count = counted(position, n);
+            return Ahead::One(
+                Entry {
+                    count: count,
+                    rank: rank,
+                },
+                Walk {
+                    at: i,
+                    many: k,
+                    from: from + 1,
+                    left: left - 1,
+                    skipped: 0,
+                },
+            );
+        }
+        n += 1;
+    }
+    Ahead::End(k)
+}
+
+// The next of the first level's entries, walked forward; the string is cut as far as it takes.
+fn next_first(t: &[u32], s: &[u32], places: &mut [u32], position: bool, c: Walk) -> Ahead
+    requires { ⌜ Ready (now t) (now s) (now places) ⌝ }
+    requires { ⌜ Sound (now t) (now s) (now places) c ⌝ }
+    ensures { λ r. ⌜ Gives (now (t .entry)) (now (s .entry)) (now (places .exit)) position (entriesLeft (now (t .entry)) (now (s .entry)) position c) r ⌝ }
+{
+    let from = c.from;
+    let left = c.left;
+    if 0 < left {
+        let rank = layout::weight(t, from);
+        return Ahead::One(
+            Entry {
+                count: 0,
+                rank: rank,
+            },
+            Walk {
+                at: c.at,
+                many: c.many,
+                from: from + 1,
+                left: left - 1,
+                skipped: c.skipped,
+            },
+        );
+    }
+    next_element(t, s, places, position, c.at, c.many, c.skipped)
+}
+
+// What two next entries decide: the smaller comes first, or the string that ends.
+fn meet(p: Ahead, q: Ahead) -> Meeting
+    ensures { λ r. ⌜ r ≡ meeting p q ⌝ }
+{
+    match p {
+        Ahead::End(n) => match q {
+            Ahead::End(m) => Meeting::Over(n, m),
+            Ahead::One(_, _) => Meeting::Before,
+        },
+        Ahead::One(e, after) => match q {
+            Ahead::End(_) => Meeting::After,
+            Ahead::One(f, behind) => {
+                let s = entries::order_of(e, f);
+                match s {
+                    Sign::Less => Meeting::Before,
+                    Sign::Greater => Meeting::After,
+                    Sign::Equal => Meeting::On(after, behind),
+                }
+            }
+        },
+    }
+}
+
+// How the entries of the first level compare, walked forward: the first difference decides, and no string is cut further than to it.
+pub fn compare_first(
+    t: &[u32],
+    a: &[u32],
+    b: &[u32],
+    first: &mut [u32],
+    second: &mut [u32],
+    position: bool,
+) -> First
+    requires { ⌜ Ready (now t) (now a) (now first) ⌝ }
+    requires { ⌜ Ready (now t) (now b) (now second) ⌝ }
+    ensures { λ r. ⌜ FirstCompared (now (t .entry)) (now (a .entry)) (now (b .entry)) (now (first .exit)) (now (second .exit)) position r ⌝ }
+{
+    let mut x = start();
+    let mut y = start();
+    let mut agreed: usize = 0;
+    loop {
+        let p = next_first(t, a, first, position, x);
+        let q = next_first(t, b, second, position, y);
+        let met = meet(p, q);
+        match met {
+            Meeting::Before => return First::Before(agreed),
+            Meeting::After => return First::After(agreed),
+            Meeting::Over(n, m) => {
+                return First::Same(Alike {
+                    agreed: agreed,
+                    first: n,
+                    second: m,
+                });
+            }
+            Meeting::On(after, behind) => {
+                x = after;
+                y = behind;
+                agreed += 1;
+            }
+        }
+    }
 }

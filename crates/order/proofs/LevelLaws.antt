@@ -35,15 +35,16 @@ module _ (s : Seen) (k n : ℕ) (xs ys : List Entry) (as′ bs : List (List Entr
   agreed : s .agreed ≡ common xs ys
   agreed = ap (λ (r : passed.Seen). r .agreed) e ∙ seen-agreed xs ys 0 ∙ zero-add (common xs ys)
 
-  settled-less : s .sign ≡ Less
+  pub settled-less : s .sign ≡ Less
       → record { sign = less; level = k; agreed = n + s .agreed } ≡ withPassed n (answerFrom k (xs ∷ as′) (ys ∷ bs))
   settled-less z = rw agreed (sym (decided-less k n xs ys as′ bs (sign ∙ ap signOf z)))
 
-  settled-greater : s .sign ≡ Greater
+  pub settled-greater : s .sign ≡ Greater
       → record { sign = greater; level = k; agreed = n + s .agreed } ≡ withPassed n (answerFrom k (xs ∷ as′) (ys ∷ bs))
   settled-greater z = rw agreed (sym (decided-greater k n xs ys as′ bs (sign ∙ ap signOf z)))
 
-  settled-on : s .sign ≡ Equal
+  -- where they are equal the lists after them decide
+  pub settled-on : s .sign ≡ Equal
       → withPassed (n + s .agreed) (answerFrom (suc k) as′ bs) ≡ withPassed n (answerFrom k (xs ∷ as′) (ys ∷ bs))
   settled-on z = rw agreed (sym (goes-on k n xs ys as′ bs (sign ∙ ap signOf z)))
 
@@ -108,58 +109,46 @@ levels-none {t} v e h k = record {
   same = refl;
 }
 
--- one level, of the strings' own elements
-module _ (t a b : List ℕ) (k n : ℕ) (h : k < length (meaningIn t .rules)) where
-  abbrev entriesOf : List ℕ → List Entry
-  entriesOf s = levelEntries (meaningIn t .items) (ruleAt t k) k (elements (meaningIn t .items) 0 s)
+-- the entries of a string at a level, and its lists after that level
+abbrev pub entriesAt : List ℕ → ℕ → List ℕ → List Entry
+entriesAt t k s = levelEntries (meaningIn t .items) (ruleAt t k) k (elements (meaningIn t .items) 0 s)
 
-  on-level : answerOn t a b k n
-      ≡ withPassed n
-      (answerFrom (suc k) (entriesOf a ∷ drop (suc k) (entryLists (meaningIn t) a)) (entriesOf b ∷ drop (suc k) (entryLists (meaningIn t) b)))
-  unfolding answerOn
-  on-level =
-      let d : meaning.Rule = record { backward = false; position = false } in
-      rw (lists-level (meaningIn t) a k d h, lists-level (meaningIn t) b k d h)
+abbrev pub listsAfter : List ℕ → ℕ → List ℕ → List (List Entry)
+listsAfter t k s = drop (suc k) (entryLists (meaningIn t) s)
+
+-- the answer from a level on, that level first
+pub on-level : (t a b : List ℕ) (k n : ℕ) → k < length (meaningIn t .rules)
+    → answerOn t a b k n ≡ withPassed n (answerFrom (suc k) (entriesAt t k a ∷ listsAfter t k a) (entriesAt t k b ∷ listsAfter t k b))
+unfolding answerOn
+on-level t a b k n h =
+    let d : meaning.Rule = record { backward = false; position = false } in
+    rw (lists-level (meaningIn t) a k d h, lists-level (meaningIn t) b k d h)
 
 module _ {t a b as′ bs : List ℕ} {l level agreed k n : ℕ} {rule : Rule} {s : Seen} (v : Levels t a b l level agreed k n) (p : Placed t a as′)
     (q : Placed t b bs) (h : k < l) (e : ruleAs rule ≡ ruleAt t k) (w : Compared t as′ bs k (ruleAs rule) s) where
-  within : k < length (meaningIn t .rules)
-  within = omega (arith, v .many)
-
-  later : List ℕ → List (List Entry)
-  later x = drop (suc k) (entryLists (meaningIn t) x)
-
-  run : seenAs s ≡ seen (entriesOf t a b k n within a) (entriesOf t a b k n within b) 0
+  run : seenAs s ≡ seen (entriesAt t k a) (entriesAt t k b) 0
   run = rw (p .is, q .is, e) at (w .is)
 
+  asked : withPassed n (answerFrom (suc k) (entriesAt t k a ∷ listsAfter t k a) (entriesAt t k b ∷ listsAfter t k b)) ≡ answerOn t a b level agreed
+  asked = sym (on-level t a b k n (omega (arith, v .many))) ∙ v .same
+
   pub level-less : s .sign ≡ Less → record { sign = less; level = k + 1; agreed = n + s .agreed } ≡ answerOn t a b level agreed
-  unfolding later
   level-less z =
-      rw (add-one k)
-      (settled-less s (suc k) n (entriesOf t a b k n within a) (entriesOf t a b k n within b) (later a) (later b) run z
-      ∙ sym (on-level t a b k n within)
-      ∙ v .same)
+      rw (add-one k) (settled-less s (suc k) n (entriesAt t k a) (entriesAt t k b) (listsAfter t k a) (listsAfter t k b) run z ∙ asked)
 
   pub level-greater : s .sign ≡ Greater → record { sign = greater; level = k + 1; agreed = n + s .agreed } ≡ answerOn t a b level agreed
-  unfolding later
   level-greater z =
-      rw (add-one k)
-      (settled-greater s (suc k) n (entriesOf t a b k n within a) (entriesOf t a b k n within b) (later a) (later b) run z
-      ∙ sym (on-level t a b k n within)
-      ∙ v .same)
+      rw (add-one k) (settled-greater s (suc k) n (entriesAt t k a) (entriesAt t k b) (listsAfter t k a) (listsAfter t k b) run z ∙ asked)
 
   pub levels-more : s .sign ≡ Equal → Levels t a b l level agreed (k + 1) (n + s .agreed)
-  unfolding later answerOn
+  unfolding answerOn
   levels-more z = record {
     many = v .many;
     few = v .few;
     to = omega arith;
     small = omega (arith, v .small, w .small);
     same =
-        rw (add-one k)
-        (settled-on s (suc k) n (entriesOf t a b k n within a) (entriesOf t a b k n within b) (later a) (later b) run z
-        ∙ sym (on-level t a b k n within)
-        ∙ v .same);
+        rw (add-one k) (settled-on s (suc k) n (entriesAt t k a) (entriesAt t k b) (listsAfter t k a) (listsAfter t k b) run z ∙ asked);
   }
 
 on-last : (t a b : List ℕ) (n : ℕ)

@@ -1,2 +1,4 @@
 pub mod CodeLaws
 pub mod LevelLaws
+pub mod FirstLaws
+pub mod CallLaws

@@ -1,16 +1,22 @@
-// The comparison of two strings: level after level, then by code points.
+// The public step and comparison. A comparison goes level after level, then by code points; it cuts the strings into elements as far as
+// the first level takes it, where that is walked forward.
 ghost use mathlib.Core.Path.{_≡_};
 ghost use Prim.Native.Nat.{_*_, _≤_};
 ghost use lib.ListN.{length};
 ghost use mathlib.Core.List.{[], _∷_};
-ghost use Rattle.rules.specs.Order.{signℕ, codes, answerFrom};
+ghost use Rattle.rules.specs.Order.{signℕ, codes, answerFrom, compareOf};
 ghost use Rattle.rules.specs.Table.{meaningIn};
+ghost use Rattle.rules.specs.Calls.{stepCall, compareCall};
 ghost use Rattle.rules.proofs.PassedLaws.{withPassed};
 ghost use Rattle.units.specs.Numbers.{signOf};
-ghost use Rattle.order.specs.Answers.{answerAs};
-ghost use Rattle.order.specs.Strings.{CodesCompared, Placed, answerOn};
+ghost use Rattle.order.specs.Answers.{answerAs, comparedAs, steppedAs};
+ghost use Rattle.elements.specs.Cuts.{Ready};
+ghost use Rattle.order.specs.Strings.{CodesCompared, Placed, answerOn, BothCut, Forward, Good};
+use elements::Alike;
+use elements::First;
 use entries::Seen;
 use units::CodePoint;
+use units::Refusal;
 use units::Sign;
 
 // How two strings stand to each other, the level that decides, from 1, or 0 where they are equal, and how many entries agreed.
@@ -18,6 +24,18 @@ pub struct Answer {
     pub sign: Sign,
     pub level: usize,
     pub agreed: usize,
+}
+
+// What a comparison gives.
+pub enum Comparison {
+    Decided(Answer),
+    Refused(Refusal),
+}
+
+// What a step gives: an item's place in the table, from 1, and how many characters it takes.
+pub enum Stepping {
+    At(usize, usize),
+    Refused(Refusal),
 }
 
 // How two characters compare.
@@ -148,4 +166,131 @@ fn compare_from(
         }
     }
     compare_last(a, b, levels + 1, n)
+}
+
+// The answer from a level on, from 0, of two strings that are cut.
+fn compare_cut(
+    t: &[u32],
+    a: &[u32],
+    b: &[u32],
+    first: &[u32],
+    second: &[u32],
+    cut: Alike,
+    level: usize,
+) -> Answer
+    requires { ⌜ BothCut (now t) (now a) (now b) (now first) (now second) cut level ⌝ }
+    ensures { λ r. ⌜ answerAs r ≡ answerOn (now (t .entry)) (now (a .entry)) (now (b .entry)) level (cut .agreed) ⌝ }
+{
+    let n = cut.first;
+    let m = cut.second;
+    compare_from(t, a, b, &first[..n], &second[..m], level, cut.agreed)
+}
+
+// The answer of two strings that are cut first.
+fn compare_split(t: &[u32], a: &[u32], b: &[u32], first: &mut [u32], second: &mut [u32]) -> Answer
+    requires { ⌜ Ready (now t) (now a) (now first) ⌝ }
+    requires { ⌜ Ready (now t) (now b) (now second) ⌝ }
+    ensures { λ r. ⌜ answerAs r ≡ compareOf (meaningIn (now (t .entry))) (now (a .entry)) (now (b .entry)) ⌝ }
+{
+    let n = elements::split(t, a, first);
+    let m = elements::split(t, b, second);
+    let cut = Alike {
+        agreed: 0,
+        first: n,
+        second: m,
+    };
+    compare_cut(t, a, b, first, second, cut, 0)
+}
+
+// The answer of two strings that are cut no further than the first level takes, which is walked forward.
+fn compare_forward(
+    t: &[u32],
+    a: &[u32],
+    b: &[u32],
+    first: &mut [u32],
+    second: &mut [u32],
+    position: bool,
+) -> Answer
+    requires { ⌜ Ready (now t) (now a) (now first) ⌝ }
+    requires { ⌜ Ready (now t) (now b) (now second) ⌝ }
+    requires { ⌜ Forward (now t) position ⌝ }
+    ensures { λ r. ⌜ answerAs r ≡ compareOf (meaningIn (now (t .entry))) (now (a .entry)) (now (b .entry)) ⌝ }
+{
+    let level = elements::compare_first(t, a, b, first, second, position);
+    match level {
+        First::Before(n) => Answer {
+            sign: Sign::Less,
+            level: 1,
+            agreed: n,
+        },
+        First::After(n) => Answer {
+            sign: Sign::Greater,
+            level: 1,
+            agreed: n,
+        },
+        First::Same(cut) => compare_cut(t, a, b, first, second, cut, 1),
+    }
+}
+
+// The answer of two strings, with room for the places of their elements.
+fn compare_within(t: &[u32], a: &[u32], b: &[u32], first: &mut [u32], second: &mut [u32]) -> Answer
+    requires { ⌜ Good (now t) (now a) (now b) ⌝ }
+    requires { ⌜ (4096 ≤ length (now first)) × (4096 ≤ length (now second)) ⌝ }
+    ensures { λ r. ⌜ answerAs r ≡ compareOf (meaningIn (now (t .entry))) (now (a .entry)) (now (b .entry)) ⌝ }
+{
+    let rule = layout::rule_of(t, 0);
+    if rule.backward {
+        return compare_split(t, a, b, first, second);
+    }
+    compare_forward(t, a, b, first, second, rule.position)
+}
+
+// The answer of two strings that are not refused.
+fn compare_good(t: &[u32], a: &[u32], b: &[u32]) -> Answer
+    requires { ⌜ Good (now t) (now a) (now b) ⌝ }
+    ensures { λ r. ⌜ answerAs r ≡ compareOf (meaningIn (now (t .entry))) (now (a .entry)) (now (b .entry)) ⌝ }
+{
+    let mut first = [0u32; 4096];
+    let mut second = [0u32; 4096];
+    compare_within(t, a, b, &mut first, &mut second)
+}
+
+// How two strings compare, by a table: checked here, as are the strings, the first before the second. It has no `requires`.
+pub fn compare(t: &[u32], a: &[u32], b: &[u32]) -> Comparison
+    ensures { λ r. ⌜ comparedAs r ≡ compareCall (now (t .entry)) (now (a .entry)) (now (b .entry)) ⌝ }
+{
+    let accepted = table::accepts(t);
+    if accepted {
+        let first = units::good_string(a);
+        if first {
+            let second = units::good_string(b);
+            if second {
+                let answer = compare_good(t, a, b);
+                return Comparison::Decided(answer);
+            }
+            return Comparison::Refused(Refusal::BadString);
+        }
+        return Comparison::Refused(Refusal::BadString);
+    }
+    Comparison::Refused(Refusal::NotAccepted)
+}
+
+// The element that begins at a place of a string, from 0: its item's place in the table, from 1, and how many characters it takes; both 0
+// at or past the end. The table and the whole string are checked here. It has no `requires`.
+pub fn step(t: &[u32], s: &[u32], at: usize) -> Stepping
+    ensures { λ r. ⌜ steppedAs r ≡ stepCall (now (t .entry)) (now (s .entry)) at ⌝ }
+{
+    let accepted = table::accepts(t);
+    if accepted {
+        let good = units::good_string(s);
+        if good {
+            if at < s.len() {
+                let found = find::longest(t, s, at);
+                return Stepping::At(found.place, found.size);
+            }
+            return Stepping::At(0, 0);
+        }
+        return Stepping::Refused(Refusal::BadString);
+    }
+    Stepping::Refused(Refusal::NotAccepted)
 }
