@@ -77,7 +77,7 @@ area-ready {s = s} places a g h = record {
 
 module _ {t s places cut : List ℕ} {n : ℕ} (v : Ready t s places) (w : Split t s cut n) where
   pub split-inside : length cut ≡ length places → n ≤ length cut
-  split-inside l = omega (arith, v .room, w .fewer)
+  split-inside l = w .inside
 
   pub split-count : length cut ≡ length places → n ≡ length (take n cut)
   split-count l = sym (length-take-le n cut (split-inside l))
