@@ -14,7 +14,7 @@ use Rattle.rules.specs.Order.{Step, stepOf, elements}
 use Rattle.rules.proofs.ElementLaws.{UpTo, step-size, step-place, elements-step}
 use Rattle.layout.specs.Parts.{Within}
 use Rattle.layout.proofs.PartLaws.{table-good}
-use Rattle.find.specs.Search.{foundAs}
+use Rattle.find.specs.Answer.{foundAs}
 use Rattle.find.specs.declared.Found.{Found}
 use Rattle.elements.specs.Cuts.{Ready, Cut, CutOne, Split}
 

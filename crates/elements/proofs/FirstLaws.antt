@@ -13,7 +13,7 @@ use Rattle.rules.specs.Order.{stepOf, elements, weightsAt, more, entriesFrom, w
 use Rattle.units.specs.declared.Rank.{Rank}
 use Rattle.layout.specs.Parts.{Holds}
 use Rattle.layout.specs.declared.Run.{Run}
-use Rattle.find.specs.Search.{foundAs}
+use Rattle.find.specs.Answer.{foundAs}
 use Rattle.find.specs.declared.Found.{Found}
 use Rattle.elements.specs.declared.Walk.{Walk}
 use Rattle.elements.specs.declared.Ahead.{Ahead}

@@ -8,7 +8,7 @@ use Rattle.rules.specs.Text.{every}
 use Rattle.rules.specs.Names.{isCharacter}
 use Rattle.rules.specs.Table.{accepted, meaningIn}
 use Rattle.rules.specs.Order.{stepOf, elements}
-use Rattle.find.specs.Search.{foundAs}
+use Rattle.find.specs.Answer.{foundAs}
 use Rattle.find.specs.declared.Found.{Found}
 
 -- An accepted table, a string of characters that is not too long, and room for a place for each of them.

@@ -8,15 +8,15 @@ use native.Mathlib.Omega.{arith}
 use lib.ListN.{length, getD, take}
 use lib.Seq.{take-nil}
 use lib.Dec.{ltb, leb, eqb}
-use borrow.Author.Tests.{leb-true, lt-ltb, le-ltb, ltb-true, ltb-false, eq-eqb, eqb-true, ne-eqb}
+use borrow.Author.Tests.{leb-true, le-ltb, ltb-true, ltb-false, eq-eqb, eqb-true, ne-eqb}
 use Rattle.lists.proofs.Bools.{and-left, and-right, and-intro, by, clash}
 use Rattle.rules.specs.Text.{within, every, begins}
 use Rattle.rules.specs.Names.{isCharacter}
 use Rattle.rules.specs.Table.{pad, padded, before}
 use Rattle.rules.proofs.TextLaws.{every-head, every-tail}
-use Rattle.rules.proofs.PermutationLaws.{before-irrefl}
+use Rattle.rules.proofs.PermutationLaws.{before-less, before-irrefl}
 
-pub character-small : (c : ℕ) → isCharacter c ≡ true → c < pad
+character-small : (c : ℕ) → isCharacter c ≡ true → c < pad
 character-small c h =
     let k = leb-true c 0x10FFFF (and-left (leb c 0x10FFFF) (not (within 0xD800 0xDFFF c)) h) in
     omega arith
@@ -34,10 +34,6 @@ pub before-greater : (x y : ℕ) (xs ys : List ℕ) → y < x → before (x ∷ 
 unfolding before
 before-greater x y xs ys h = rw (le-ltb x y (omega arith), ne-eqb x y (λ e. omega arith))
 
-pub before-smaller : (x y : ℕ) (xs ys : List ℕ) → x < y → before (x ∷ xs) (y ∷ ys) ≡ true
-unfolding before
-before-smaller x y xs ys h = rw (lt-ltb x y h)
-
 before-head : (x y : ℕ) (xs ys : List ℕ) → before (x ∷ xs) (y ∷ ys) ≡ true → x ≤ y
 before-head x y xs ys h =
     by (ltb y x)
@@ -47,7 +43,7 @@ before-head x y xs ys h =
 not-before-head : (x y : ℕ) (xs ys : List ℕ) → before (x ∷ xs) (y ∷ ys) ≡ false → y ≤ x
 not-before-head x y xs ys h =
     by (ltb x y)
-    (λ t. clash (before-smaller x y xs ys (ltb-true x y t)) h)
+    (λ t. clash (before-less x y xs ys (ltb-true x y t)) h)
     (λ t. ltb-false x y t)
 
 -- ## Padding
@@ -111,7 +107,7 @@ unfolding padTo
 agree-short w [] s m h l k f a = omega arith
 agree-short zero (c ∷ cs) s m h l k f a = absurd (omega arith)
 agree-short (suc w) (c ∷ cs) s zero h l k f a =
-    clash (before-smaller c pad (padTo w cs) (padTo w []) (character-small c (every-head isCharacter c cs h))) f
+    clash (before-less c pad (padTo w cs) (padTo w []) (character-small c (every-head isCharacter c cs h))) f
 agree-short (suc w) (c ∷ cs) [] (suc m) h l k f a = absurd (omega arith)
 agree-short (suc w) (c ∷ cs) (d ∷ s) (suc m) h l k f a =
     let r = agree-short w cs s m (every-tail isCharacter c cs h) (omega arith) (omega arith)
@@ -119,7 +115,7 @@ agree-short (suc w) (c ∷ cs) (d ∷ s) (suc m) h l k f a =
     (λ i b. a (suc i) (omega arith)) in
     omega arith
 
--- of two beginnings of a string the longer comes first
+-- of two beginnings of a string the shorter does not come before the longer
 pub longer-before : (s : List ℕ) (j m : ℕ) → every isCharacter s ≡ true → j ≤ m → before (padded (take j s) []) (padded (take m s) []) ≡ false
 longer-before s j m h l = rw (← padTo-padded (take j s), ← padTo-padded (take m s)) (longer-first 4 s j m h l)
 

@@ -11,41 +11,42 @@ use lib.Dec.{ltb, eqb}
 use borrow.Author.Count.{below-more}
 use Rattle.lists.proofs.Places.{getD-default}
 use Rattle.rules.specs.Table.{pad, before}
+use Rattle.rules.proofs.PermutationLaws.{before-less}
 use Rattle.find.specs.declared.Key.{Key}
-use Rattle.find.specs.Search.{keyOf, keyIn, Shares}
-use Rattle.find.proofs.BeginningLaws.{before-smaller, before-greater, before-tail}
+use Rattle.find.specs.Search.{numbersOf, keyIn, Shares}
+use Rattle.find.proofs.BeginningLaws.{before-greater, before-tail}
 
 -- ## before_key
 
 module _ (t : List ℕ) (at : ℕ) (key : Key) where
-  pub first-less : getD t at 0 < key .a → true ≡ before (keyIn t at) (keyOf key)
-  first-less h = sym (before-smaller (getD t at 0) (key .a) _ _ h)
+  pub first-less : getD t at 0 < key .a → true ≡ before (keyIn t at) (numbersOf key)
+  first-less h = sym (before-less (getD t at 0) (key .a) _ _ h)
 
-  pub first-greater : key .a < getD t at 0 → false ≡ before (keyIn t at) (keyOf key)
+  pub first-greater : key .a < getD t at 0 → false ≡ before (keyIn t at) (numbersOf key)
   first-greater h = sym (before-greater (getD t at 0) (key .a) _ _ h)
 
   module _ (la : key .a ≤ getD t at 0) (ga : getD t at 0 ≤ key .a) where
-    first : before (keyIn t at) (keyOf key)
+    first : before (keyIn t at) (numbersOf key)
         ≡ before (getD t (at + 1) 0 ∷ getD t (at + 2) 0 ∷ getD t (at + 3) 0 ∷ []) (key .b ∷ key .c ∷ key .d ∷ [])
     first = before-tail (getD t at 0) (key .a) _ _ (omega arith)
 
-    pub second-less : getD t (at + 1) 0 < key .b → true ≡ before (keyIn t at) (keyOf key)
-    second-less h = sym (first ∙ before-smaller (getD t (at + 1) 0) (key .b) _ _ h)
+    pub second-less : getD t (at + 1) 0 < key .b → true ≡ before (keyIn t at) (numbersOf key)
+    second-less h = sym (first ∙ before-less (getD t (at + 1) 0) (key .b) _ _ h)
 
-    pub second-greater : key .b < getD t (at + 1) 0 → false ≡ before (keyIn t at) (keyOf key)
+    pub second-greater : key .b < getD t (at + 1) 0 → false ≡ before (keyIn t at) (numbersOf key)
     second-greater h = sym (first ∙ before-greater (getD t (at + 1) 0) (key .b) _ _ h)
 
     module _ (lb : key .b ≤ getD t (at + 1) 0) (gb : getD t (at + 1) 0 ≤ key .b) where
-      second : before (keyIn t at) (keyOf key) ≡ before (getD t (at + 2) 0 ∷ getD t (at + 3) 0 ∷ []) (key .c ∷ key .d ∷ [])
+      second : before (keyIn t at) (numbersOf key) ≡ before (getD t (at + 2) 0 ∷ getD t (at + 3) 0 ∷ []) (key .c ∷ key .d ∷ [])
       second = first ∙ before-tail (getD t (at + 1) 0) (key .b) _ _ (omega arith)
 
-      pub third-less : getD t (at + 2) 0 < key .c → true ≡ before (keyIn t at) (keyOf key)
-      third-less h = sym (second ∙ before-smaller (getD t (at + 2) 0) (key .c) _ _ h)
+      pub third-less : getD t (at + 2) 0 < key .c → true ≡ before (keyIn t at) (numbersOf key)
+      third-less h = sym (second ∙ before-less (getD t (at + 2) 0) (key .c) _ _ h)
 
-      pub third-greater : key .c < getD t (at + 2) 0 → false ≡ before (keyIn t at) (keyOf key)
+      pub third-greater : key .c < getD t (at + 2) 0 → false ≡ before (keyIn t at) (numbersOf key)
       third-greater h = sym (second ∙ before-greater (getD t (at + 2) 0) (key .c) _ _ h)
 
-      pub fourth-decides : key .c ≤ getD t (at + 2) 0 → getD t (at + 2) 0 ≤ key .c → ltb (getD t (at + 3) 0) (key .d) ≡ before (keyIn t at) (keyOf key)
+      pub fourth-decides : key .c ≤ getD t (at + 2) 0 → getD t (at + 2) 0 ≤ key .c → ltb (getD t (at + 3) 0) (key .d) ≡ before (keyIn t at) (numbersOf key)
       unfolding before
       fourth-decides lc gc =
           let x : ℕ = getD t (at + 3) 0 in

@@ -16,7 +16,7 @@ use Rattle.rules.specs.Names.{isCharacter}
 use Rattle.rules.specs.Meaning.{Item, Meaning, goodItem, hasChars}
 use Rattle.rules.specs.Table.{pad, padded, before, permutation, accepted, meaningIn}
 use Rattle.rules.specs.Order.{noItem}
-use Rattle.rules.proofs.TextLaws.{within-low, within-high, within-intro, same-true}
+use Rattle.rules.proofs.TextLaws.{every-head, every-tail, within-low, within-high, within-intro, same-true}
 use Rattle.rules.proofs.MeaningLaws.{Good, GoodItem, item-parts}
 use Rattle.rules.proofs.TableLaws.{items-stored}
 use Rattle.rules.proofs.PermutationLaws.{before-trans}
@@ -60,8 +60,8 @@ oneOf-place p (q ∷ ps) h =
 
 every-inside : {A : Type 0} (p : A → Bool) (xs : List A) (k : ℕ) (d : A) → k < length xs → every p xs ≡ true → p (getD xs k d) ≡ true
 every-inside p [] k d l h = absurd (omega arith)
-every-inside p (x ∷ xs) zero d l h = Rattle.rules.proofs.TextLaws.every-head p x xs h
-every-inside p (x ∷ xs) (suc k) d l h = every-inside p xs k d (omega arith) (Rattle.rules.proofs.TextLaws.every-tail p x xs h)
+every-inside p (x ∷ xs) zero d l h = every-head p x xs h
+every-inside p (x ∷ xs) (suc k) d l h = every-inside p xs k d (omega arith) (every-tail p x xs h)
 
 undefined-place : (is : List Item) → oneOf (hasChars []) is ≡ true → (k : ℕ) × (k < length is) × (getD is k noItem .chars ≡ [])
 unfolding oneOf hasChars
@@ -132,7 +132,7 @@ module _ (m : Meaning) (g : Good m) where
   unfolding listedChars
   listed-short k b = listed-good k b .short
 
-  -- none comes before UNDEFINED's numbers but all
+  -- UNDEFINED's numbers come before no item's
   padding-last : (k : ℕ) → k < length (m .items) → before (padded [] []) (listedKey (m .items) k) ≡ false
   padding-last k b =
       let cs : List ℕ = listedChars (m .items) k in

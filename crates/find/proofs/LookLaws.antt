@@ -20,18 +20,19 @@ use Rattle.find.specs.declared.Found.{Found}
 use Rattle.find.specs.declared.Listed.{Listed}
 use Rattle.find.specs.declared.Near.{Near}
 use Rattle.find.specs.declared.Near.the-variants.{Element, Within}
-use Rattle.find.specs.Search.{foundAs, Counted, Lists, listedChars, listedKey, Least, Shares, AtMost, Window, Ahead, Looked}
+use Rattle.find.specs.Answer.{foundAs}
+use Rattle.find.specs.Search.{Counted, Lists, listedChars, listedKey, Least, Shares, AtMost, Window, Ahead, Looked}
 use Rattle.find.proofs.BeginningLaws.{Agree, longer-before, between-begins, begins-short, begins-agree, agree-begins, agree-long, begins-take, pad-over}
 use Rattle.find.proofs.ListedLaws.{listed-place, listed-rising, item-listed, item-good, listed-characters, listed-short, some-item, undefined-last}
 use Rattle.find.proofs.SearchLaws.{counted-good}
 
 module _ (m : Meaning) (g : Good m) (s : List ℕ) (h : every isCharacter s ≡ true) where
   -- UNDEFINED, which is listed last, comes before no beginning of s
-  pub last-from : (size : ℕ) → before (listedKey (m .items) (length (m .items) - 1)) (padded (take size s) []) ≡ false
+  last-from : (size : ℕ) → before (listedKey (m .items) (length (m .items) - 1)) (padded (take size s) []) ≡ false
   last-from size = rw (undefined-last m g) (longer-before s 0 size h (omega arith))
 
   -- where s begins with no item's characters, the element is UNDEFINED, which is listed last
-  pub none-undefined : 0 < length s → AtMost (m .items) s 0
+  none-undefined : 0 < length s → AtMost (m .items) s 0
       → record { place = getD (permutation (m .items)) (length (m .items) - 1) 0; size = 1 } ≡ stepOf (m .items) s
   unfolding listedChars
   none-undefined b f =
@@ -47,7 +48,7 @@ module _ (m : Meaning) (g : Good m) (s : List ℕ) (h : every isCharacter s ≡ 
 
   module _ (size : ℕ) (left : size ≤ length s) (most : AtMost (m .items) s size) (k : ℕ)
       (least : Least (m .items) (length (m .items)) (padded (take size s) []) k) where
-    -- the item that the search comes to begins as far as each item that s begins with
+    -- the item that the search comes to shares with s all that an item has with which s begins
     all-agree : (q : ℕ) → q < length (m .items) → begins (getD (m .items) q noItem .chars) s ≡ true
         → Agree (listedChars (m .items) k) s (length (getD (m .items) q noItem .chars))
     all-agree q b t = let r = item-listed m g q b in go (getD (m .items) q noItem .chars) t (most q b t) (r .0) (r .1) (r .2)
@@ -64,8 +65,8 @@ module _ (m : Meaning) (g : Good m) (s : List ℕ) (h : every isCharacter s ≡ 
               ]
             ]
 
-    -- where the two part, no item that s begins with reaches
-    pub parted : (n : ℕ) → (getD (listedChars (m .items) k) n pad ≡ getD s n 0 → ⊥) → AtMost (m .items) s n
+    -- where the two part, no item with which s begins is longer
+    parted : (n : ℕ) → (getD (listedChars (m .items) k) n pad ≡ getD s n 0 → ⊥) → AtMost (m .items) s n
     parted n f q b t =
         let j : ℕ = length (getD (m .items) q noItem .chars) in
         elim (decLt n j) [
@@ -73,8 +74,8 @@ module _ (m : Meaning) (g : Good m) (s : List ℕ) (h : every isCharacter s ≡ 
           | no l ↦ omega arith
         ]
 
-    -- an item that s begins with is the element
-    pub whole : (n : ℕ) → 1 ≤ n → n ≤ length s → length (listedChars (m .items) k) ≤ n → Agree (listedChars (m .items) k) s n
+    -- if s begins with it, it is the element
+    whole : (n : ℕ) → 1 ≤ n → n ≤ length s → length (listedChars (m .items) k) ≤ n → Agree (listedChars (m .items) k) s n
         → record { place = getD (permutation (m .items)) k 0; size = n } ≡ stepOf (m .items) s
     unfolding listedChars
     whole n b c l a =
@@ -190,10 +191,9 @@ module _ {t s : List ℕ} {at levels items size : ℕ} (v : Seeking t s at level
     seeking-found e = subst (Looked (meaningIn t .items) (drop at s) size) e is
 
     pub seeking-less : {m : ℕ} → r ≡ Within m → m < size
-    seeking-less {m} e = let (l, a) = within-part e in l
-      where
-        within-part : r ≡ Within m → (m < size) × AtMost (meaningIn t .items) (drop at s) m
-        within-part e = subst (Looked (meaningIn t .items) (drop at s) size) e is
+    seeking-less {m} e =
+        let p : (m < size) × AtMost (meaningIn t .items) (drop at s) m = subst (Looked (meaningIn t .items) (drop at s) size) e is in
+        p .0
 
     pub seeking-more : {m : ℕ} → r ≡ Within m → Seeking t s at levels items m
     seeking-more {m} e =

@@ -1,4 +1,4 @@
--- The search by halving: what the readers of the permutation and of keys give, the loop of first_from, and what one search says of the element.
+-- The search by halving: what item_at reads in an accepted table, and the loop of first_from.
 use mathlib.Core.Path.{_≡_, sym, ap, _∙_}
 use mathlib.Core.Bool.{Bool, true, false}
 use mathlib.Core.List.{List}

@@ -1,4 +1,4 @@
--- What the search for an element gives, and what its parts find.
+-- What the parts of the search promise each other. No public contract cites this file.
 use mathlib.Core.Path.{_≡_}
 use mathlib.Core.Bool.{true, false}
 use mathlib.Core.List.{List, [], _∷_}
@@ -8,16 +8,12 @@ use Rattle.rules.specs.Text.{every, begins}
 use Rattle.rules.specs.Names.{isCharacter}
 use Rattle.rules.specs.Meaning.{Item}
 use Rattle.rules.specs.Table.{pad, padded, before, permutation, accepted, meaningIn}
-use Rattle.rules.specs.Order.{noItem, Step, stepOf}
-use Rattle.find.specs.declared.Found.{Found}
+use Rattle.rules.specs.Order.{noItem, stepOf}
 use Rattle.find.specs.declared.Listed.{Listed}
 use Rattle.find.specs.declared.Key.{Key}
 use Rattle.find.specs.declared.Near.{Near}
 use Rattle.find.specs.declared.Near.the-variants.{Element, Within}
-
--- an element as the paper has it
-abbrev pub foundAs : Found → Step
-foundAs f = record { place = f .place; size = f .size }
+use Rattle.find.specs.Answer.{foundAs}
 
 -- ## The permutation
 
@@ -44,14 +40,14 @@ pub record Lists (t : List ℕ) (k : ℕ) (r : Listed) : Type 0 where
 -- ## Keys
 
 -- four numbers as a list
-abbrev pub keyOf : Key → List ℕ
-keyOf k = k .a ∷ k .b ∷ k .c ∷ k .d ∷ []
+abbrev pub numbersOf : Key → List ℕ
+numbersOf k = k .a ∷ k .b ∷ k .c ∷ k .d ∷ []
 
 -- the four numbers that stand at a place
 abbrev pub keyIn : List ℕ → ℕ → List ℕ
 keyIn t at = getD t at 0 ∷ getD t (at + 1) 0 ∷ getD t (at + 2) 0 ∷ getD t (at + 3) 0 ∷ []
 
--- The first of n listed items that does not come before a key.
+-- Where the first of n listed items stands that does not come before a key.
 pub record Least (is : List Item) (n : ℕ) (key : List ℕ) (r : ℕ) : Type 0 where
   pub inside : r < n
   pub below : (k : ℕ) → k < r → before (listedKey is k) key ≡ true
@@ -59,7 +55,7 @@ pub record Least (is : List Item) (n : ℕ) (key : List ℕ) (r : ℕ) : Type 0 
 
 -- ## One search
 
--- So many of the next `size` numbers at two places are the same, and no more.
+-- So many of `size` numbers from two places on are the same, and not the next.
 pub record Shares (t : List ℕ) (a : ℕ) (s : List ℕ) (b size r : ℕ) : Type 0 where
   pub within : r ≤ size
   pub same : (i : ℕ) → i < r → getD t (a + i) 0 ≡ getD s (b + i) 0
@@ -71,12 +67,11 @@ AtMost is s m = (q : ℕ) → q < length is → begins (getD is q noItem .chars)
 
 -- All characters from a place on, at most four.
 pub record Window (s : List ℕ) (at size : ℕ) : Type 0 where
-  pub some : 0 < size
   pub few : size ≤ 4
   pub left : at + size ≤ length s
   pub all : size < 4 → at + size ≡ length s
 
--- A string of characters of which `size` are left at a place, that no item that stands there exceeds.
+-- A string of characters with `size` of them from a place on, where no item that stands there has more.
 pub record Ahead (is : List Item) (s : List ℕ) (at size : ℕ) : Type 0 where
   pub characters : every isCharacter s ≡ true
   pub some : 0 < size
@@ -84,7 +79,7 @@ pub record Ahead (is : List Item) (s : List ℕ) (at size : ℕ) : Type 0 where
   pub left : at + size ≤ length s
   pub most : AtMost is (drop at s) size
 
--- the element of s, or fewer characters that no item that s begins with exceeds
+-- the element that begins s; or fewer characters, where no item that s begins with has more
 abbrev pub Looked : List Item → List ℕ → ℕ → Near → Type 0
 Looked is s size (Element f) = foundAs f ≡ stepOf is s
 Looked is s size (Within m) = (m < size) × AtMost is s m

@@ -13,7 +13,8 @@ ghost use Rattle.rules.specs.Text.{every};
 ghost use Rattle.rules.specs.Names.{isCharacter};
 ghost use Rattle.rules.specs.Table.{pad, padded, before, accepted, meaningIn};
 ghost use Rattle.rules.specs.Order.{stepOf};
-ghost use Rattle.find.specs.Search.{foundAs, keyOf, keyIn, listedKey, Counted, Lists, Least, Shares, Window, Ahead, Looked};
+ghost use Rattle.find.specs.Answer.{foundAs};
+ghost use Rattle.find.specs.Search.{numbersOf, keyIn, listedKey, Counted, Lists, Least, Shares, Window, Ahead, Looked};
 use layout::items;
 use layout::levels;
 use layout::record_at;
@@ -64,7 +65,7 @@ fn item_at(t: &[u32], levels: usize, items: usize, k: usize) -> Listed
 // Whether the four numbers at a place, where an item's record begins, come before a key.
 fn before_key(t: &[u32], at: usize, key: Key) -> bool
     requires { ⌜ at + 4 ≤ length (now t) ⌝ }
-    ensures { λ r. ⌜ r ≡ before (keyIn (now (t .entry)) at) (keyOf key) ⌝ }
+    ensures { λ r. ⌜ r ≡ before (keyIn (now (t .entry)) at) (numbersOf key) ⌝ }
 {
     let a = t[at];
     if a < key.a {
@@ -93,8 +94,8 @@ fn before_key(t: &[u32], at: usize, key: Key) -> bool
 // Where the first item is listed that does not come before a key, from 0. The last, UNDEFINED, does not.
 fn first_from(t: &[u32], levels: usize, items: usize, key: Key) -> usize
     requires { ⌜ Counted (now t) levels items ⌝ }
-    requires { ⌜ before (listedKey (meaningIn (now t) .items) (items - 1)) (keyOf key) ≡ false ⌝ }
-    ensures { λ r. ⌜ Least (meaningIn (now (t .entry)) .items) items (keyOf key) r ⌝ }
+    requires { ⌜ before (listedKey (meaningIn (now t) .items) (items - 1)) (numbersOf key) ≡ false ⌝ }
+    ensures { λ r. ⌜ Least (meaningIn (now (t .entry)) .items) items (numbersOf key) r ⌝ }
 {
     let mut lo: usize = 0;
     let mut hi = items - 1;
@@ -125,7 +126,7 @@ fn number(s: &[u32], at: usize, size: usize, i: usize) -> u32
 // The key of `size` characters from a place on.
 fn key_at(s: &[u32], at: usize, size: usize) -> Key
     requires { ⌜ at + size ≤ length (now s) ⌝ }
-    ensures { λ r. ⌜ keyOf r ≡ padded (take size (drop at (now (s .entry)))) [] ⌝ }
+    ensures { λ r. ⌜ numbersOf r ≡ padded (take size (drop at (now (s .entry)))) [] ⌝ }
 {
     Key {
         a: number(s, at, size, 0),

@@ -17,7 +17,7 @@ use Rattle.rules.specs.Calls.{noAnswer, stepCall, compareCall}
 use Rattle.layout.specs.Parts.{ruleAs, ruleAt}
 use Rattle.layout.specs.declared.Rule.{Rule}
 use Rattle.layout.proofs.PartLaws.{table-good}
-use Rattle.find.specs.Search.{foundAs}
+use Rattle.find.specs.Answer.{foundAs}
 use Rattle.find.specs.declared.Found.{Found}
 use Rattle.elements.specs.Cuts.{Ready}
 use Rattle.order.specs.Strings.{Forward, Good}

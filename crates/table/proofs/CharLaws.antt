@@ -1,37 +1,16 @@
--- Characters and padding: the tests of is_character, and the loop of chars_pass.
+-- Characters, then padding: the loop of chars_pass.
 use mathlib.Core.Path.{_≡_, sym, _∙_}
 use mathlib.Core.Bool.{Bool, true, false}
 use mathlib.Core.List.{List}
 use Prim.Native.Nat.{ℕ, _+_, _-_, _≤_, _<_}
 use native.Mathlib.Omega.{arith}
 use lib.ListN.{length, getD, take, drop}
-use lib.Dec.{ltb}
-use borrow.Author.Tests.{ltb-true, ltb-false, le-leb, lt-leb, ne-eqb}
-use Rattle.lists.proofs.Bools.{by}
+use borrow.Author.Tests.{ne-eqb}
 use Rattle.rules.specs.Text.{within, every}
 use Rattle.rules.specs.Names.{isCharacter}
 use Rattle.rules.specs.Table.{pad}
 use Rattle.table.specs.Checks.{allPad, charsPass}
 use Rattle.lists.proofs.Runs.{run, run-whole, run-part, run-none, run-cons}
-
--- ## is_character
-
-module _ (c : ℕ) where
-  pub character-large : 0x10FFFF < c → false ≡ isCharacter c
-  character-large h = rw (lt-leb c 0x10FFFF h)
-
-  module _ (h : c ≤ 0x10FFFF) where
-    pub character-low : c < 0xD800 → true ≡ isCharacter c
-    character-low k = rw (le-leb c 0x10FFFF h, lt-leb 0xD800 c k)
-
-    pub character-high : 0xD800 ≤ c → ltb 0xDFFF c ≡ isCharacter c
-    character-high k =
-        rw (le-leb c 0x10FFFF h, le-leb 0xD800 c k)
-        (by (ltb 0xDFFF c)
-        (λ e. rw (e, lt-leb c 0xDFFF (ltb-true 0xDFFF c e)))
-        (λ e. rw (e, le-leb c 0xDFFF (ltb-false 0xDFFF c e))))
-
--- ## chars_pass
 
 -- the numbers before i are characters
 pub record Chars (t : List ℕ) (at end i : ℕ) : Type 0 where

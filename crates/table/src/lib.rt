@@ -3,7 +3,6 @@ ghost use mathlib.Core.Path.{_≡_};
 ghost use Prim.Native.Nat.{_+_, _≤_};
 ghost use lib.ListN.{length, take, drop};
 ghost use Rattle.rules.specs.Text.{within, every};
-ghost use Rattle.rules.specs.Names.{isCharacter};
 ghost use Rattle.rules.specs.Table.{before, accepted};
 ghost use Rattle.rules.specs.Calls.{checkCall};
 ghost use Rattle.layout.specs.Parts.{recordAt};
@@ -43,19 +42,6 @@ pub fn all_within(t: &[u32], from: usize, n: usize, low: u32, high: u32) -> bool
     true
 }
 
-// Whether a number is a character.
-pub fn is_character(c: u32) -> bool
-    ensures { λ r. ⌜ r ≡ isCharacter c ⌝ }
-{
-    if 0x10FFFF < c {
-        return false;
-    }
-    if c < 0xD800 {
-        return true;
-    }
-    0xDFFF < c
-}
-
 // Whether the four numbers from a place on are characters, then padding.
 fn chars_pass(t: &[u32], at: usize) -> bool
     requires { ⌜ at + 4 ≤ length (now t) ⌝ }
@@ -68,7 +54,7 @@ fn chars_pass(t: &[u32], at: usize) -> bool
         if c == 0x110000 {
             return all_within(t, i, end - i, 0x110000, 0x110000);
         }
-        if is_character(c) {
+        if units::is_character(c) {
             i += 1;
         } else {
             return false;

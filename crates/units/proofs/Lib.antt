@@ -1,1 +1,2 @@
 pub mod CharLaws
+pub mod NumberLaws

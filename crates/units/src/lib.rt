@@ -2,6 +2,7 @@
 ghost use mathlib.Core.Path.{_≡_};
 ghost use Rattle.rules.specs.Names.{isCharacter};
 ghost use Rattle.rules.specs.Order.{goodString};
+ghost use Rattle.units.specs.Numbers.{numberOf};
 
 // The place of an order line among the used ones, from 1: what a weight is.
 pub struct Rank(pub u32);
@@ -78,4 +79,26 @@ pub fn good_string(s: &[u32]) -> bool
         }
     }
     true
+}
+
+// A refusal's number on the paper.
+pub fn number_of(r: Refusal) -> u32
+    ensures { λ n. ⌜ n ≡ numberOf r ⌝ }
+{
+    match r {
+        Refusal::TooLong => 1,
+        Refusal::BadByte => 2,
+        Refusal::Malformed => 3,
+        Refusal::BadRule => 4,
+        Refusal::Twice => 5,
+        Refusal::Unknown => 6,
+        Refusal::TooMany => 7,
+        Refusal::Unranked => 8,
+        Refusal::ShortArea => 9,
+        Refusal::ByteTwice => 10,
+        Refusal::NotAccepted => 11,
+        Refusal::BadString => 12,
+        Refusal::NoRoom => 13,
+        Refusal::NotMapped => 14,
+    }
 }

@@ -3,13 +3,13 @@ use Prim.Native.Nat.{_-_}
 use native.Mathlib.Omega.{arith}
 use borrow.Author.Needs.{needs}
 use Rattle.rules.specs.Table.{meaningIn}
-use Rattle.find.specs.Search.{keyOf}
+use Rattle.find.specs.Search.{numbersOf}
 use Rattle.find.proofs.SearchLaws.{search-some, Halving, halving-start, halving-up, halving-down, halving-end}
 use Rattle.find.proofs.first_from.Statement.{statement}
 use Rattle.find.proofs.first_from.Tie as tie
 
 abbrev Inv-loop : tie.InvT-loop
-Inv-loop t levels items key lo₀ hi₀ lo hi = Halving (meaningIn t .items) items (keyOf key) lo hi
+Inv-loop t levels items key lo₀ hi₀ lo hi = Halving (meaningIn t .items) items (numbersOf key) lo hi
 
 abbrev μ-loop : tie.MeasureT-loop
 μ-loop t levels items key lo₀ hi₀ lo hi = hi - lo

@@ -1,0 +1,9 @@
+pub mod CodesLaws
+pub mod OnesLaws
+pub mod BlankLaws
+pub mod CountLaws
+pub mod AcceptLaws
+pub mod PutLaws
+pub mod DecodeLaws
+pub mod ByteLaws
+pub mod EncodeLaws

@@ -1,0 +1,6 @@
+pub mod PutLaws
+pub mod LevelLaws
+pub mod LevelsLaws
+pub mod CodesLaws
+pub mod WidthLaws
+pub mod WholeLaws

@@ -1,0 +1,22 @@
+-- `keys::key_checked` meets its contract: an area of 4096 numbers has one for each character.
+use native.Mathlib.Omega.{arith}
+use borrow.Author.Needs.{needs}
+use Rattle.keys.proofs.WholeLaws.{area-ready}
+use Rattle.keys.proofs.key_checked.Statement.{statement}
+use Rattle.keys.proofs.key_checked.Tie as tie
+
+slice-aggregate-key-uncut : tie.Need-slice-aggregate-key-uncut
+slice-aggregate-key-uncut c = search needs
+
+key-uncut-requires : tie.Need-key-uncut-requires
+key-uncut-requires c κs = let p = c .before .before .before .before .before .pre in area-ready _ (p .0) (p .1) (omega arith)
+
+same-length : tie.Need-same-length
+same-length c = search needs
+
+returns : tie.Need-returns
+returns c = search needs
+
+pub key-checked-spec : {M : Type 1} → statement M
+key-checked-spec =
+    tie.close (tie.spec slice-aggregate-key-uncut key-uncut-requires same-length returns)

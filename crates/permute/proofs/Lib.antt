@@ -1,0 +1,5 @@
+pub mod OrderLaws
+pub mod CompareLaws
+pub mod StoredLaws
+pub mod WriteLaws
+pub mod SortedLaws

@@ -1,0 +1,54 @@
+-- No two refusals have one number, and no two signs are told alike: so an answer that is an enum is determined by what it is on the paper.
+use mathlib.Core.Path.{_≡_, refl, sym, ap, _∙_}
+use Prim.Native.Nat.{ℕ}
+use Rattle.rules.specs.Text.{if_then_else_}
+use lib.Dec.{eqb}
+use Rattle.units.specs.Numbers.{numberOf, signOf}
+use Rattle.units.specs.declared.Sign.{Sign}
+use Rattle.units.specs.declared.Sign.the-variants.{Less, Equal, Greater}
+use Rattle.units.specs.declared.Refusal.{Refusal}
+use Rattle.units.specs.declared.Refusal.the-variants.{TooLong, BadByte, Malformed, BadRule, Twice, Unknown, TooMany, Unranked, ShortArea, ByteTwice, NotAccepted, BadString, NoRoom, NotMapped}
+use Rattle.rules.specs.Order as order
+
+-- the refusal of a number
+refusalOf : ℕ → Refusal
+refusalOf n =
+    if eqb n 1 then TooLong else if eqb n 2 then BadByte else if eqb n 3 then Malformed else if eqb n 4 then BadRule
+    else if eqb n 5 then Twice else if eqb n 6 then Unknown else if eqb n 7 then TooMany else if eqb n 8 then Unranked
+    else if eqb n 9 then ShortArea else if eqb n 10 then ByteTwice else if eqb n 11 then NotAccepted else if eqb n 12 then BadString
+    else if eqb n 13 then NoRoom else NotMapped
+
+refusal-back : (r : Refusal) → refusalOf (numberOf r) ≡ r
+unfolding refusalOf
+refusal-back TooLong = refl
+refusal-back BadByte = refl
+refusal-back Malformed = refl
+refusal-back BadRule = refl
+refusal-back Twice = refl
+refusal-back Unknown = refl
+refusal-back TooMany = refl
+refusal-back Unranked = refl
+refusal-back ShortArea = refl
+refusal-back ByteTwice = refl
+refusal-back NotAccepted = refl
+refusal-back BadString = refl
+refusal-back NoRoom = refl
+refusal-back NotMapped = refl
+
+pub numberOf-unique : (r s : Refusal) → numberOf r ≡ numberOf s → r ≡ s
+numberOf-unique r s e = sym (refusal-back r) ∙ ap refusalOf e ∙ refusal-back s
+
+-- the sign of a sign on the paper
+signBack : order.Sign → Sign
+signBack order.less = Less
+signBack order.equal = Equal
+signBack order.greater = Greater
+
+sign-back : (s : Sign) → signBack (signOf s) ≡ s
+unfolding signBack
+sign-back Less = refl
+sign-back Equal = refl
+sign-back Greater = refl
+
+pub signOf-unique : (s t : Sign) → signOf s ≡ signOf t → s ≡ t
+signOf-unique s t e = sym (sign-back s) ∙ ap signBack e ∙ sign-back t
