@@ -7,3 +7,4 @@ pub mod PutLaws
 pub mod DecodeLaws
 pub mod ByteLaws
 pub mod EncodeLaws
+pub mod AnswerLaws

@@ -4,3 +4,4 @@ pub mod LevelsLaws
 pub mod CodesLaws
 pub mod WidthLaws
 pub mod WholeLaws
+pub mod AnswerLaws

@@ -10,3 +10,4 @@ pub mod ItemsLaws
 pub mod ListedLaws
 pub mod CheckLaws
 pub mod ShapeLaws
+pub mod AnswerLaws

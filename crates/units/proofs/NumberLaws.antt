@@ -1,6 +1,7 @@
 -- No two refusals have one number, and no two signs are told alike: so an answer that is an enum is determined by what it is on the paper.
 use mathlib.Core.Path.{_≡_, refl, sym, ap, _∙_}
 use Prim.Native.Nat.{ℕ}
+use native.Mathlib.Omega.{arith}
 use Rattle.rules.specs.Text.{if_then_else_}
 use lib.Dec.{eqb}
 use Rattle.units.specs.Numbers.{numberOf, signOf}
@@ -37,6 +38,23 @@ refusal-back NotMapped = refl
 
 pub numberOf-unique : (r s : Refusal) → numberOf r ≡ numberOf s → r ≡ s
 numberOf-unique r s e = sym (refusal-back r) ∙ ap refusalOf e ∙ refusal-back s
+
+-- a refusal's number is not that of none
+pub numberOf-some : (r : Refusal) → numberOf r ≡ 0 → ⊥
+numberOf-some TooLong e = omega arith
+numberOf-some BadByte e = omega arith
+numberOf-some Malformed e = omega arith
+numberOf-some BadRule e = omega arith
+numberOf-some Twice e = omega arith
+numberOf-some Unknown e = omega arith
+numberOf-some TooMany e = omega arith
+numberOf-some Unranked e = omega arith
+numberOf-some ShortArea e = omega arith
+numberOf-some ByteTwice e = omega arith
+numberOf-some NotAccepted e = omega arith
+numberOf-some BadString e = omega arith
+numberOf-some NoRoom e = omega arith
+numberOf-some NotMapped e = omega arith
 
 -- the sign of a sign on the paper
 signBack : order.Sign → Sign
