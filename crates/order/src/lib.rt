@@ -1,16 +1,16 @@
 // The public step and comparison. A comparison goes level after level, then by code points; it cuts the strings into elements as far as
 // the first level takes it, where that is walked forward.
 ghost use mathlib.Core.Path.{_≡_};
+ghost use mathlib.Core.List.{[], _∷_};
 ghost use Prim.Native.Nat.{_*_, _≤_};
 ghost use lib.ListN.{length};
-ghost use mathlib.Core.List.{[], _∷_};
 ghost use Rattle.rules.specs.Order.{signℕ, codes, answerFrom, compareOf};
 ghost use Rattle.rules.specs.Table.{meaningIn};
 ghost use Rattle.rules.specs.Calls.{stepCall, compareCall};
 ghost use Rattle.rules.proofs.PassedLaws.{withPassed};
 ghost use Rattle.units.specs.Numbers.{signOf};
-ghost use Rattle.order.specs.Answers.{answerAs, comparedAs, steppedAs};
 ghost use Rattle.elements.specs.Cuts.{Ready};
+ghost use Rattle.order.specs.Answers.{answerAs, comparedAs, steppedAs};
 ghost use Rattle.order.specs.Strings.{CodesCompared, Placed, answerOn, BothCut, Forward, Good};
 use elements::Alike;
 use elements::First;
