@@ -30,14 +30,9 @@ pub good-characters : (s : List ℕ) → goodString s ≡ true → every isChara
 unfolding goodString
 good-characters s g = and-right (leb (length s) 4096) (every isCharacter s) g
 
--- a string that is not refused, and an area with a number for each character that it may have
-pub good-ready : {t s : List ℕ} (places : List ℕ) → accepted t ≡ true → goodString s ≡ true → 4096 ≤ length places → Ready t s places
-good-ready {s = s} places h g k = record {
-  checked = h;
-  characters = good-characters s g;
-  short = goodString-length s g;
-  room = omega (arith, goodString-length s g);
-}
+-- a string that is not refused, and an area with a number for each of its characters
+pub good-ready : {t s : List ℕ} (places : List ℕ) → accepted t ≡ true → goodString s ≡ true → length s ≤ length places → Ready t s places
+good-ready {s = s} places h g k = record { checked = h; characters = good-characters s g; short = goodString-length s g; room = k }
 
 -- an area that keeps its length still has room
 pub ready-kept : {t s places : List ℕ} (after : List ℕ) → Ready t s places → length after ≡ length places → Ready t s after

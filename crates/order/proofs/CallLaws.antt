@@ -11,6 +11,7 @@ use Rattle.rules.specs.Table.{accepted, meaningIn}
 use Rattle.rules.specs.Order as order
 use Rattle.rules.specs.Order.{goodString, stepOf, compareOf}
 use Rattle.rules.specs.Calls.{noAnswer, stepCall, compareCall}
+use Rattle.rules.proofs.KeyLaws.{goodString-length}
 use Rattle.layout.specs.Parts.{ruleAs, ruleAt}
 use Rattle.layout.specs.declared.Rule.{Rule}
 use Rattle.layout.proofs.PartLaws.{table-good}
@@ -23,11 +24,17 @@ use Rattle.order.specs.Strings.{Forward, Good}
 -- ## What is ready
 
 module _ {t a b : List ℕ} (v : Good t a b) where
-  pub first-ready : (places : List ℕ) → 4096 ≤ length places → Ready t a places
+  pub first-ready : (places : List ℕ) → length a ≤ length places → Ready t a places
   first-ready places h = good-ready places (v .checked) (v .first) h
 
-  pub second-ready : (places : List ℕ) → 4096 ≤ length places → Ready t b places
+  pub second-ready : (places : List ℕ) → length b ≤ length places → Ready t b places
   second-ready places h = good-ready places (v .checked) (v .second) h
+
+  pub first-short : length a ≤ 4096
+  first-short = goodString-length a (v .first)
+
+  pub second-short : length b ≤ 4096
+  second-short = goodString-length b (v .second)
 
   pub first-level : 0 < length (meaningIn t .rules)
   first-level = omega (arith, table-good t (v .checked) .some-level)
