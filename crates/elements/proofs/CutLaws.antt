@@ -1,5 +1,6 @@
 -- Cutting a string: an element more each time, and all of them where the string ends.
 use mathlib.Core.Path.{_≡_, refl, sym, ap, _∙_}
+use mathlib.Core.Bool.{true}
 use mathlib.Core.List.{List, _∷_, append-nil}
 use Prim.Native.Nat.{ℕ, _+_, _-_, _≤_, _<_}
 use native.Mathlib.Numerals.{add-one}
@@ -8,15 +9,34 @@ use mir.Syntax.{w32}
 use mir.Val.{Fits}
 use lib.ListN.{length, take, drop, set, length-drop, drop-of-length-le}
 use lib.Seq.{drop-drop, take-suc-set, append-snoc}
+use lib.Dec.{leb}
+use Rattle.lists.proofs.Bools.{and-right}
 use Rattle.rules.specs.Meaning.{Item}
-use Rattle.rules.specs.Table.{meaningIn}
-use Rattle.rules.specs.Order.{Step, stepOf, elements}
+use Rattle.rules.specs.Text.{every}
+use Rattle.rules.specs.Names.{isCharacter}
+use Rattle.rules.specs.Table.{accepted, meaningIn}
+use Rattle.rules.specs.Order.{goodString, Step, stepOf, elements}
+use Rattle.rules.proofs.KeyLaws.{goodString-length}
 use Rattle.rules.proofs.ElementLaws.{UpTo, step-size, step-place, elements-step}
 use Rattle.layout.specs.Parts.{Within}
 use Rattle.layout.proofs.PartLaws.{table-good}
 use Rattle.find.specs.Answer.{foundAs}
 use Rattle.find.specs.declared.Found.{Found}
 use Rattle.elements.specs.Cuts.{Ready, Cut, CutOne, Split}
+
+-- ## What is ready
+
+pub good-characters : (s : List ℕ) → goodString s ≡ true → every isCharacter s ≡ true
+unfolding goodString
+good-characters s g = and-right (leb (length s) 4096) (every isCharacter s) g
+
+-- a string that is not refused, and an area with a number for each of its characters
+pub good-ready : {t s : List ℕ} (places : List ℕ) → accepted t ≡ true → goodString s ≡ true → length s ≤ length places → Ready t s places
+good-ready {s = s} places h g k = record { checked = h; characters = good-characters s g; short = goodString-length s g; room = k }
+
+-- an area that keeps its length still has room
+pub ready-kept : {t s places : List ℕ} (after : List ℕ) → Ready t s places → length after ≡ length places → Ready t s after
+ready-kept after r e = record { checked = r .checked; characters = r .characters; short = r .short; room = omega (arith, r .room) }
 
 -- ## One element
 
@@ -81,10 +101,6 @@ pub record Cutting (t s before places : List ℕ) (at many : ℕ) : Type 0 where
 
 pub cutting-none : (t s places : List ℕ) → Ready t s places → Cutting t s places places 0 0
 cutting-none t s places r = record { ready = r; cut = record { to = omega arith; fewer = omega arith; same = refl }; kept = refl }
-
--- an area that keeps its length still has room
-pub ready-kept : {t s places : List ℕ} (after : List ℕ) → Ready t s places → length after ≡ length places → Ready t s after
-ready-kept after r e = record { checked = r .checked; characters = r .characters; short = r .short; room = omega (arith, r .room) }
 
 pub cutting-more : {t s before places after : List ℕ} {at many : ℕ} {f : Found} → Cutting t s before places at many
     → length after ≡ length places → CutOne t s after at many f → Cutting t s before after (at + f .size) (many + 1)

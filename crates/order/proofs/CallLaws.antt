@@ -5,41 +5,36 @@ use mathlib.Core.List.{List}
 use Prim.Native.Nat.{ℕ, _≤_, _<_}
 use native.Mathlib.Omega.{arith}
 use lib.ListN.{length, drop, drop-of-length-le}
-use lib.Dec.{leb}
-use borrow.Author.Tests.{leb-true}
-use Rattle.lists.proofs.Bools.{and-left, and-right}
 use Rattle.rules.specs.Text.{every}
 use Rattle.rules.specs.Names.{isCharacter}
 use Rattle.rules.specs.Table.{accepted, meaningIn}
 use Rattle.rules.specs.Order as order
 use Rattle.rules.specs.Order.{goodString, stepOf, compareOf}
 use Rattle.rules.specs.Calls.{noAnswer, stepCall, compareCall}
+use Rattle.rules.proofs.KeyLaws.{goodString-length}
 use Rattle.layout.specs.Parts.{ruleAs, ruleAt}
 use Rattle.layout.specs.declared.Rule.{Rule}
 use Rattle.layout.proofs.PartLaws.{table-good}
 use Rattle.find.specs.Answer.{foundAs}
 use Rattle.find.specs.declared.Found.{Found}
 use Rattle.elements.specs.Cuts.{Ready}
+use Rattle.elements.proofs.CutLaws.{good-characters, good-ready}
 use Rattle.order.specs.Strings.{Forward, Good}
 
 -- ## What is ready
 
-pub string-characters : (s : List ℕ) → goodString s ≡ true → every isCharacter s ≡ true
-unfolding goodString
-string-characters s h = and-right (leb (length s) 4096) (every isCharacter s) h
-
-string-ready : {t s places : List ℕ} → accepted t ≡ true → goodString s ≡ true → 4096 ≤ length places → Ready t s places
-unfolding goodString
-string-ready {s = s} h g k =
-    let l : length s ≤ 4096 = leb-true (length s) 4096 (and-left (leb (length s) 4096) (every isCharacter s) g) in
-    record { checked = h; characters = string-characters s g; short = l; room = omega arith }
-
 module _ {t a b : List ℕ} (v : Good t a b) where
-  pub first-ready : (places : List ℕ) → 4096 ≤ length places → Ready t a places
-  first-ready places h = string-ready (v .checked) (v .first) h
+  pub first-ready : (places : List ℕ) → length a ≤ length places → Ready t a places
+  first-ready places h = good-ready places (v .checked) (v .first) h
 
-  pub second-ready : (places : List ℕ) → 4096 ≤ length places → Ready t b places
-  second-ready places h = string-ready (v .checked) (v .second) h
+  pub second-ready : (places : List ℕ) → length b ≤ length places → Ready t b places
+  second-ready places h = good-ready places (v .checked) (v .second) h
+
+  pub first-short : length a ≤ 4096
+  first-short = goodString-length a (v .first)
+
+  pub second-short : length b ≤ 4096
+  second-short = goodString-length b (v .second)
 
   pub first-level : 0 < length (meaningIn t .rules)
   first-level = omega (arith, table-good t (v .checked) .some-level)
@@ -97,4 +92,4 @@ module _ (t s : List ℕ) (at : ℕ) {x : Bool} (e : x ≡ accepted t) where
     step-checked = sym e ∙ h
 
     pub step-characters : y ≡ true → every isCharacter s ≡ true
-    step-characters g = string-characters s (sym f ∙ g)
+    step-characters g = good-characters s (sym f ∙ g)

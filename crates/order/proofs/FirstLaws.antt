@@ -5,7 +5,8 @@ use mathlib.Core.List.{List, _∷_}
 use Prim.Native.Nat.{ℕ, _≤_}
 use native.Mathlib.Omega.{arith}
 use native.Mathlib.Nat.{zero-add}
-use lib.ListN.{length, take, length-take}
+use lib.ListN.{length, take}
+use lib.Seq.{length-take-le}
 use Rattle.rules.specs.Table.{meaningIn}
 use Rattle.rules.specs.Order as order
 use Rattle.rules.specs.Order.{less, greater, answerFrom, compareOf}
@@ -22,7 +23,7 @@ use Rattle.order.proofs.LevelLaws.{settled-less, settled-greater, settl
 
 -- a beginning within a list has its own length
 pub count-is : (n : ℕ) (xs : List ℕ) → n ≤ length xs → n ≡ length (take n xs)
-count-is n xs h = rw (length-take n xs) (omega arith)
+count-is n xs h = sym (length-take-le n xs h)
 
 -- a string that is cut
 placed : {t s places : List ℕ} {n : ℕ} (after : List ℕ) → Ready t s places → Split t s after n → Placed t s (take n after)

@@ -1,16 +1,16 @@
 // The public step and comparison. A comparison goes level after level, then by code points; it cuts the strings into elements as far as
 // the first level takes it, where that is walked forward.
 ghost use mathlib.Core.Path.{_≡_};
+ghost use mathlib.Core.List.{[], _∷_};
 ghost use Prim.Native.Nat.{_*_, _≤_};
 ghost use lib.ListN.{length};
-ghost use mathlib.Core.List.{[], _∷_};
 ghost use Rattle.rules.specs.Order.{signℕ, codes, answerFrom, compareOf};
 ghost use Rattle.rules.specs.Table.{meaningIn};
 ghost use Rattle.rules.specs.Calls.{stepCall, compareCall};
 ghost use Rattle.rules.proofs.PassedLaws.{withPassed};
 ghost use Rattle.units.specs.Numbers.{signOf};
-ghost use Rattle.order.specs.Answers.{answerAs, comparedAs, steppedAs};
 ghost use Rattle.elements.specs.Cuts.{Ready};
+ghost use Rattle.order.specs.Answers.{answerAs, comparedAs, steppedAs};
 ghost use Rattle.order.specs.Strings.{CodesCompared, Placed, answerOn, BothCut, Forward, Good};
 use elements::Alike;
 use elements::First;
@@ -235,7 +235,7 @@ fn compare_forward(
 // The answer of two strings, with room for the places of their elements.
 fn compare_within(t: &[u32], a: &[u32], b: &[u32], first: &mut [u32], second: &mut [u32]) -> Answer
     requires { ⌜ Good (now t) (now a) (now b) ⌝ }
-    requires { ⌜ (4096 ≤ length (now first)) × (4096 ≤ length (now second)) ⌝ }
+    requires { ⌜ (length (now a) ≤ length (now first)) × (length (now b) ≤ length (now second)) ⌝ }
     ensures { λ r. ⌜ answerAs r ≡ compareOf (meaningIn (now (t .entry))) (now (a .entry)) (now (b .entry)) ⌝ }
 {
     let rule = layout::rule_of(t, 0);
@@ -245,14 +245,39 @@ fn compare_within(t: &[u32], a: &[u32], b: &[u32], first: &mut [u32], second: &m
     compare_forward(t, a, b, first, second, rule.position)
 }
 
-// The answer of two strings that are not refused.
-fn compare_good(t: &[u32], a: &[u32], b: &[u32]) -> Answer
+// The answer of two short strings, with little room to be made.
+fn compare_short(t: &[u32], a: &[u32], b: &[u32]) -> Answer
     requires { ⌜ Good (now t) (now a) (now b) ⌝ }
+    requires { ⌜ (length (now a) ≤ 128) × (length (now b) ≤ 128) ⌝ }
+    ensures { λ r. ⌜ answerAs r ≡ compareOf (meaningIn (now (t .entry))) (now (a .entry)) (now (b .entry)) ⌝ }
+{
+    let mut first = [0u32; 128];
+    let mut second = [0u32; 128];
+    compare_within(t, a, b, &mut first, &mut second)
+}
+
+// The answer of two strings, with room for the longest.
+fn compare_long(t: &[u32], a: &[u32], b: &[u32]) -> Answer
+    requires { ⌜ Good (now t) (now a) (now b) ⌝ }
+    requires { ⌜ (length (now a) ≤ 4096) × (length (now b) ≤ 4096) ⌝ }
     ensures { λ r. ⌜ answerAs r ≡ compareOf (meaningIn (now (t .entry))) (now (a .entry)) (now (b .entry)) ⌝ }
 {
     let mut first = [0u32; 4096];
     let mut second = [0u32; 4096];
     compare_within(t, a, b, &mut first, &mut second)
+}
+
+// The answer of two strings that are not refused.
+fn compare_good(t: &[u32], a: &[u32], b: &[u32]) -> Answer
+    requires { ⌜ Good (now t) (now a) (now b) ⌝ }
+    ensures { λ r. ⌜ answerAs r ≡ compareOf (meaningIn (now (t .entry))) (now (a .entry)) (now (b .entry)) ⌝ }
+{
+    if a.len() <= 128 {
+        if b.len() <= 128 {
+            return compare_short(t, a, b);
+        }
+    }
+    compare_long(t, a, b)
 }
 
 // How two strings compare, by a table: checked here, as are the strings, the first before the second. It has no `requires`.
