@@ -1,6 +1,5 @@
 // The elements of a string: cut all at once, or only as far as the first level is compared.
 ghost use mathlib.Core.Path.{_≡_};
-ghost use mathlib.Core.Bool.{cond};
 ghost use Prim.Native.Nat.{_≤_, _<_};
 ghost use lib.ListN.{length};
 ghost use Rattle.elements.specs.Cuts.{Ready, Cut, CutOne, Split};
@@ -94,16 +93,6 @@ fn start() -> Walk
     }
 }
 
-// The count of an entry, n elements without a weight having stood before it.
-fn counted(position: bool, n: usize) -> usize
-    ensures { λ r. ⌜ r ≡ cond position n 0 ⌝ }
-{
-    if position {
-        return n;
-    }
-    0
-}
-
 // The entry that begins the next element with a weight, cut from a place on, `many` elements being cut before it, the last `skipped` of
 // them without a weight.
 fn next_element(
@@ -132,7 +121,7 @@ fn next_element(
         k += 1;
         if 0 < left {
             let rank = layout::weight(t, from);
-            let count = counted(position, n);
+            let count = entries::counted(position, n);
             return Ahead::One(
                 Entry {
                     count: count,

@@ -63,7 +63,7 @@ fn place_at(places: &[u32], backward: bool, i: usize) -> usize
 }
 
 // The count of an entry, n elements without a weight having stood before it.
-fn counted(position: bool, n: usize) -> usize
+pub fn counted(position: bool, n: usize) -> usize
     ensures { λ r. ⌜ r ≡ cond position n 0 ⌝ }
 {
     if position {
