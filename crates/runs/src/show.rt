@@ -31,11 +31,15 @@ fn sign(s: Sign) {
     }
 }
 
+fn byte(b: u8) {
+    io::write_all(1, b" ");
+    io::print_hex(1, b as u64, 2);
+}
+
 fn bytes(b: &[u8]) {
     let mut i: usize = 0;
     while i < b.len() {
-        io::write_all(1, b" ");
-        io::print_hex(1, b[i] as u64, 2);
+        byte(b[i]);
         i += 1;
     }
 }
@@ -69,6 +73,13 @@ pub fn checked(name: &[u8], t: &[u32]) {
     }
 }
 
+// The check of a table's first numbers.
+pub fn checked_part(name: &[u8], t: &[u32], n: usize) {
+    if n <= t.len() {
+        checked(name, &t[0..n]);
+    }
+}
+
 // The element at a place of a string.
 pub fn stepped(name: &[u8], t: &[u32], s: &[u32], at: usize) {
     io::write_all(1, name);
@@ -89,7 +100,8 @@ pub fn compared(name: &[u8], t: &[u32], a: &[u32], b: &[u32]) {
     io::write_all(1, name);
     match order::compare(t, a, b) {
         order::Comparison::Decided(x) => {
-            sign(x.sign);
+            let s = x.sign;
+            sign(s);
             number(x.level);
             number(x.agreed);
             end_line();
@@ -106,12 +118,12 @@ pub fn keyed(name: &[u8], t: &[u32], s: &[u32], room: &mut [u8]) {
     match keys::key(t, s, room) {
         keys::Keyed::Written(n) => {
             if n <= room.len() {
-                bytes(&room[..n]);
+                bytes(&room[0..n]);
             }
             end_line();
         }
         keys::Keyed::Refused(r) => {
-            if untouched(&room[..]) {
+            if untouched(room) {
                 io::write_all(1, b" room unchanged,");
             }
             refused(r);
@@ -130,5 +142,12 @@ pub fn key_length(name: &[u8], t: &[u32], s: &[u32], room: &mut [u8]) {
         keys::Keyed::Refused(r) => {
             refused(r);
         }
+    }
+}
+
+// How long a string's key is, in the first bytes of the room lent.
+pub fn key_length_within(name: &[u8], t: &[u32], s: &[u32], room: &mut [u8], n: usize) {
+    if n <= room.len() {
+        key_length(name, t, s, &mut room[0..n]);
     }
 }
