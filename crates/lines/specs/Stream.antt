@@ -1,60 +1,110 @@
--- A line as code reads it: from a place in the source on, one mark after the other, one token after the other, with nothing kept. What is
--- still to come is the paper's own lists (Rattle.rules.specs.Lines, Tokens), seen from the middle of a line.
-use mathlib.Core.Bool.{Bool, true, false, _&&_}
-use mathlib.Core.List.{List, [], _∷_}
-use Prim.Native.Nat.{ℕ, suc, _+_}
-use lib.ListN.{drop}
-use lib.Dec.{eqb}
-use Rattle.rules.specs.Text.{if_then_else_}
+-- A line as code reads it: from a spot in the source on, one mark after the other, with nothing kept. What is still to come is the
+-- paper's own line (Rattle.rules.specs.Lines), begun in the middle.
+use mathlib.Core.Path.{_≡_}
+use mathlib.Core.Bool.{Bool, true, false}
+use mathlib.Core.List.{List, [], _∷_, _++_}
+use Prim.Native.Nat.{ℕ, _+_, _≤_, _<_}
+use lib.ListN.{length, getD, drop}
+use Rattle.rules.specs.Text.{every}
 use Rattle.rules.specs.Names.{isBlank}
-use Rattle.rules.specs.Lines.{outside, comment, after}
-use Rattle.rules.specs.Tokens.{Token, tokenAt, noPart, tokensFrom}
+use Rattle.rules.specs.Tokens.{isText}
+use Rattle.rules.specs.Lines.{outside, comment, after, Scan, lineFrom}
+use Rattle.rules.specs.Lines as paper
 use Rattle.lines.specs.declared.Signs.{Signs}
 use Rattle.lines.specs.declared.Spot.{Spot}
+use Rattle.lines.specs.declared.LineEnd.{LineEnd}
+use Rattle.lines.specs.declared.Item.{Item}
+use Rattle.lines.specs.declared.Item.the-variants as item
+use Rattle.lines.specs.declared.Step.{Step}
+use Rattle.lines.specs.declared.Step.the-variants as step
 
--- ## Marks
+-- ## What is still to come
 
--- the marks still to come in a line, from its bytes still to come, where no byte is taken as it stands and no entry ends
-unfoldable pub marksFrom : ℕ → ℕ → ℕ → Bool → Bool → List ℕ → List ℕ
-marksFrom c e mode fresh true [] = (512 + e) ∷ []
-marksFrom c e mode fresh false [] = []
-marksFrom c e mode fresh true (b ∷ bs) =
-    if eqb b 10 then marksFrom c e mode fresh false bs
-    else if eqb mode outside then (512 + b) ∷ marksFrom c e outside false false bs
-    else (256 + b) ∷ marksFrom c e mode false false bs
-marksFrom c e mode fresh false (b ∷ bs) =
-    if eqb b 10 then []
-    else if eqb mode comment then marksFrom c e comment fresh false bs
-    else if eqb b e then marksFrom c e mode fresh true bs
-    else if eqb mode outside && fresh && eqb b c then marksFrom c e comment fresh false bs
-    else b ∷ marksFrom c e (after mode b) (isBlank b) false bs
+-- the two characters in force for a line in which no byte is taken as it stands and no entry ends
+abbrev pub plainSigns : Signs → paper.Signs
+plainSigns g = record { comment = g .comment; escape = g .escape; outside = false; header = false; body = false }
 
--- how many bytes of the source the line still takes
-unfoldable pub sizeFrom : ℕ → ℕ → ℕ → Bool → Bool → List ℕ → ℕ
-sizeFrom c e mode fresh escaped [] = 0
-sizeFrom c e mode fresh true (b ∷ bs) =
-    suc
-    (if eqb b 10 then sizeFrom c e mode fresh false bs
-    else if eqb mode outside then sizeFrom c e outside false false bs
-    else sizeFrom c e mode false false bs)
-sizeFrom c e mode fresh false (b ∷ bs) =
-    suc
-    (if eqb b 10 then 0
-    else if eqb mode comment then sizeFrom c e comment fresh false bs
-    else if eqb b e then sizeFrom c e mode fresh true bs
-    else if eqb mode outside && fresh && eqb b c then sizeFrom c e comment fresh false bs
-    else sizeFrom c e (after mode b) (isBlank b) false bs)
+-- a line of which nothing is read, in a mode, at its first byte or after a blank
+abbrev pub scanAt : ℕ → Bool → Scan
+scanAt mode fresh = record { mode = mode; fresh = fresh; escaped = false; ended = false; marks = []; feeds = 0; size = 0 }
 
--- the marks still to come at a spot of a source
+-- the rest of the line from a spot of a source on
+unfoldable pub lineLeft : Signs → List ℕ → Spot → Scan
+lineLeft g src p = lineFrom (plainSigns g) (scanAt (p .mode) (p .fresh)) (drop (p .at) src)
+
+-- its marks
 abbrev pub marksLeft : Signs → List ℕ → Spot → List ℕ
-marksLeft g src p = marksFrom (g .comment) (g .escape) (p .mode) (p .fresh) false (drop (p .at) src)
+marksLeft g src p = lineLeft g src p .marks
 
--- ## Tokens
+-- the place after the line
+abbrev pub endOf : Signs → List ℕ → Spot → ℕ
+endOf g src p = p .at + lineLeft g src p .size
 
--- the tokens still to come, where none is open
-unfoldable pub tokensLeft : Signs → List ℕ → Spot → List Token
-tokensLeft g src p = tokensFrom (noPart []) (marksLeft g src p)
+-- the first spot of a line that begins at a place
+abbrev pub lineStart : ℕ → Spot
+lineStart at = record { at = at; mode = outside; fresh = true }
 
--- the token that begins at a spot
-unfoldable pub tokenThere : Signs → List ℕ → Spot → Token
-tokenThere g src p = tokenAt (tokensLeft g src p) 0
+-- ## One step
+
+-- From one spot to another of the same line the marks ms and k LFs are passed.
+pub record Passes (g : Signs) (src : List ℕ) (ms : List ℕ) (k : ℕ) (p q : Spot) : Type 0 where
+  pub marks : marksLeft g src p ≡ ms ++ marksLeft g src q
+  pub feeds : lineLeft g src p .feeds ≡ k + lineLeft g src q .feeds
+  pub end : endOf g src p ≡ endOf g src q
+  pub on : p .at < q .at
+  pub to : q .at ≤ length src
+
+-- The mark m, and the spot after it: its mode and whether a comment may open there follow from the mark. In plain mode no byte is
+-- taken as it stands.
+pub record Marks (p : Spot) (m : ℕ) (q : Spot) : Type 0 where
+  pub mode : q .mode ≡ after (p .mode) m
+  pub fresh : q .fresh ≡ isBlank m
+  pub small : m < 768
+  pub dead : p .mode ≡ outside → 256 ≤ m → 512 ≤ m
+
+-- A line that ends: the place after it, and its LFs.
+pub record Ends (g : Signs) (src : List ℕ) (p : Spot) (next feeds : ℕ) : Type 0 where
+  pub none : marksLeft g src p ≡ []
+  pub end : endOf g src p ≡ next
+  pub fed : lineLeft g src p .feeds ≡ feeds
+  pub few : feeds ≤ 1
+  pub to : next ≤ length src
+  pub on : p .at < length src → p .at < next
+
+-- what stands next at a spot
+abbrev pub ItemIs : Signs → List ℕ → Spot → Item → Type 0
+ItemIs g src p (item.Mark m q) = Passes g src (m ∷ []) 0 p q × Marks p m q
+ItemIs g src p (item.Join q) = Passes g src [] 1 p q × (q .mode ≡ p .mode) × (q .fresh ≡ p .fresh)
+ItemIs g src p (item.Hidden q) = Passes g src [] 0 p q × (q .mode ≡ comment) × (marksLeft g src p ≡ [])
+ItemIs g src p (item.End next feeds) = Ends g src p next feeds
+
+-- An escape outside comments.
+pub record EscapeAt (g : Signs) (src : List ℕ) (p : Spot) : Type 0 where
+  pub inside : p .at < length src
+  pub sign : getD src (p .at) 0 ≡ g .escape
+  pub no-feed : getD src (p .at) 0 ≡ 10 → ⊥
+  pub seen : p .mode ≡ comment → ⊥
+
+-- ## The next mark
+
+-- The next mark of the line, and the spot after it.
+pub record MarkIs (g : Signs) (src : List ℕ) (p : Spot) (m : ℕ) (q : Spot) : Type 0 where
+  pub marks : marksLeft g src p ≡ m ∷ marksLeft g src q
+  pub step : Marks p m q
+  pub on : p .at < q .at
+  pub to : q .at ≤ length src
+
+-- the next mark, or that there is none
+abbrev pub StepIs : Signs → List ℕ → Spot → Step → Type 0
+StepIs g src p (step.Mark m q) = MarkIs g src p m q
+StepIs g src p step.End = marksLeft g src p ≡ []
+
+-- ## The whole line
+
+-- From a spot on: the place after the line, its LFs, and whether each of its bytes outside comments is text (refusal 2).
+pub record LineIs (g : Signs) (src : List ℕ) (p : Spot) (r : LineEnd) : Type 0 where
+  pub end : endOf g src p ≡ r .next
+  pub feeds : lineLeft g src p .feeds ≡ r .feeds
+  pub text : every isText (marksLeft g src p) ≡ r .text
+  pub to : r .next ≤ length src
+  pub on : p .at < length src → p .at < r .next

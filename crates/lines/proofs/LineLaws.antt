@@ -1,0 +1,282 @@
+-- A line read byte by byte in the middle: what is read before does not matter for what is still to come (lineFrom-onto), and what each
+-- byte, or pair of bytes, at a spot leaves to come.
+use mathlib.Core.Path.{_≡_, refl, sym, ap, _∙_}
+use mathlib.Core.Bool.{Bool, true, false, cond, not, _&&_, and-false}
+use mathlib.Core.List.{List, [], _∷_, _++_, append-assoc}
+use Prim.Native.Nat.{ℕ, _+_, _≤_, _<_}
+use native.Mathlib.Nat.{add-suc}
+use native.Mathlib.Numerals.{add-one}
+use native.Mathlib.Omega.{arith}
+use lib.ListN.{length, getD, drop, drop-of-length-le}
+use lib.Seq.{drop-cons}
+use lib.Dec.{eqb}
+use borrow.Author.Tests.{eq-eqb, ne-eqb}
+use Rattle.lists.proofs.Bools.{by}
+use Rattle.rules.specs.Names.{isBlank}
+use Rattle.rules.specs.Lines.{outside, comment, after, Scan, dropped, fed, marked, cutShort, takesAsIs, opensComment, endsEntry, scanEscaped, scan, lineFrom}
+use Rattle.lines.specs.declared.Signs.{Signs}
+use Rattle.lines.specs.declared.Spot.{Spot}
+use Rattle.lines.specs.declared.Item.the-variants.{Mark, Join, Hidden}
+use Rattle.lines.specs.Stream.{plainSigns, scanAt, lineLeft, Passes, Marks, Ends, ItemIs, EscapeAt}
+
+-- ## What is read before
+
+-- a line with these marks, LFs and bytes before it
+abbrev pub onto : List ℕ → ℕ → ℕ → Scan → Scan
+onto ms k n s = record {
+  mode = s .mode;
+  fresh = s .fresh;
+  escaped = s .escaped;
+  ended = s .ended;
+  marks = ms ++ s .marks;
+  feeds = k + s .feeds;
+  size = n + s .size;
+}
+
+-- The second is the first with these before it.
+record Onto (ms : List ℕ) (k n : ℕ) (s t : Scan) : Type 0 where
+  is : t ≡ onto ms k n s
+
+onto-cond : {ms : List ℕ} {k n : ℕ} (t : Bool) {a b a′ b′ : Scan} → Onto ms k n a a′ → Onto ms k n b b′ → Onto ms k n (cond t a b) (cond t a′ b′)
+onto-cond true e f = e
+onto-cond false e f = f
+
+module _ (ms : List ℕ) (k n : ℕ) (s : Scan) where
+  onto-marked : (mode : ℕ) (fresh : Bool) (m : ℕ) → Onto ms k n (marked s mode fresh m) (marked (onto ms k n s) mode fresh m)
+  onto-marked mode fresh m = record { is = rw (append-assoc, add-suc n (s .size)) }
+
+  onto-dropped : (mode : ℕ) (escaped : Bool) → Onto ms k n (dropped s mode escaped) (dropped (onto ms k n s) mode escaped)
+  onto-dropped mode escaped = record { is = rw (add-suc n (s .size)) }
+
+  onto-fed : (end : Bool) → Onto ms k n (fed s end) (fed (onto ms k n s) end)
+  onto-fed end = record { is = rw (add-suc n (s .size), add-suc k (s .feeds)) }
+
+  onto-escaped : (b : ℕ) → Onto ms k n (scanEscaped s b) (scanEscaped (onto ms k n s) b)
+  unfolding scanEscaped
+  onto-escaped b =
+      onto-cond (eqb b 10) (onto-fed false)
+      (onto-cond (eqb (s .mode) outside) (onto-marked outside false (512 + b)) (onto-marked (s .mode) false (256 + b)))
+
+-- no byte is taken as it stands
+plain-as-is : (g : Signs) (s : Scan) (b : ℕ) → takesAsIs (plainSigns g) s b ≡ false
+unfolding takesAsIs
+plain-as-is g s b = and-false (eqb (s .mode) outside && s .fresh && not (isBlank b))
+
+module _ (g : Signs) (ms : List ℕ) (k n : ℕ) where
+  scan-onto : (s : Scan) (b : ℕ) → Onto ms k n (scan (plainSigns g) s b) (scan (plainSigns g) (onto ms k n s) b)
+  unfolding scan opensComment endsEntry
+  scan-onto s b =
+      rw (plain-as-is g s b, plain-as-is g (onto ms k n s) b)
+      (onto-cond (s .escaped) (onto-escaped ms k n s b)
+      (onto-cond (eqb b 10) (onto-fed ms k n s true)
+      (onto-cond (eqb (s .mode) comment) (onto-dropped ms k n s comment false)
+      (onto-cond (eqb b (g .escape)) (onto-dropped ms k n s (s .mode) true)
+      (onto-cond (eqb (s .mode) outside && s .fresh && eqb b (g .comment)) (onto-dropped ms k n s comment false)
+      (onto-marked ms k n s (after (s .mode) b) (isBlank b) b))))))
+
+  onto-cut : (s : Scan) (e : ℕ) → Onto ms k n (cutShort s e) (cutShort (onto ms k n s) e)
+  onto-cut s e = record { is = rw append-assoc }
+
+  line-onto : (s : Scan) (bs : List ℕ) → Onto ms k n (lineFrom (plainSigns g) s bs) (lineFrom (plainSigns g) (onto ms k n s) bs)
+  unfolding lineFrom
+  line-onto s [] = onto-cond (s .escaped) (onto-cut s (g .escape)) (record { is = refl })
+  line-onto s (b ∷ bs) =
+      let r = scan (plainSigns g) s b in
+      rw (scan-onto s b .is) (onto-cond (r .ended) (record { is = refl }) (line-onto r bs))
+
+  -- what is read of a line before does not matter for the rest
+  pub lineFrom-onto : (s : Scan) (bs : List ℕ) → lineFrom (plainSigns g) (onto ms k n s) bs ≡ onto ms k n (lineFrom (plainSigns g) s bs)
+  lineFrom-onto s bs = line-onto s bs .is
+
+-- ## From one spot to the next
+
+-- a spot at a place, in a mode
+abbrev pub spot : ℕ → ℕ → Bool → Spot
+spot at mode fresh = record { at = at; mode = mode; fresh = fresh }
+
+-- one byte more of a line that it does not end
+line-step : (g : Signs) (s : Scan) (b : ℕ) (bs : List ℕ) {n : Scan} → scan (plainSigns g) s b ≡ n → n .ended ≡ false
+    → lineFrom (plainSigns g) s (b ∷ bs) ≡ lineFrom (plainSigns g) n bs
+unfolding lineFrom
+line-step g s b bs e f = rw (e, f)
+
+-- in a comment no mark is left
+comment-none : (g : Signs) (fresh : Bool) (bs : List ℕ) → lineFrom (plainSigns g) (scanAt comment fresh) bs .marks ≡ []
+unfolding lineFrom scan
+comment-none g fresh [] = refl
+comment-none g fresh (b ∷ bs) =
+    by (eqb b 10) (λ t. rw t) (λ t. rw t (ap (λ (s : Scan). s .marks) (lineFrom-onto g [] 0 1 (scanAt comment fresh) bs) ∙ comment-none g fresh bs))
+
+module _ (g : Signs) (src : List ℕ) (p : Spot) where
+  -- what stands before the rest of a line is passed
+  passed : (ms : List ℕ) (k n : ℕ) (q : Spot) → lineLeft g src p ≡ onto ms k n (lineLeft g src q) → p .at + n ≡ q .at → 0 < n → q .at ≤ length src → Passes g src ms k p q
+  passed ms k n q e f h l =
+      let z : lineLeft g src p .size ≡ n + lineLeft g src q .size = ap (λ (s : Scan). s .size) e in
+      record {
+        marks = ap (λ (s : Scan). s .marks) e;
+        feeds = ap (λ (s : Scan). s .feeds) e;
+        end = omega arith;
+        on = omega arith;
+        to = l;
+      }
+
+  -- a line of which nothing but n bytes, k of them LFs, is left ends
+  ended : (k n : ℕ) {s : Scan} → k ≤ 1 → lineLeft g src p ≡ s → s .marks ≡ [] → s .feeds ≡ k → s .size ≡ n → p .at + n ≤ length src → (p .at < length src → 0 < n)
+      → Ends g src p (p .at + n) k
+  ended k n {s} few e m f z l on =
+      record {
+        none = ap (λ (s : Scan). s .marks) e ∙ m;
+        end = ap (λ (s : Scan). p .at + s .size) e ∙ ap (λ (x : ℕ). p .at + x) z;
+        fed = ap (λ (s : Scan). s .feeds) e ∙ f;
+        few = few;
+        to = l;
+        on = λ h. let o = on h in omega arith;
+      }
+
+  -- the source's end
+  pub ends-source : length src ≤ p .at → p .at ≤ length src → Ends g src p (p .at) 0
+  unfolding lineLeft lineFrom
+  ends-source h l =
+      let z : p .at + 0 ≡ p .at = omega arith in
+      rw z at (ended 0 0 {s = scanAt (p .mode) (p .fresh)} (omega arith) (rw (drop-of-length-le src h)) refl refl refl (omega arith) (λ k. omega arith))
+
+  module _ (h : p .at < length src) where
+    at-byte : drop (p .at) src ≡ getD src (p .at) 0 ∷ drop (p .at + 1) src
+    at-byte = rw (add-one, drop-cons src (p .at) 0)
+
+    -- the line's LF
+    pub ends-feed : getD src (p .at) 0 ≡ 10 → Ends g src p (p .at + 1) 1
+    unfolding lineLeft lineFrom scan
+    ends-feed t = ended 1 1 {s = fed (scanAt (p .mode) (p .fresh)) true} (omega arith) (rw (at-byte, t)) refl refl refl (omega arith) (λ k. omega arith)
+
+    module _ (f : getD src (p .at) 0 ≡ 10 → ⊥) where
+      no-feed : eqb (getD src (p .at) 0) 10 ≡ false
+      no-feed = ne-eqb (getD src (p .at) 0) 10 f
+
+      -- a byte that gives no mark, and leaves a comment
+      hides : scan (plainSigns g) (scanAt (p .mode) (p .fresh)) (getD src (p .at) 0) ≡ dropped (scanAt (p .mode) (p .fresh)) comment false
+          → ItemIs g src p (Hidden (spot (p .at + 1) 4 (p .fresh)))
+      unfolding lineLeft
+      hides e =
+          let bs = drop (p .at + 1) src in
+          let q = spot (p .at + 1) 4 (p .fresh) in
+          let l : lineLeft g src p ≡ onto [] 0 1 (lineLeft g src q) =
+          rw at-byte (line-step g (scanAt (p .mode) (p .fresh)) (getD src (p .at) 0) bs e refl ∙ lineFrom-onto g [] 0 1 (scanAt comment (p .fresh)) bs) in
+          (passed [] 0 1 q l (omega arith) (omega arith) (omega arith), refl, ap (λ (s : Scan). s .marks) l ∙ comment-none g (p .fresh) bs)
+
+      -- a byte of a comment
+      pub item-hidden : p .mode ≡ 4 → ItemIs g src p (Hidden (spot (p .at + 1) 4 (p .fresh)))
+      unfolding scan
+      item-hidden m = hides (rw (no-feed, m))
+
+      module _ (m : p .mode ≡ 4 → ⊥) where
+        seen : eqb (p .mode) comment ≡ false
+        seen = ne-eqb (p .mode) 4 m
+
+        module _ (n : getD src (p .at) 0 ≡ g .escape → ⊥) where
+          no-escape : eqb (getD src (p .at) 0) (g .escape) ≡ false
+          no-escape = ne-eqb (getD src (p .at) 0) (g .escape) n
+
+          -- the byte that opens a comment
+          pub item-opens : {t : Bool} → t ≡ (eqb (p .mode) 0 && p .fresh && eqb (getD src (p .at) 0) (g .comment)) → t ≡ true
+              → ItemIs g src p (Hidden (spot (p .at + 1) 4 (p .fresh)))
+          unfolding scan opensComment
+          item-opens e o =
+              hides (rw (plain-as-is g (scanAt (p .mode) (p .fresh)) (getD src (p .at) 0)) (simp (no-feed, seen, no-escape, sym e ∙ o)))
+
+          -- a byte that stands
+          pub item-mark : {t r : Bool} {x y : ℕ} → t ≡ (eqb (p .mode) 0 && p .fresh && eqb (getD src (p .at) 0) (g .comment)) → t ≡ false
+              → x ≡ after (p .mode) (getD src (p .at) 0) → r ≡ isBlank (getD src (p .at) 0) → y ≡ getD src (p .at) 0 → y < 256
+              → ItemIs g src p (Mark y (spot (p .at + 1) x r))
+          unfolding lineLeft scan opensComment endsEntry
+          item-mark {t} {r} {x} {y} e o a i z l =
+              let b = getD src (p .at) 0 in
+              let bs = drop (p .at + 1) src in
+              let s = scanAt (p .mode) (p .fresh) in
+              let u : scan (plainSigns g) s b ≡ marked s x r y =
+              rw (a, i, z, plain-as-is g s b) (simp (no-feed, seen, no-escape, sym e ∙ o)) in (
+                passed (y ∷ []) 0 1 (spot (p .at + 1) x r)
+                    (rw at-byte (line-step g s b bs u refl ∙ lineFrom-onto g (y ∷ []) 0 1 (scanAt x r) bs))
+                    (omega arith) (omega arith) (omega arith),
+                record { mode = rw z a; fresh = rw z i; small = omega arith; dead = λ w k. omega arith },
+              )
+
+-- ## An escape and the byte after it
+
+-- a byte after an escape changes no mode, and is no blank
+pub after-escaped : (mode m : ℕ) → 256 ≤ m → after mode m ≡ mode
+unfolding after
+after-escaped mode m h =
+    simp (ne-eqb m 60 (λ e. omega arith), ne-eqb m 34 (λ e. omega arith), ne-eqb m 62 (λ e. omega arith), and-false)
+
+pub blank-escaped : (m : ℕ) → 256 ≤ m → isBlank m ≡ false
+blank-escaped m h = simp (ne-eqb m 32 (λ e. omega arith), ne-eqb m 9 (λ e. omega arith))
+
+-- the mark of an escaped byte, in its mode
+escaped-marks : (p q : Spot) (m : ℕ) → q .mode ≡ p .mode → q .fresh ≡ false → 256 ≤ m → m < 768 → (p .mode ≡ outside → 512 ≤ m) → Marks p m q
+escaped-marks p q m e f h l d =
+    record { mode = e ∙ sym (after-escaped (p .mode) m h); fresh = f ∙ sym (blank-escaped m h); small = l; dead = λ z k. d z }
+
+module _ {g : Signs} {src : List ℕ} {p : Spot} (v : EscapeAt g src p) where
+  -- the line after an escape
+  after-escape : lineLeft g src p ≡ lineFrom (plainSigns g) (dropped (scanAt (p .mode) (p .fresh)) (p .mode) true) (drop (p .at + 1) src)
+  unfolding lineLeft scan
+  after-escape =
+      let s = scanAt (p .mode) (p .fresh) in
+      let b = getD src (p .at) 0 in
+      rw (at-byte g src p (v .inside))
+      (line-step g s b (drop (p .at + 1) src)
+      (rw (plain-as-is g s b) (simp (ne-eqb b 10 (v .no-feed), ne-eqb (p .mode) comment (v .seen), eq-eqb b (g .escape) (v .sign)))) refl)
+
+  -- the source's last byte
+  pub pair-last : {x : ℕ} → x ≡ g .escape → x < 256 → length src ≤ p .at + 1 → ItemIs g src p (Mark (512 + x) (spot (p .at + 1) (p .mode) false))
+  unfolding lineLeft lineFrom
+  pair-last {x} e l h =
+      let i = v .inside in
+      let q = spot (p .at + 1) (p .mode) false in
+      let r : lineLeft g src p ≡ onto ((512 + x) ∷ []) 0 1 (lineLeft g src q) = after-escape ∙ rw (drop-of-length-le src h, e) in (
+        passed g src p ((512 + x) ∷ []) 0 1 q r refl (omega arith) (omega arith),
+        escaped-marks p q (512 + x) refl refl (omega arith) (omega arith) (λ z. omega arith),
+      )
+
+  module _ (h : p .at + 1 < length src) where
+    two : p .at + 1 + 1 ≡ p .at + 2
+    two = omega arith
+
+    second : drop (p .at + 1) src ≡ getD src (p .at + 1) 0 ∷ drop (p .at + 2) src
+    second = rw (← two) (rw (add-one (p .at + 1), drop-cons src (p .at + 1) 0))
+
+    -- after the byte that the escape stands before
+    pair-step : (ms : List ℕ) (k : ℕ) (q : Spot) → q .at ≡ p .at + 2
+        → scanEscaped (dropped (scanAt (p .mode) (p .fresh)) (p .mode) true) (getD src (p .at + 1) 0) ≡ onto ms k 2 (scanAt (q .mode) (q .fresh))
+        → Passes g src ms k p q
+    unfolding lineLeft scan
+    pair-step ms k q a e =
+        let bs = drop (p .at + 2) src in
+        passed g src p ms k 2 q
+        (after-escape
+        ∙ rw (second, a) (line-step g (dropped (scanAt (p .mode) (p .fresh)) (p .mode) true) (getD src (p .at + 1) 0) bs e refl ∙ lineFrom-onto g ms k 2 (scanAt (q .mode) (q .fresh)) bs))
+        (omega arith) (omega arith) (omega arith)
+
+    pub pair-join : getD src (p .at + 1) 0 ≡ 10 → ItemIs g src p (Join (spot (p .at + 2) (p .mode) (p .fresh)))
+    unfolding scanEscaped
+    pair-join e = (pair-step [] 1 (spot (p .at + 2) (p .mode) (p .fresh)) refl (rw e), refl, refl)
+
+    module _ {x : ℕ} (e : x ≡ getD src (p .at + 1) 0) (l : x < 256) (n : getD src (p .at + 1) 0 ≡ 10 → ⊥) where
+      -- a pair in plain mode is dead
+      pub pair-dead : p .mode ≡ 0 → ItemIs g src p (Mark (512 + x) (spot (p .at + 2) 0 false))
+      unfolding scanEscaped
+      pair-dead m =
+          let q = spot (p .at + 2) 0 false in (
+            pair-step ((512 + x) ∷ []) 0 q refl (rw (m, e) (simp (ne-eqb (getD src (p .at + 1) 0) 10 n))),
+            escaped-marks p q (512 + x) (sym m) refl (omega arith) (omega arith) (λ z. omega arith),
+          )
+
+      -- in a name or in quotes the byte is taken
+      pub pair-in : (p .mode ≡ 0 → ⊥) → ItemIs g src p (Mark (256 + x) (spot (p .at + 2) (p .mode) false))
+      unfolding scanEscaped
+      pair-in m =
+          let q = spot (p .at + 2) (p .mode) false in (
+            pair-step ((256 + x) ∷ []) 0 q refl (rw e (simp (ne-eqb (getD src (p .at + 1) 0) 10 n, ne-eqb (p .mode) outside m))),
+            escaped-marks p q (256 + x) refl refl (omega arith) (omega arith) (λ z. absurd (m z)),
+          )
