@@ -121,14 +121,14 @@ module _ (g : Signs) (src : List ℕ) (p : Spot) where
       }
 
   -- a line of which nothing but n bytes, k of them LFs, is left ends
-  ended : (k n : ℕ) {s : Scan} → k ≤ 1 → lineLeft g src p ≡ s → s .marks ≡ [] → s .feeds ≡ k → s .size ≡ n → p .at + n ≤ length src → (p .at < length src → 0 < n)
+  ended : (k n : ℕ) {s : Scan} → k ≤ n → lineLeft g src p ≡ s → s .marks ≡ [] → s .feeds ≡ k → s .size ≡ n → p .at + n ≤ length src → (p .at < length src → 0 < n)
       → Ends g src p (p .at + n) k
   ended k n {s} few e m f z l on =
       record {
         none = ap (λ (s : Scan). s .marks) e ∙ m;
         end = ap (λ (s : Scan). p .at + s .size) e ∙ ap (λ (x : ℕ). p .at + x) z;
         fed = ap (λ (s : Scan). s .feeds) e ∙ f;
-        few = few;
+        few = omega arith;
         to = l;
         on = λ h. let o = on h in omega arith;
       }

@@ -67,7 +67,7 @@ pub record Ends (g : Signs) (src : List ℕ) (p : Spot) (next feeds : ℕ) : Typ
   pub none : marksLeft g src p ≡ []
   pub end : endOf g src p ≡ next
   pub fed : lineLeft g src p .feeds ≡ feeds
-  pub few : feeds ≤ 1
+  pub few : p .at + feeds ≤ next
   pub to : next ≤ length src
   pub on : p .at < length src → p .at < next
 
@@ -106,5 +106,6 @@ pub record LineIs (g : Signs) (src : List ℕ) (p : Spot) (r : LineEnd) : Type 0
   pub end : endOf g src p ≡ r .next
   pub feeds : lineLeft g src p .feeds ≡ r .feeds
   pub text : every isText (marksLeft g src p) ≡ r .text
+  pub few : p .at + r .feeds ≤ r .next
   pub to : r .next ≤ length src
   pub on : p .at < length src → p .at < r .next

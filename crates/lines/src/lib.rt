@@ -230,3 +230,38 @@ pub fn next_mark(src: &[u8], g: Signs, p: Spot) -> Step
         }
     }
 }
+
+// The end of a line, from a spot on.
+pub fn line_end(src: &[u8], g: Signs, p: Spot) -> LineEnd
+    requires { ⌜ p .at ≤ length (now src) ⌝ }
+    ensures { λ r. ⌜ LineIs g (now (src .entry)) p r ⌝ }
+{
+    let mut q = p;
+    let mut feeds: usize = 0;
+    let mut text = true;
+    loop {
+        let i = next_item(src, g, q);
+        match i {
+            Item::Mark(m, r) => {
+                if text {
+                    text = is_text(m);
+                }
+                q = r;
+            }
+            Item::Join(r) => {
+                feeds += 1;
+                q = r;
+            }
+            Item::Hidden(r) => {
+                q = r;
+            }
+            Item::End(next, n) => {
+                return LineEnd {
+                    next: next,
+                    feeds: feeds + n,
+                    text: text,
+                };
+            }
+        }
+    }
+}
