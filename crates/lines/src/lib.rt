@@ -1,4 +1,4 @@
-// Lines of a source, read from a place on with nothing kept: marks, tokens, words and names. For both readers of sources.
+// Lines of a source, read from a place on with nothing kept: their marks and their ends. For both readers of sources.
 ghost use mathlib.Core.Path.{_≡_};
 ghost use mathlib.Core.Bool.{_&&_};
 ghost use Prim.Native.Nat.{ℕ, _+_, _≤_, _<_};
