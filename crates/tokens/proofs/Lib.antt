@@ -1,3 +1,4 @@
 pub mod TokenLaws
 pub mod RefusalLaws
 pub mod WordLaws
+pub mod NameLaws

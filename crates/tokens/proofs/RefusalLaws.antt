@@ -7,7 +7,7 @@ use Prim.Native.Nat.{ℕ, _≤_, _<_, min}
 use native.Mathlib.Omega.{arith}
 use lib.ListN.{length}
 use lib.Dec.{eqb, leb, ltb}
-use borrow.Author.Tests.{eqb-true, eqb-false, ltb-true, ltb-false, ne-eqb, eq-eqb}
+use borrow.Author.Tests.{eqb-true, eqb-false, ltb-true, ltb-false, ne-eqb, eq-eqb, lt-ltb, le-ltb}
 use Rattle.lists.proofs.Bools.{by}
 use Rattle.rules.specs.Text.{every, _unless_, lower, lowest}
 use Rattle.rules.specs.Names.{isVisible, nameRefusal, namesRefusal}
@@ -141,3 +141,22 @@ unfolding namesRefusal lowest
 namesRefusal-snoc [] n = lower-none-right (nameRefusal n) ∙ sym (lower-none-left (nameRefusal n))
 namesRefusal-snoc (m ∷ ns) n =
     ap (λ (r : ℕ). lower (nameRefusal m) r) (namesRefusal-snoc ns n) ∙ sym (lower-assoc (nameRefusal m) (namesRefusal ns) (nameRefusal n))
+
+-- ## The lower of two, by its tests
+
+module _ {a b : ℕ} where
+  pub lower-first-none : a ≡ 0 → b ≡ lower a b
+  unfolding lower
+  lower-first-none e = rw e
+
+  pub lower-second-none : (a ≡ 0 → ⊥) → b ≡ 0 → a ≡ lower a b
+  unfolding lower
+  lower-second-none h e = rw e (simp (ne-eqb a 0 h))
+
+  pub lower-first : (a ≡ 0 → ⊥) → (b ≡ 0 → ⊥) → a < b → a ≡ lower a b
+  unfolding lower
+  lower-first h k l = simp (ne-eqb a 0 h, ne-eqb b 0 k, lt-ltb a b l)
+
+  pub lower-second : (a ≡ 0 → ⊥) → (b ≡ 0 → ⊥) → b ≤ a → b ≡ lower a b
+  unfolding lower
+  lower-second h k l = simp (ne-eqb a 0 h, ne-eqb b 0 k, le-ltb a b l)

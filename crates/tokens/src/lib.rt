@@ -142,3 +142,86 @@ pub fn word_is(src: &[u8], g: Signs, p: Spot, w: &[u8]) -> bool
         }
     }
 }
+
+// The next byte of a name.
+pub fn name_byte(src: &[u8], g: Signs, p: Spot) -> NameStep
+    requires { ⌜ p .at ≤ length (now src) ⌝ }
+    ensures { λ r. ⌜ NameStepIs g (now (src .entry)) p r ⌝ }
+{
+    let s = next_mark(src, g, p);
+    match s {
+        Step::End => return NameStep::Open,
+        Step::Mark(m, q) => {
+            if m == 62 {
+                return NameStep::Close(q);
+            }
+            return NameStep::Byte((m % 256) as u8, q);
+        }
+    }
+}
+
+// Whether a byte may stand in a name.
+fn is_visible(b: u8) -> bool
+    ensures { λ r. ⌜ r ≡ isVisible b ⌝ }
+{
+    if b < 33 {
+        return false;
+    }
+    b <= 126
+}
+
+// The refusal of a name of n bytes.
+fn name_refusal(n: usize, visible: bool) -> u8
+    ensures { λ r. ⌜ r ≡ lower (3 unless (leb 1 n && visible)) (7 unless leb n 32) ⌝ }
+{
+    if n == 0 {
+        return 3;
+    }
+    if visible {
+        if n <= 32 {
+            return 0;
+        }
+        return 7;
+    }
+    3
+}
+
+// The lower of two refusals, 0 being none.
+fn lower_of(a: u8, b: u8) -> u8
+    ensures { λ r. ⌜ r ≡ lower a b ⌝ }
+{
+    if a == 0 {
+        return b;
+    }
+    if b == 0 {
+        return a;
+    }
+    if a < b {
+        return a;
+    }
+    b
+}
+
+// The end of a name, in quotes or not, from a spot inside it.
+fn end_of_name(src: &[u8], g: Signs, p: Spot) -> Closing
+    requires { ⌜ (p .at ≤ length (now src)) × (isInside (p .mode) ≡ true) ⌝ }
+    ensures { λ r. ⌜ ClosingIs g (now (src .entry)) p r ⌝ }
+{
+    let mut q = p;
+    let mut n: usize = 0;
+    let mut visible = true;
+    loop {
+        let s = name_byte(src, g, q);
+        match s {
+            NameStep::Byte(b, r) => {
+                n += 1;
+                if visible {
+                    visible = is_visible(b);
+                }
+                q = r;
+            }
+            NameStep::Close(r) => return Closing::Closed(name_refusal(n, visible), r),
+            NameStep::Open => return Closing::Open,
+        }
+    }
+}
