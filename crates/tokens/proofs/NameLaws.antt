@@ -8,7 +8,7 @@ use lib.ListN.{length, length-append}
 use lib.Dec.{eqb, leb}
 use borrow.Author.Tests.{eq-eqb, ne-eqb, le-leb, lt-leb, eqb-true}
 use Rattle.lists.proofs.Bools.{by}
-use Rattle.rules.specs.Text.{every, oneOf, _unless_, lower}
+use Rattle.rules.specs.Text.{every, oneOf, _unless_, lower, lowest}
 use Rattle.rules.specs.Names.{isVisible, nameRefusal, namesRefusal}
 use Rattle.rules.specs.Lines.{outside, quoted, after}
 use Rattle.rules.specs.Tokens.{broken, quote, Token, token, noPart, lexed, tokensFrom, tokensRefusal}
@@ -150,3 +150,82 @@ module _ {g : Signs} {src : List ℕ} {p q : Spot} {n : ℕ} {visible : Bool} {s
 
   pub name-left-open : s ≡ Open → oneOf isClose (marksLeft g src p) ≡ false
   name-left-open e = let x : NameOpen g src q = subst (NameStepIs g src q) e w in v .closes ∙ x .closes
+
+-- ## To the end of quotes
+
+-- From p to q these names are read in quotes.
+pub record InQuotes (g : Signs) (src : List ℕ) (p q : Spot) (n r : ℕ) : Type 0 where
+  pub names : List (List ℕ)
+  pub tokens : tokensFrom (lexed [] quote [] []) (marksLeft g src p) ≡ tokensFrom (lexed [] quote [] names) (marksLeft g src q)
+  pub all : namesIn (marksLeft g src p) ≡ names ++ namesIn (marksLeft g src q)
+  pub many : length names ≡ n
+  pub refusal : namesRefusal names ≡ r
+  pub mode : q .mode ≡ quoted
+  pub from : n + p .at ≤ q .at
+  pub to : q .at ≤ length src
+
+pub quotes-none : (g : Signs) (src : List ℕ) (p : Spot) → p .at ≤ length src → p .mode ≡ quoted → InQuotes g src p p 0 0
+unfolding namesRefusal lowest
+quotes-none g src p h m =
+    record { names = []; tokens = refl; all = refl; many = refl; refusal = refl; mode = m; from = omega arith; to = h }
+
+-- a malformed token comes next
+foul : {g : Signs} {src : List ℕ} {p q : Spot} {n r : ℕ} (v : InQuotes g src p q n r) {ms : List ℕ} {ts : List Token} → marksLeft g src q ≡ ms
+    → tokensFrom (lexed [] quote [] (v .names)) ms ≡ token broken [] [] ∷ ts → tokensRefusal (tokensFrom (lexed [] quote [] []) (marksLeft g src p)) ≡ 3
+foul v {ts = ts} z e = rw (v .tokens, z, e) (refusal-broken (token broken [] []) ts refl)
+
+module _ {g : Signs} {src : List ℕ} {p q : Spot} {n r : ℕ} {s : Step} (v : InQuotes g src p q n r) (w : StepIs g src q s) where
+  pub quotes-open : s ≡ step.End → tokensRefusal (tokensFrom (lexed [] quote [] []) (marksLeft g src p)) ≡ 3
+  quotes-open e = let z : marksLeft g src q ≡ [] = subst (StepIs g src q) e w in foul v z (quote-open (v .names))
+
+  module _ {m : ℕ} {x : Spot} (e : s ≡ step.Mark m x) where
+    next : MarkIs g src q m x
+    next = subst (StepIs g src q) e w
+
+    pub quotes-end : m ≡ 34 → QuotesEnd g src p n r x
+    unfolding tokensLeft after
+    quotes-end h =
+        let a : namesIn (marksLeft g src p) ≡ v .names = v .all ∙ rw (next .marks, namesIn-close m (marksLeft g src x) h, append-nil) in
+        record {
+          token = v .tokens ∙ rw (next .marks, quote-close (v .names) m (marksLeft g src x) h, a);
+          many = rw a (v .many);
+          refusal = rw a (v .refusal);
+          mode = next .step .mode ∙ rw (v .mode, h);
+          on = omega (arith, v .from, next .on);
+          to = next .to;
+        }
+
+    pub quotes-foul : (m ≡ 34 → ⊥) → (m ≡ 60 → ⊥) → tokensRefusal (tokensFrom (lexed [] quote [] []) (marksLeft g src p)) ≡ 3
+    quotes-foul h k = foul v (next .marks) (quote-foul (v .names) m (marksLeft g src x) h k)
+
+    module _ (h : m ≡ 60) where
+      pub quotes-inside : (x .at ≤ length src) × (isInside (x .mode) ≡ true)
+      unfolding after
+      quotes-inside = (next .to, rw (next .step .mode, v .mode, h))
+
+      module _ {c : Closing} (k : ClosingIs g src x c) where
+        pub quotes-name-open : c ≡ closing.Open → tokensRefusal (tokensFrom (lexed [] quote [] []) (marksLeft g src p)) ≡ 3
+        quotes-name-open f =
+            let z : oneOf isClose (marksLeft g src x) ≡ false = subst (ClosingIs g src x) f k in
+            foul v (next .marks) (quote-name-open (v .names) m (marksLeft g src x) h z)
+
+        pub quotes-less : {f : ℕ} {y : Spot} → c ≡ closing.Closed f y → length src - y .at < length src - q .at
+        quotes-less {f} {y} i =
+            let z : NameEnds g src x f y = subst (ClosingIs g src x) i k in
+            omega (arith, next .on, z .on, z .to)
+
+        pub quotes-more : {f t : ℕ} {y : Spot} → c ≡ closing.Closed f y → t ≡ lower r f → InQuotes g src p y (n + 1) t
+        unfolding after
+        quotes-more {f} {t} {y} i l =
+            let z : NameEnds g src x f y = subst (ClosingIs g src x) i k in
+            let name = nameIn (marksLeft g src x) in
+            record {
+              names = v .names ++ name ∷ [];
+              tokens = v .tokens ∙ rw (next .marks, quote-name (v .names) m (marksLeft g src x) h (z .closes), z .after);
+              all = v .all ∙ rw (next .marks, namesIn-name m (marksLeft g src x) h, z .after) (sym (append-assoc (v .names) (name ∷ []) (namesIn (marksLeft g src y))));
+              many = length-append (v .names) (name ∷ []) ∙ rw (v .many);
+              refusal = namesRefusal-snoc (v .names) name ∙ rw (v .refusal, z .refusal) (sym l);
+              mode = z .mode ∙ rw (next .step .mode, v .mode, h);
+              from = omega (arith, v .from, next .on, z .on);
+              to = z .to;
+            }

@@ -225,3 +225,37 @@ fn end_of_name(src: &[u8], g: Signs, p: Spot) -> Closing
         }
     }
 }
+
+// The end of quotes, from the spot after the opening `"`.
+fn end_of_quotes(src: &[u8], g: Signs, p: Spot) -> Quotes
+    requires { ⌜ (p .at ≤ length (now src)) × (p .mode ≡ quoted) ⌝ }
+    ensures { λ r. ⌜ QuotesIs g (now (src .entry)) p r ⌝ }
+{
+    let mut q = p;
+    let mut n: usize = 0;
+    let mut refusal: u8 = 0;
+    loop {
+        let s = next_mark(src, g, q);
+        match s {
+            Step::End => return Quotes::Broken,
+            Step::Mark(m, r) => {
+                if m == 34 {
+                    return Quotes::Closed(n, refusal, r);
+                }
+                if m == 60 {
+                    let c = end_of_name(src, g, r);
+                    match c {
+                        Closing::Closed(f, e) => {
+                            refusal = lower_of(refusal, f);
+                            n += 1;
+                            q = e;
+                        }
+                        Closing::Open => return Quotes::Broken,
+                    }
+                } else {
+                    return Quotes::Broken;
+                }
+            }
+        }
+    }
+}
