@@ -2,3 +2,4 @@ pub mod TokenLaws
 pub mod RefusalLaws
 pub mod WordLaws
 pub mod NameLaws
+pub mod NextLaws

@@ -117,6 +117,10 @@ refusal-broken t ts e =
     (late-lower (namesRefusal (t .names)) (lower (tokensRefusal ts) 0) (late-lowest (map nameRefusal (t .names)) (late-names (t .names)))
     (late-lower (tokensRefusal ts) 0 (late-tokens ts) (inl refl))))
 
+-- 3 is the lowest that tokens give
+pub three-first : (ts : List Token) → lower 3 (tokensRefusal ts) ≡ 3
+three-first ts = three-left (tokensRefusal ts) (late-tokens ts)
+
 -- a malformed token further on
 pub refusal-later : (t : Token) (ts : List Token) → tokensRefusal ts ≡ 3 → tokensRefusal (t ∷ ts) ≡ 3
 refusal-later t ts e = tokensRefusal-cons t ts ∙ rw e (three-right (tokensRefusal (t ∷ [])) (late-tokens (t ∷ [])))

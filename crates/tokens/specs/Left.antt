@@ -173,6 +173,10 @@ QuotesIs g src p quotes.Broken = tokensRefusal (tokensFrom (lexed [] quote [] []
 
 -- ## What the reader of tokens gives
 
+-- a token that is no more than its kind
+abbrev pub bareAt : ℕ → Spot → Tok
+bareAt kind next = record { kind = kind; next = next; inside = next; names = 0; refusal = 0; byte = 0 }
+
 -- A token and the spot after it. Of a word and of what a name or quotes hold the bytes are read from the spot itself, or from the spot
 -- after the first mark.
 pub record TokenIs (g : Signs) (src : List ℕ) (p : Spot) (t : Tok) : Type 0 where

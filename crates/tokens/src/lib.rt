@@ -9,7 +9,7 @@ ghost use Rattle.rules.specs.Names.{isVisible};
 ghost use Rattle.rules.specs.Tokens.{inWord};
 ghost use Rattle.rules.specs.Lines.{outside, quoted};
 ghost use Rattle.lines.specs.Stream.{marksLeft};
-ghost use Rattle.tokens.specs.Left.{wordIn, isInside, WordStepIs, WordEnds, NameStepIs, ClosingIs, QuotesIs, NextIs, Skips};
+ghost use Rattle.tokens.specs.Left.{wordIn, isInside, WordStepIs, WordEnds, NameStepIs, ClosingIs, QuotesIs, bareAt, NextIs, Skips};
 use lines::Signs;
 use lines::Spot;
 use lines::Step;
@@ -256,6 +256,91 @@ fn end_of_quotes(src: &[u8], g: Signs, p: Spot) -> Quotes
                     return Quotes::Broken;
                 }
             }
+        }
+    }
+}
+
+// A token that is no more than its kind, and ends at a spot.
+fn bare(kind: u8, next: Spot) -> Tok
+    ensures { λ r. ⌜ r ≡ bareAt kind next ⌝ }
+{
+    Tok {
+        kind: kind,
+        next: next,
+        inside: next,
+        names: 0,
+        refusal: 0,
+        byte: 0,
+    }
+}
+
+// The next token of a line, at a spot where none is open.
+pub fn next_token(src: &[u8], g: Signs, p: Spot) -> Next
+    requires { ⌜ (p .at ≤ length (now src)) × (p .mode ≡ outside) ⌝ }
+    ensures { λ r. ⌜ NextIs g (now (src .entry)) p r ⌝ }
+{
+    let s = next_mark(src, g, p);
+    match s {
+        Step::End => return Next::End,
+        Step::Mark(m, q) => {
+            if m == 60 {
+                let c = end_of_name(src, g, q);
+                match c {
+                    Closing::Closed(f, r) => {
+                        return Next::Token(Tok {
+                            kind: 5,
+                            next: r,
+                            inside: q,
+                            names: 1,
+                            refusal: f,
+                            byte: 0,
+                        });
+                    }
+                    Closing::Open => return Next::Broken,
+                }
+            }
+            if m == 34 {
+                let c = end_of_quotes(src, g, q);
+                match c {
+                    Quotes::Closed(n, f, r) => {
+                        if n == 0 {
+                            return Next::Broken;
+                        }
+                        return Next::Token(Tok {
+                            kind: 6,
+                            next: r,
+                            inside: q,
+                            names: n,
+                            refusal: f,
+                            byte: 0,
+                        });
+                    }
+                    Quotes::Broken => return Next::Broken,
+                }
+            }
+            if m >= 256 {
+                return Next::Token(Tok {
+                    kind: 3,
+                    next: q,
+                    inside: q,
+                    names: 0,
+                    refusal: 3,
+                    byte: (m - 512) as u8,
+                });
+            }
+            if m == 59 {
+                return Next::Token(bare(1, q));
+            }
+            if m == 44 {
+                return Next::Token(bare(2, q));
+            }
+            if m == 32 {
+                return Next::Token(bare(0, q));
+            }
+            if m == 9 {
+                return Next::Token(bare(0, q));
+            }
+            return Next::Token(bare(4, end_of_word(src, g, q)));
         }
     }
 }
