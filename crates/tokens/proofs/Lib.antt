@@ -3,3 +3,4 @@ pub mod RefusalLaws
 pub mod WordLaws
 pub mod NameLaws
 pub mod NextLaws
+pub mod GapLaws

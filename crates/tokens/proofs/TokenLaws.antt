@@ -81,6 +81,10 @@ tokensFrom-out o p t ns ms = rw append-nil at (tokensFrom-behind o (lexed [] p t
 
 -- ## A mark where no token is open
 
+pub tokensFrom-none : tokensFrom (noPart []) [] ≡ []
+unfolding tokensFrom lexEnd
+tokensFrom-none = refl
+
 -- the tokens from a mark on, where none is open
 none-first : (m : ℕ) (ms : List ℕ) → tokensFrom (noPart []) (m ∷ ms) ≡ tokensFrom (lexNone [] m) ms
 unfolding tokensFrom lex
@@ -115,9 +119,15 @@ module _ (m : ℕ) (ms : List ℕ) where
   unfolding lexNone
   first-dead h =
       token-first (token broken ((m - 512) ∷ []) []) m ms
-      (simp
-      (ne-eqb m 32 (λ e. omega arith), ne-eqb m 9 (λ e. omega arith), ne-eqb m 59 (λ e. omega arith), ne-eqb m 44 (λ e. omega arith)
-      , ne-eqb m 60 (λ e. omega arith), ne-eqb m 34 (λ e. omega arith), le-leb 512 m h))
+      (simp (
+        ne-eqb m 32 (λ e. omega arith),
+        ne-eqb m 9 (λ e. omega arith),
+        ne-eqb m 59 (λ e. omega arith),
+        ne-eqb m 44 (λ e. omega arith),
+        ne-eqb m 60 (λ e. omega arith),
+        ne-eqb m 34 (λ e. omega arith),
+        le-leb 512 m h,
+      ))
 
 -- ## Words
 
@@ -129,9 +139,14 @@ none-of a b c d e f h =
     let h₄ = or-false-left (a || b || c || d || e) f h₅ in
     let h₃ = or-false-left (a || b || c || d) e h₄ in
     let h₂ = or-false-left (a || b || c) d h₃ in
-    let h₁ = or-false-left (a || b) c h₂ in
-    (or-false-left a b h₁, or-false-right a b h₁, or-false-right (a || b) c h₂, or-false-right (a || b || c) d h₃
-    , or-false-right (a || b || c || d) e h₄, or-false-right (a || b || c || d || e) f h₅)
+    let h₁ = or-false-left (a || b) c h₂ in (
+      or-false-left a b h₁,
+      or-false-right a b h₁,
+      or-false-right (a || b) c h₂,
+      or-false-right (a || b || c) d h₃,
+      or-false-right (a || b || c || d) e h₄,
+      or-false-right (a || b || c || d || e) f h₅,
+    )
 
 -- What a mark of a word is not.
 pub record WordMark (m : ℕ) : Type 0 where

@@ -344,3 +344,28 @@ pub fn next_token(src: &[u8], g: Signs, p: Spot) -> Next
         }
     }
 }
+
+// The spot after the blanks that come next.
+pub fn skip_gaps(src: &[u8], g: Signs, p: Spot) -> Spot
+    requires { ⌜ (p .at ≤ length (now src)) × (p .mode ≡ outside) ⌝ }
+    ensures { λ r. ⌜ Skips g (now (src .entry)) p r ⌝ }
+{
+    let mut q = p;
+    loop {
+        let s = next_mark(src, g, q);
+        match s {
+            Step::End => return q,
+            Step::Mark(m, r) => {
+                if m == 32 {
+                    q = r;
+                } else {
+                    if m == 9 {
+                        q = r;
+                    } else {
+                        return q;
+                    }
+                }
+            }
+        }
+    }
+}

@@ -3,14 +3,8 @@ use Rattle.tokens.proofs.NameLaws.{InName, name-none, name-less, name-m
 use Prim.Native.Nat.{_-_}
 use lib.ListN.{length}
 use borrow.Author.Needs.{needs}
-use native.Mathlib.Omega.{arith}
 use Rattle.tokens.proofs.end_of_name.Statement.{statement}
 use Rattle.tokens.proofs.end_of_name.Tie as tie
-use Rattle.tokens.proofs.end_of_name.Reads as reads
-use Rattle.tokens.proofs.end_of_name.Lts as lts
-use Rattle.tokens.proofs.is_visible.Reads as is-visible-reads
-use Rattle.tokens.proofs.name_byte.Reads as name-byte-reads
-use Rattle.tokens.proofs.name_refusal.Reads as name-refusal-reads
 
 abbrev Inv-loop : tie.InvT-loop
 Inv-loop src g q₀ n₀ visible₀ q n visible = InName g src q₀ q n visible
@@ -18,59 +12,45 @@ Inv-loop src g q₀ n₀ visible₀ q n visible = InName g src q₀ q n visible
 abbrev μ-loop : tie.MeasureT-loop
 μ-loop src g q₀ n₀ visible₀ q n visible = length src - q .at
 
--- src/lib.rt:213:5
 loop-holds : tie.Need-loop-holds Inv-loop μ-loop
 loop-holds c = search name-none
 
--- src/lib.rt:214:13
 name-byte-requires : tie.Need-name-byte-requires Inv-loop μ-loop
 name-byte-requires c κs = search needs
 
--- src/lib.rt:216:28
 enum-known-s : tie.Need-enum-known-s Inv-loop μ-loop
 enum-known-s c = search needs
 
--- src/lib.rt:217:17
 add-n : tie.Need-add-n Inv-loop μ-loop
 add-n c = search needs
 
--- src/lib.rt:219:21
 is-visible-requires : tie.Need-is-visible-requires Inv-loop μ-loop
 is-visible-requires c κs = search needs
 
--- src/lib.rt:213:5
 loop-less : tie.Need-loop-less Inv-loop μ-loop
 loop-less c = search name-less
 
--- src/lib.rt:213:5
 loop-again : tie.Need-loop-again Inv-loop μ-loop
 loop-again c = search name-more
 
--- src/lib.rt:213:5
 loop-less-2 : tie.Need-loop-less-2 Inv-loop μ-loop
 loop-less-2 c = search name-less
 
--- src/lib.rt:213:5
 loop-again-2 : tie.Need-loop-again-2 Inv-loop μ-loop
 loop-again-2 c = search name-foul
 
--- src/lib.rt:223:29
 enum-known-s-2 : tie.Need-enum-known-s-2 Inv-loop μ-loop
 enum-known-s-2 c = search needs
 
--- src/lib.rt:223:58
 name-refusal-requires : tie.Need-name-refusal-requires Inv-loop μ-loop
 name-refusal-requires c κs = search needs
 
--- src/lib.rt:223:35
 returns : tie.Need-returns Inv-loop μ-loop
 returns c = search name-ends
 
--- src/lib.rt:224:31
 enum-told : tie.Need-enum-told Inv-loop μ-loop
 enum-told c = search needs
 
--- src/lib.rt:224:31
 returns-2 : tie.Need-returns-2 Inv-loop μ-loop
 returns-2 c = search name-left-open
 

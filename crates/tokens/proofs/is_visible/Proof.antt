@@ -1,17 +1,11 @@
 -- `tokens::is_visible` meets its contract, by the two tests.
 use borrow.Author.Tests.{le-leb, lt-leb}
-use borrow.Author.Needs.{needs}
-use native.Mathlib.Omega.{arith}
 use Rattle.tokens.proofs.is_visible.Statement.{statement}
 use Rattle.tokens.proofs.is_visible.Tie as tie
-use Rattle.tokens.proofs.is_visible.Reads as reads
-use Rattle.tokens.proofs.is_visible.Lts as lts
 
--- src/lib.rt:168:9
 returns : tie.Need-returns
 returns c = simp (lt-leb 33 _ (c .if1 .taken))
 
--- src/lib.rt:164:1
 returns-2 : tie.Need-returns-2
 returns-2 c = simp (le-leb 33 _ (c .if1 .left))
 

@@ -1,25 +1,17 @@
 -- `tokens::lower_of` meets its contract: a law for each way.
 use Rattle.tokens.proofs.RefusalLaws.{lower-first-none, lower-second-none, lower-first, lower-second}
-use borrow.Author.Needs.{needs}
-use native.Mathlib.Omega.{arith}
 use Rattle.tokens.proofs.lower_of.Statement.{statement}
 use Rattle.tokens.proofs.lower_of.Tie as tie
-use Rattle.tokens.proofs.lower_of.Reads as reads
-use Rattle.tokens.proofs.lower_of.Lts as lts
 
--- src/lib.rt:194:9
 returns : tie.Need-returns
 returns c = search lower-first-none
 
--- src/lib.rt:197:9
 returns-2 : tie.Need-returns-2
 returns-2 c = search lower-second-none
 
--- src/lib.rt:200:9
 returns-3 : tie.Need-returns-3
 returns-3 c = search lower-first
 
--- src/lib.rt:190:1
 returns-4 : tie.Need-returns-4
 returns-4 c = search lower-second
 

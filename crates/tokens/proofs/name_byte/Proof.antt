@@ -1,38 +1,27 @@
 -- `tokens::name_byte` meets its contract: a law for each way.
 use Rattle.tokens.proofs.NameLaws.{name-open-here, name-close-here, name-byte-here}
-use native.Mathlib.Omega.{arith}
 use borrow.Author.Needs.{needs}
 use Rattle.tokens.proofs.name_byte.Statement.{statement}
 use Rattle.tokens.proofs.name_byte.Tie as tie
-use Rattle.tokens.proofs.name_byte.Reads as reads
-use Rattle.tokens.proofs.name_byte.Lts as lts
-use Rattle.lines.proofs.next_mark.Reads as next-mark-reads
 
--- src/lib.rt:151:9
 next-mark-requires : tie.Need-next-mark-requires
 next-mark-requires c κs = search needs
 
--- src/lib.rt:153:22
 enum-told : tie.Need-enum-told
 enum-told c = search needs
 
--- src/lib.rt:153:22
 returns : tie.Need-returns
 returns c = search name-open-here
 
--- src/lib.rt:154:20
 enum-known-s : tie.Need-enum-known-s
 enum-known-s c = search needs
 
--- src/lib.rt:156:17
 returns-2 : tie.Need-returns-2
 returns-2 c = search name-close-here
 
--- src/lib.rt:158:35
 cast-t9 : tie.Need-cast-t9
 cast-t9 c = search needs
 
--- src/lib.rt:158:13
 returns-3 : tie.Need-returns-3
 returns-3 c = search name-byte-here
 

@@ -1,141 +1,106 @@
 -- `tokens::next_token` meets its contract: a law for each kind of token.
 use Rattle.tokens.proofs.NextLaws.{next-end, next-semi, next-comma, next-space, next-tab, next-dead, dead-byte, next-word-plain, next-word, next-name-inside, next-name-open, next-name, next-quote-inside, next-quote-broken, next-quote-empty, next-quote}
-use native.Mathlib.Omega.{arith}
 use borrow.Author.Needs.{needs}
 use Rattle.tokens.proofs.next_token.Statement.{statement}
 use Rattle.tokens.proofs.next_token.Tie as tie
-use Rattle.tokens.proofs.next_token.Reads as reads
-use Rattle.tokens.proofs.next_token.Lts as lts
-use Rattle.lines.proofs.next_mark.Reads as next-mark-reads
-use Rattle.tokens.proofs.bare.Reads as bare-reads
-use Rattle.tokens.proofs.end_of_name.Reads as end-of-name-reads
-use Rattle.tokens.proofs.end_of_quotes.Reads as end-of-quotes-reads
-use Rattle.tokens.proofs.end_of_word.Reads as end-of-word-reads
 
--- src/lib.rt:282:9
 next-mark-requires : tie.Need-next-mark-requires
 next-mark-requires c κs = search needs
 
--- src/lib.rt:284:22
 enum-told : tie.Need-enum-told
 enum-told c = search needs
 
--- src/lib.rt:284:22
 returns : tie.Need-returns
 returns c = search next-end
 
--- src/lib.rt:285:20
 enum-known-s : tie.Need-enum-known-s
 enum-known-s c = search needs
 
--- src/lib.rt:287:21
 end-of-name-requires : tie.Need-end-of-name-requires
 end-of-name-requires c κs = let n = c .before .before .before .before in let a = n .before .before in
     next-name-inside (a .args .g) (a .args .src .now) (a .args .p) {s = n .next-mark .result} (a .pre .1) (n .next-mark .ensures)
     (c .before .before .s .given .1) (c .if1 .taken)
 
--- src/lib.rt:289:37
 enum-known-c : tie.Need-enum-known-c
 enum-known-c c = search needs
 
--- src/lib.rt:290:25
 returns-2 : tie.Need-returns-2
 returns-2 c = search next-name
 
--- src/lib.rt:299:38
 enum-told-2 : tie.Need-enum-told-2
 enum-told-2 c = search needs
 
--- src/lib.rt:299:38
 returns-3 : tie.Need-returns-3
 returns-3 c = search next-name-open
 
--- src/lib.rt:303:21
 end-of-quotes-requires : tie.Need-end-of-quotes-requires
 end-of-quotes-requires c κs = let n = c .before .before .before .before .before in let a = n .before .before in
     next-quote-inside (a .args .g) (a .args .src .now) (a .args .p) {s = n .next-mark .result} (a .pre .1) (n .next-mark .ensures)
     (c .before .before .before .s .given .1) (c .if2 .taken)
 
--- src/lib.rt:305:36
 enum-known-c-2 : tie.Need-enum-known-c-2
 enum-known-c-2 c = search needs
 
--- src/lib.rt:307:29
 returns-4 : tie.Need-returns-4
 returns-4 c = search next-quote-empty
 
--- src/lib.rt:309:25
 returns-5 : tie.Need-returns-5
 returns-5 c = search next-quote
 
--- src/lib.rt:318:39
 enum-told-3 : tie.Need-enum-told-3
 enum-told-3 c = search needs
 
--- src/lib.rt:318:39
 returns-6 : tie.Need-returns-6
 returns-6 c = search next-quote-broken
 
--- src/lib.rt:328:28
 sub-t18 : tie.Need-sub-t18
 sub-t18 c = let n = c .before .before .before .before .before .before in let a = n .before .before in
     dead-byte (a .args .g) (a .args .src .now) (a .args .p) {s = n .next-mark .result} (a .pre .1) (n .next-mark .ensures)
     (c .before .before .before .before .s .given .1) (c .if4 .taken) .0
 
--- src/lib.rt:328:27
 cast-t19 : tie.Need-cast-t19
-cast-t19 c = record { fits = let n = c .before .before .before .before .before .before in let a = n .before .before in
-    dead-byte (a .args .g) (a .args .src .now) (a .args .p) {s = n .next-mark .result} (a .pre .1) (n .next-mark .ensures)
-    (c .before .before .before .before .s .given .1) (c .if4 .taken) .1 }
+cast-t19 c = record {
+  fits = let n = c .before .before .before .before .before .before in let a = n .before .before in
+      dead-byte (a .args .g) (a .args .src .now) (a .args .p) {s = n .next-mark .result} (a .pre .1) (n .next-mark .ensures)
+      (c .before .before .before .before .s .given .1) (c .if4 .taken) .1;
+}
 
--- src/lib.rt:322:17
 returns-7 : tie.Need-returns-7
 returns-7 c = search next-dead
 
--- src/lib.rt:332:36
 bare-requires : tie.Need-bare-requires
 bare-requires c κs = search needs
 
--- src/lib.rt:332:17
 returns-8 : tie.Need-returns-8
 returns-8 c = search next-semi
 
--- src/lib.rt:335:36
 bare-requires-2 : tie.Need-bare-requires-2
 bare-requires-2 c κs = search needs
 
--- src/lib.rt:335:17
 returns-9 : tie.Need-returns-9
 returns-9 c = search next-comma
 
--- src/lib.rt:338:36
 bare-requires-3 : tie.Need-bare-requires-3
 bare-requires-3 c κs = search needs
 
--- src/lib.rt:338:17
 returns-10 : tie.Need-returns-10
 returns-10 c = search next-space
 
--- src/lib.rt:341:36
 bare-requires-4 : tie.Need-bare-requires-4
 bare-requires-4 c κs = search needs
 
--- src/lib.rt:341:17
 returns-11 : tie.Need-returns-11
 returns-11 c = search next-tab
 
--- src/lib.rt:343:40
 end-of-word-requires : tie.Need-end-of-word-requires
 end-of-word-requires c κs = let n = c .before .before .before .before .before .before .before .before .before .before in let a = n .before .before in
     next-word-plain (a .args .g) (a .args .src .now) (a .args .p) {s = n .next-mark .result} (a .pre .1) (n .next-mark .ensures)
     (c .before .before .before .before .before .before .before .before .s .given .1) (c .before .before .before .before .if4 .left) (c .before .if7 .left) (c .if8 .left) (c .before .before .before .if5 .left)
     (c .before .before .if6 .left) (c .before .before .before .before .before .before .if1 .left) (c .before .before .before .before .before .if2 .left)
 
--- src/lib.rt:343:32
 bare-requires-5 : tie.Need-bare-requires-5
 bare-requires-5 c κs = search needs
 
--- src/lib.rt:343:13
 returns-12 : tie.Need-returns-12
 returns-12 c = search next-word
 

@@ -3,12 +3,8 @@ use Rattle.tokens.proofs.WordLaws.{Alike, alike-none, alike-end, alike-
 use Prim.Native.Nat.{_-_}
 use lib.ListN.{length}
 use borrow.Author.Needs.{needs}
-use native.Mathlib.Omega.{arith}
 use Rattle.tokens.proofs.word_is.Statement.{statement}
 use Rattle.tokens.proofs.word_is.Tie as tie
-use Rattle.tokens.proofs.word_is.Reads as reads
-use Rattle.tokens.proofs.word_is.Lts as lts
-use Rattle.tokens.proofs.word_byte.Reads as word-byte-reads
 
 abbrev Inv-loop : tie.InvT-loop
 Inv-loop src g w q₀ i₀ q i = Alike g src w q₀ q i
@@ -16,47 +12,36 @@ Inv-loop src g w q₀ i₀ q i = Alike g src w q₀ q i
 abbrev μ-loop : tie.MeasureT-loop
 μ-loop src g w q₀ i₀ q i = length src - q .at
 
--- src/lib.rt:126:5
 loop-holds : tie.Need-loop-holds Inv-loop μ-loop
 loop-holds c = search alike-none
 
--- src/lib.rt:127:13
 word-byte-requires : tie.Need-word-byte-requires Inv-loop μ-loop
 word-byte-requires c κs = search needs
 
--- src/lib.rt:129:28
 enum-known-s : tie.Need-enum-known-s Inv-loop μ-loop
 enum-known-s c = search needs
 
--- src/lib.rt:131:29
 shared-slice-read-if2 : tie.Need-shared-slice-read-if2 Inv-loop μ-loop
 shared-slice-read-if2 c = search needs
 
--- src/lib.rt:132:25
 add-i : tie.Need-add-i Inv-loop μ-loop
 add-i c = search needs
 
--- src/lib.rt:126:5
 loop-less : tie.Need-loop-less Inv-loop μ-loop
 loop-less c = search word-less
 
--- src/lib.rt:126:5
 loop-again : tie.Need-loop-again Inv-loop μ-loop
 loop-again c = search alike-more
 
--- src/lib.rt:135:25
 returns : tie.Need-returns Inv-loop μ-loop
 returns c = search alike-not
 
--- src/lib.rt:138:21
 returns-2 : tie.Need-returns-2 Inv-loop μ-loop
 returns-2 c = search alike-long
 
--- src/lib.rt:141:42
 enum-told : tie.Need-enum-told Inv-loop μ-loop
 enum-told c = search needs
 
--- src/lib.rt:141:30
 returns-3 : tie.Need-returns-3 Inv-loop μ-loop
 returns-3 c = search alike-end
 
