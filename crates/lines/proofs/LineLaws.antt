@@ -2,9 +2,9 @@
 -- byte, or pair of bytes, at a spot leaves to come.
 use mathlib.Core.Path.{_≡_, refl, sym, ap, _∙_}
 use mathlib.Core.Bool.{Bool, true, false, cond, not, _&&_, and-false}
-use mathlib.Core.List.{List, [], _∷_, _++_, append-assoc}
+use mathlib.Core.List.{List, [], _∷_, _++_, append-assoc, append-nil}
 use Prim.Native.Nat.{ℕ, _+_, _≤_, _<_}
-use native.Mathlib.Nat.{add-suc}
+use native.Mathlib.Nat.{add-suc, add-zero}
 use native.Mathlib.Numerals.{add-one}
 use native.Mathlib.Omega.{arith}
 use lib.ListN.{length, getD, drop, drop-of-length-le}
@@ -13,11 +13,11 @@ use lib.Dec.{eqb}
 use borrow.Author.Tests.{eq-eqb, ne-eqb}
 use Rattle.lists.proofs.Bools.{by}
 use Rattle.rules.specs.Names.{isBlank}
-use Rattle.rules.specs.Lines.{outside, comment, after, Scan, dropped, fed, marked, cutShort, takesAsIs, opensComment, endsEntry, scanEscaped, scan, lineFrom}
+use Rattle.rules.specs.Lines.{outside, comment, after, Scan, dropped, fed, marked, cutShort, takesAsIs, opensComment, endsEntry, scanEscaped, scan, lineFrom, lineOf}
 use Rattle.lines.specs.declared.Signs.{Signs}
 use Rattle.lines.specs.declared.Spot.{Spot}
 use Rattle.lines.specs.declared.Item.the-variants.{Mark, Join, Hidden}
-use Rattle.lines.specs.Stream.{plainSigns, scanAt, lineLeft, Passes, Marks, Ends, ItemIs, EscapeAt}
+use Rattle.lines.specs.Stream.{plainSigns, scanAt, lineLeft, Passes, Marks, Ends, ItemIs, EscapeAt, lineStart}
 
 -- ## What is read before
 
@@ -87,6 +87,27 @@ module _ (g : Signs) (ms : List ℕ) (k n : ℕ) where
   -- what is read of a line before does not matter for the rest
   pub lineFrom-onto : (s : Scan) (bs : List ℕ) → lineFrom (plainSigns g) (onto ms k n s) bs ≡ onto ms k n (lineFrom (plainSigns g) s bs)
   lineFrom-onto s bs = line-onto s bs .is
+
+-- any line that goes on is its marks, LFs and bytes so far, and what is still to come
+pub lineFrom-rest : (g : Signs) (s : Scan) (bs : List ℕ) → s .escaped ≡ false → s .ended ≡ false
+    → lineFrom (plainSigns g) s bs ≡ onto (s .marks) (s .feeds) (s .size) (lineFrom (plainSigns g) (scanAt (s .mode) (s .fresh)) bs)
+lineFrom-rest g s bs e f =
+    let same : s ≡ onto (s .marks) (s .feeds) (s .size) (scanAt (s .mode) (s .fresh)) =
+    λ i. record {
+      mode = s .mode;
+      fresh = s .fresh;
+      escaped = e i;
+      ended = f i;
+      marks = sym (append-nil (s .marks)) i;
+      feeds = sym (add-zero (s .feeds)) i;
+      size = sym (add-zero (s .size)) i;
+    } in
+    ap (λ (x : Scan). lineFrom (plainSigns g) x bs) same ∙ lineFrom-onto g (s .marks) (s .feeds) (s .size) (scanAt (s .mode) (s .fresh)) bs
+
+-- the paper's line is what is still to come at its first spot
+pub lineOf-left : (g : Signs) (src : List ℕ) (at : ℕ) → lineOf (plainSigns g) (drop at src) ≡ lineLeft g src (lineStart at)
+unfolding lineOf lineLeft
+lineOf-left g src at = refl
 
 -- ## From one spot to the next
 

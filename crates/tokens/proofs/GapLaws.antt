@@ -10,7 +10,7 @@ use borrow.Author.Tests.{ne-eqb}
 use Rattle.lists.proofs.Bools.{by, cond-both}
 use Rattle.rules.specs.Names.{isBlank}
 use Rattle.rules.specs.Lines.{outside, after}
-use Rattle.rules.specs.Tokens.{gap, semi, comma, broken, word, name, quote, asIs, Token, token, noPart, Lexed, lexed, lexNone, quotedPart, lex, lexEnd, tokensFrom, withoutBlanks, withoutOpeningGaps}
+use Rattle.rules.specs.Tokens.{gap, semi, comma, broken, word, name, quote, asIs, Token, token, noPart, Lexed, lexed, lexNone, quotedPart, lex, lexEnd, tokensFrom, withoutBlanks, withoutOpeningGaps, tokensOf}
 use Rattle.lines.specs.declared.Signs.{Signs}
 use Rattle.lines.specs.declared.Spot.{Spot}
 use Rattle.lines.specs.declared.Step.{Step}
@@ -124,3 +124,8 @@ module _ {g : Signs} {src : List ℕ} {p q : Spot} {s : Step} (v : InBlanks g sr
 -- what is neither space nor tab
 pub no-blank : (m : ℕ) → (m ≡ 32 → ⊥) → (m ≡ 9 → ⊥) → isBlank m ≡ false
 no-blank m h k = simp (ne-eqb m 32 h, ne-eqb m 9 k)
+
+-- the tokens of a line are those from the spot after the blanks that open it
+pub tokensOf-left : {g : Signs} {src : List ℕ} {p q : Spot} → Skips g src p q → tokensOf (marksLeft g src p) ≡ tokensLeft g src q
+unfolding tokensOf tokensLeft
+tokensOf-left v = rw (v .marks)

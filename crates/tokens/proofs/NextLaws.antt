@@ -53,6 +53,8 @@ module _ (g : Signs) (src : List ℕ) (p : Spot) where
         word = λ z. absurd (omega arith);
         name = λ z. absurd (omega arith);
         quote = λ z. absurd (omega arith);
+        name-mode = λ z. absurd (omega arith);
+        quote-mode = λ z. absurd (omega arith);
         plain = m;
         on = l;
         to = n;
@@ -112,6 +114,8 @@ module _ (g : Signs) (src : List ℕ) (p : Spot) where
           word = λ z. absurd (omega arith);
           name = λ z. absurd (omega arith);
           quote = λ z. absurd (omega arith);
+          name-mode = λ z. absurd (omega arith);
+          quote-mode = λ z. absurd (omega arith);
           plain = stays (λ z. omega arith) (λ z. omega arith);
           on = mark .on;
           to = mark .to;
@@ -146,6 +150,8 @@ module _ (g : Signs) (src : List ℕ) (p : Spot) where
             word = λ z. rw (t, mark .marks, goes-on);
             name = λ z. absurd (omega arith);
             quote = λ z. absurd (omega arith);
+            name-mode = λ z. absurd (omega arith);
+            quote-mode = λ z. absurd (omega arith);
             plain = w .mode;
             on = omega (arith, mark .on, w .from);
             to = w .to;
@@ -183,6 +189,8 @@ module _ (g : Signs) (src : List ℕ) (p : Spot) where
               word = λ x. absurd (omega arith);
               name = λ x. rw t;
               quote = λ x. absurd (omega arith);
+              name-mode = λ x. rw (mark .step .mode, o, h);
+              quote-mode = λ z. absurd (omega arith);
               plain = z .mode ∙ rw (mark .step .mode, o, h);
               on = omega (arith, mark .on, z .on);
               to = z .to;
@@ -215,6 +223,7 @@ module _ (g : Signs) (src : List ℕ) (p : Spot) where
               ∙ rw (refusal-empty ns (closed .many ∙ j)) (three-first (tokensLeft g src r)))
 
           pub next-quote : (n ≡ 0 → ⊥) → TokenIs g src p (record { kind = 6; next = r; inside = q; names = n; refusal = f; byte = 0 })
+          unfolding after
           next-quote j =
               let ns = namesIn (marksLeft g src q) in
               let t = there from-quote in
@@ -227,6 +236,8 @@ module _ (g : Signs) (src : List ℕ) (p : Spot) where
                 word = λ x. absurd (omega arith);
                 name = λ x. absurd (omega arith);
                 quote = λ x. rw t;
+                name-mode = λ z. absurd (omega arith);
+                quote-mode = λ x. rw (mark .step .mode, o, h);
                 plain = closed .mode;
                 on = omega (arith, mark .on, closed .on);
                 to = closed .to;

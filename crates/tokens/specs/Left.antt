@@ -8,7 +8,8 @@ use lib.Dec.{eqb}
 use Rattle.rules.specs.Text.{if_then_else_, oneOf}
 use Rattle.rules.specs.Names.{nameRefusal, namesRefusal}
 use Rattle.rules.specs.Lines as lines
-use Rattle.rules.specs.Lines.{outside, inName, quotedName}
+use Rattle.rules.specs.Lines.{outside, inName, quoted, quotedName}
+use Rattle.rules.specs.Tokens as tokens
 use Rattle.rules.specs.Tokens.{broken, word, name, quote, Token, tokenAt, noPart, inWord, tokensFrom, withoutBlanks, withoutOpeningGaps, tokensRefusal, lexed, token}
 use Rattle.lines.specs.declared.Signs.{Signs}
 use Rattle.lines.specs.declared.Spot.{Spot}
@@ -188,6 +189,8 @@ pub record TokenIs (g : Signs) (src : List ℕ) (p : Spot) (t : Tok) : Type 0 wh
   pub word : t .kind ≡ word → tokenThere g src p .text ≡ wordIn (marksLeft g src p)
   pub name : t .kind ≡ name → tokenThere g src p .names ≡ nameIn (marksLeft g src (t .inside)) ∷ []
   pub quote : t .kind ≡ quote → tokenThere g src p .names ≡ namesIn (marksLeft g src (t .inside))
+  pub name-mode : t .kind ≡ tokens.name → t .inside .mode ≡ inName
+  pub quote-mode : t .kind ≡ tokens.quote → t .inside .mode ≡ quoted
   pub plain : t .next .mode ≡ outside
   pub on : p .at < t .next .at
   pub to : t .next .at ≤ length src

@@ -203,7 +203,7 @@ fn lower_of(a: u8, b: u8) -> u8
 }
 
 // The end of a name, in quotes or not, from a spot inside it.
-fn end_of_name(src: &[u8], g: Signs, p: Spot) -> Closing
+pub fn end_of_name(src: &[u8], g: Signs, p: Spot) -> Closing
     requires { ⌜ (p .at ≤ length (now src)) × (isInside (p .mode) ≡ true) ⌝ }
     ensures { λ r. ⌜ ClosingIs g (now (src .entry)) p r ⌝ }
 {
