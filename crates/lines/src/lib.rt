@@ -1,0 +1,267 @@
+// Lines of a source, read from a place on with nothing kept: their marks and their ends. For both readers of sources.
+ghost use mathlib.Core.Path.{_≡_};
+ghost use mathlib.Core.Bool.{_&&_};
+ghost use Prim.Native.Nat.{ℕ, _+_, _≤_, _<_};
+ghost use lib.ListN.{length};
+ghost use lib.Dec.{eqb};
+ghost use Rattle.rules.specs.Names.{isBlank};
+ghost use Rattle.rules.specs.Tokens.{isText};
+ghost use Rattle.rules.specs.Lines.{after};
+ghost use Rattle.lines.specs.Stream.{ItemIs, EscapeAt, StepIs, LineIs};
+
+// The comment and the escape character in force.
+pub struct Signs {
+    pub comment: u8,
+    pub escape: u8,
+}
+
+// A place in the middle of a line: between two marks, in a mode (0 plain, 1 in a name, 2 in quotes, 3 in a name in quotes, 4 in a comment),
+// at the line's first byte or after a blank.
+pub struct Spot {
+    pub at: usize,
+    pub mode: u8,
+    pub fresh: bool,
+}
+
+// What stands next in a line, with the spot after it.
+pub enum Item {
+    Mark(u16, Spot),
+    // an escape and LF
+    Join(Spot),
+    // a byte of a comment
+    Hidden(Spot),
+    // the line's end: the place after it, and how many LFs stand before that place
+    End(usize, usize),
+}
+
+// The next mark of a line, with the spot after it.
+pub enum Step {
+    Mark(u16, Spot),
+    End,
+}
+
+// Where a line ends, how many LFs it has, and whether it holds only text outside comments.
+pub struct LineEnd {
+    pub next: usize,
+    pub feeds: usize,
+    pub text: bool,
+}
+
+pub fn is_blank(b: u8) -> bool
+    ensures { λ r. ⌜ r ≡ isBlank b ⌝ }
+{
+    b == 32 || b == 9
+}
+
+// The mode after a byte that stands.
+pub fn mode_after(mode: u8, b: u8) -> u8
+    ensures { λ r. ⌜ r ≡ after mode b ⌝ }
+{
+    if mode == 0 {
+        if b == 60 {
+            return 1;
+        }
+        if b == 34 {
+            return 2;
+        }
+        return 0;
+    }
+    if mode == 1 {
+        if b == 62 {
+            return 0;
+        }
+        return 1;
+    }
+    if mode == 2 {
+        if b == 60 {
+            return 3;
+        }
+        if b == 34 {
+            return 0;
+        }
+        return 2;
+    }
+    if mode == 3 {
+        if b == 62 {
+            return 2;
+        }
+        return 3;
+    }
+    mode
+}
+
+// Whether a byte opens a comment.
+fn opens(mode: u8, fresh: bool, b: u8, comment: u8) -> bool
+    ensures { λ r. ⌜ r ≡ (eqb mode 0 && fresh && eqb b comment) ⌝ }
+{
+    if mode == 0 {
+        if fresh {
+            return b == comment;
+        }
+    }
+    false
+}
+
+// What a mark's byte is, outside comments: text, or a ground for refusal 2.
+pub fn is_text(m: u16) -> bool
+    ensures { λ r. ⌜ r ≡ isText m ⌝ }
+{
+    let b = m % 256;
+    if b < 32 {
+        return b == 9;
+    }
+    b <= 126
+}
+
+// A byte as a mark.
+fn wide(b: u8) -> u16
+    ensures { λ r. ⌜ (r ≡ b) × (r < 256) ⌝ }
+{
+    b as u16
+}
+
+// What an escape at a spot and the byte after it give.
+fn escaped(src: &[u8], g: Signs, p: Spot) -> Item
+    requires { ⌜ EscapeAt g (now src) p ⌝ }
+    ensures { λ r. ⌜ ItemIs g (now (src .entry)) p r ⌝ }
+{
+    let at = p.at;
+    let mode = p.mode;
+    let next = at + 1;
+    if next >= src.len() {
+        let e = wide(g.escape);
+        return Item::Mark(
+            512 + e,
+            Spot {
+                at: next,
+                mode: mode,
+                fresh: false,
+            },
+        );
+    }
+    let b = src[next];
+    if b == 10 {
+        return Item::Join(Spot {
+            at: at + 2,
+            mode: mode,
+            fresh: p.fresh,
+        });
+    }
+    let m = wide(b);
+    if mode == 0 {
+        return Item::Mark(
+            512 + m,
+            Spot {
+                at: at + 2,
+                mode: 0,
+                fresh: false,
+            },
+        );
+    }
+    Item::Mark(
+        256 + m,
+        Spot {
+            at: at + 2,
+            mode: mode,
+            fresh: false,
+        },
+    )
+}
+
+// What stands next in a line.
+pub fn next_item(src: &[u8], g: Signs, p: Spot) -> Item
+    requires { ⌜ p .at ≤ length (now src) ⌝ }
+    ensures { λ r. ⌜ ItemIs g (now (src .entry)) p r ⌝ }
+{
+    let at = p.at;
+    let mode = p.mode;
+    let fresh = p.fresh;
+    if at >= src.len() {
+        return Item::End(at, 0);
+    }
+    let b = src[at];
+    if b == 10 {
+        return Item::End(at + 1, 1);
+    }
+    if mode == 4 {
+        return Item::Hidden(Spot {
+            at: at + 1,
+            mode: 4,
+            fresh: fresh,
+        });
+    }
+    let e = g.escape;
+    if b == e {
+        return escaped(src, g, p);
+    }
+    let c = g.comment;
+    if opens(mode, fresh, b, c) {
+        return Item::Hidden(Spot {
+            at: at + 1,
+            mode: 4,
+            fresh: fresh,
+        });
+    }
+    Item::Mark(
+        wide(b),
+        Spot {
+            at: at + 1,
+            mode: mode_after(mode, b),
+            fresh: is_blank(b),
+        },
+    )
+}
+
+// The next mark of a line: joins are passed, and a comment ends the marks.
+pub fn next_mark(src: &[u8], g: Signs, p: Spot) -> Step
+    requires { ⌜ p .at ≤ length (now src) ⌝ }
+    ensures { λ r. ⌜ StepIs g (now (src .entry)) p r ⌝ }
+{
+    let mut q = p;
+    loop {
+        let i = next_item(src, g, q);
+        match i {
+            Item::Mark(m, r) => return Step::Mark(m, r),
+            Item::Join(r) => {
+                q = r;
+            }
+            Item::Hidden(_) => return Step::End,
+            Item::End(_, _) => return Step::End,
+        }
+    }
+}
+
+// The end of a line, from a spot on.
+pub fn line_end(src: &[u8], g: Signs, p: Spot) -> LineEnd
+    requires { ⌜ p .at ≤ length (now src) ⌝ }
+    ensures { λ r. ⌜ LineIs g (now (src .entry)) p r ⌝ }
+{
+    let mut q = p;
+    let mut feeds: usize = 0;
+    let mut text = true;
+    loop {
+        let i = next_item(src, g, q);
+        match i {
+            Item::Mark(m, r) => {
+                if text {
+                    text = is_text(m);
+                }
+                q = r;
+            }
+            Item::Join(r) => {
+                feeds += 1;
+                q = r;
+            }
+            Item::Hidden(r) => {
+                q = r;
+            }
+            Item::End(next, n) => {
+                return LineEnd {
+                    next: next,
+                    feeds: feeds + n,
+                    text: text,
+                };
+            }
+        }
+    }
+}

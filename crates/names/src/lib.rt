@@ -1,0 +1,138 @@
+// Names in a source, each from the spot right after its `<`: beside other bytes or another name, as a character by its code, as a number.
+ghost use mathlib.Core.Path.{_≡_};
+ghost use Prim.Native.Nat.{_≤_, _<_};
+ghost use lib.ListN.{length};
+ghost use Rattle.rules.specs.Text.{same};
+ghost use Rattle.names.specs.Named.{nameLeft, hexOf, MadeIs, DigitsAre, CodeIs, hashOf, NamedIs};
+use lines::Signs;
+use lines::Spot;
+use tokens::NameStep;
+use tokens::name_byte;
+
+// The code of a name that is shaped as a character; it may be no character.
+pub enum Code {
+    Char(u32),
+    Other,
+}
+
+// The next name in quotes: the spot right after its `<`, or that there is none.
+pub enum Named {
+    Name(Spot),
+    Close,
+}
+
+// Whether a name has these bytes.
+pub fn name_is(src: &[u8], g: Signs, p: Spot, w: &[u8]) -> bool
+    requires { ⌜ p .at ≤ length (now src) ⌝ }
+    ensures { λ r. ⌜ r ≡ same (nameLeft g (now (src .entry)) p) (now (w .entry)) ⌝ }
+{
+    let mut q = p;
+    let mut i = 0;
+    loop {
+        let s = name_byte(src, g, q);
+        match s {
+            NameStep::Byte(b, r) => {
+                if i < w.len() {
+                    if b == w[i] {
+                        i += 1;
+                        q = r;
+                    } else {
+                        return false;
+                    }
+                } else {
+                    return false;
+                }
+            }
+            NameStep::Close(_) => return i == w.len(),
+            NameStep::Open => return i == w.len(),
+        }
+    }
+}
+
+fn wide(b: u8) -> u32
+    ensures { λ r. ⌜ (r ≡ b) × (r < 256) ⌝ }
+{
+    b as u32
+}
+
+// An uppercase hex digit's value, 16 for what is none.
+fn hex(b: u8) -> u32
+    ensures { λ r. ⌜ r ≡ hexOf b ⌝ }
+{
+    let x = wide(b);
+    if x < 48 {
+        return 16;
+    }
+    if x < 58 {
+        return x - 48;
+    }
+    if x < 65 {
+        return 16;
+    }
+    if x < 71 {
+        return x - 55;
+    }
+    16
+}
+
+// What n digits that make x are.
+fn made(n: usize, x: u32) -> Code
+    ensures { λ r. ⌜ MadeIs n x r ⌝ }
+{
+    if n == 4 {
+        return Code::Char(x);
+    }
+    if n == 8 {
+        return Code::Char(x);
+    }
+    Code::Other
+}
+
+// The code that the bytes of a name make from a spot on, behind its U.
+fn digits(src: &[u8], g: Signs, p: Spot) -> Code
+    requires { ⌜ p .at ≤ length (now src) ⌝ }
+    ensures { λ r. ⌜ DigitsAre (nameLeft g (now (src .entry)) p) r ⌝ }
+{
+    let mut q = p;
+    let mut n: usize = 0;
+    let mut x: u32 = 0;
+    loop {
+        let s = name_byte(src, g, q);
+        match s {
+            NameStep::Byte(b, r) => {
+                if n < 8 {
+                    let d = hex(b);
+                    if d < 16 {
+                        x = x * 16 + d;
+                        n += 1;
+                        q = r;
+                    } else {
+                        return Code::Other;
+                    }
+                } else {
+                    return Code::Other;
+                }
+            }
+            NameStep::Close(_) => return made(n, x),
+            NameStep::Open => return made(n, x),
+        }
+    }
+}
+
+// The code of a name that is shaped as a character.
+pub fn name_char(src: &[u8], g: Signs, p: Spot) -> Code
+    requires { ⌜ p .at ≤ length (now src) ⌝ }
+    ensures { λ r. ⌜ CodeIs (nameLeft g (now (src .entry)) p) r ⌝ }
+{
+    let s = name_byte(src, g, p);
+    match s {
+        NameStep::Byte(b, q) => {
+            if b == 85 {
+                return digits(src, g, q);
+            }
+            return Code::Other;
+        }
+        NameStep::Close(_) => return Code::Other,
+        NameStep::Open => return Code::Other,
+    }
+}
