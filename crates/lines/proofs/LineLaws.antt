@@ -259,16 +259,17 @@ module _ (g : Signs) (src : List ℕ) (p : Spot) where
                   bytes = 1;
                   moved = refl;
                   goes = λ s like done k l q. rw at-byte
-                  (line-step s (stateAt p done k l) (getD src (p .at) 0) (drop (p .at + 1) src) (stands s like done k l (q .0)) refl
-                  ∙ ap (λ (v : Scan). lineFrom s v (drop (p .at + 1) src)) (same-state (sym (add-zero k)) (sym (add-one l))));
+                      (line-step s (stateAt p done k l) (getD src (p .at) 0) (drop (p .at + 1) src) (stands s like done k l (q .0)) refl
+                      ∙ ap (λ (v : Scan). lineFrom s v (drop (p .at + 1) src)) (same-state (sym (add-zero k)) (sym (add-one l))));
                 }
 
             pub item-mark : y < 256 → ItemIs g src p (Mark y (spot (p .at + 1) x r))
             unfolding run-mark
-            item-mark l =
-                (run-passes run-mark (omega arith) (omega arith)
-                , record { mode = rw z a; fresh = rw z i; small = omega arith; dead = λ w k. omega arith }
-                , run-mark)
+            item-mark l = (
+              run-passes run-mark (omega arith) (omega arith),
+              record { mode = rw z a; fresh = rw z i; small = omega arith; dead = λ w k. omega arith },
+              run-mark,
+            )
 
 -- ## An escape and the byte after it
 
