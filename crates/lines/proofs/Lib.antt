@@ -1,3 +1,4 @@
 pub mod ByteLaws
 pub mod LineLaws
 pub mod WalkLaws
+pub mod RunLaws

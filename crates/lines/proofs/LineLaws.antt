@@ -18,7 +18,7 @@ use Rattle.rules.specs.Lines.{outside, comment, after, Scan, dropped, fed, mark
 use Rattle.lines.specs.declared.Signs.{Signs}
 use Rattle.lines.specs.declared.Spot.{Spot}
 use Rattle.lines.specs.declared.Item.the-variants.{Mark, Join, Hidden}
-use Rattle.lines.specs.Stream.{plainSigns, stateIn, stateAt, lineLeft, lineStart, Like, Still, Quiet, Run, Joins, Passes, Marks, Ends, ItemIs, EscapeAt}
+use Rattle.lines.specs.Stream.{plainSigns, stateIn, stateAt, lineLeft, lineStart, Like, Still, Quiet, Run, Joins, Passes, Marks, Ends, ItemIs, EscapeAt, marksLeft}
 
 -- ## What is read before
 
@@ -165,6 +165,12 @@ module _ (g : Signs) (src : List ℕ) (p : Spot) where
       let b : 0 + n ≡ n = omega arith in
       e ∙ rw (a, b) (lineFrom-rest g (stateAt q ms k n) (drop (q .at) src) refl refl)
 
+  -- the marks of a run stand before those still to come
+  pub run-marks : {q : Spot} {ms : List ℕ} {k : ℕ} → Run g src ms k p q → marksLeft g src p ≡ ms ++ marksLeft g src q
+  run-marks {q} {ms} {k} r =
+      ap (λ (s : Scan). s .marks)
+      (run-left q ms k (r .bytes) (r .goes (plainSigns g) (record { comment = refl; escape = refl }) [] 0 0 (plain-quiet g (p .mode) (p .fresh) [] ms)))
+
   run-passes : {q : Spot} {ms : List ℕ} {k : ℕ} (r : Run g src ms k p q) → 0 < r .bytes → q .at ≤ length src → Passes g src ms k p q
   run-passes {q} {ms} {k} r h l =
       passed ms k (r .bytes) q (run-left q ms k (r .bytes) (r .goes (plainSigns g) (record { comment = refl; escape = refl }) [] 0 0 (plain-quiet g (p .mode) (p .fresh) [] ms)))
@@ -259,16 +265,17 @@ module _ (g : Signs) (src : List ℕ) (p : Spot) where
                   bytes = 1;
                   moved = refl;
                   goes = λ s like done k l q. rw at-byte
-                  (line-step s (stateAt p done k l) (getD src (p .at) 0) (drop (p .at + 1) src) (stands s like done k l (q .0)) refl
-                  ∙ ap (λ (v : Scan). lineFrom s v (drop (p .at + 1) src)) (same-state (sym (add-zero k)) (sym (add-one l))));
+                      (line-step s (stateAt p done k l) (getD src (p .at) 0) (drop (p .at + 1) src) (stands s like done k l (q .0)) refl
+                      ∙ ap (λ (v : Scan). lineFrom s v (drop (p .at + 1) src)) (same-state (sym (add-zero k)) (sym (add-one l))));
                 }
 
             pub item-mark : y < 256 → ItemIs g src p (Mark y (spot (p .at + 1) x r))
             unfolding run-mark
-            item-mark l =
-                (run-passes run-mark (omega arith) (omega arith)
-                , record { mode = rw z a; fresh = rw z i; small = omega arith; dead = λ w k. omega arith }
-                , run-mark)
+            item-mark l = (
+              run-passes run-mark (omega arith) (omega arith),
+              record { mode = rw z a; fresh = rw z i; small = omega arith; dead = λ w k. omega arith },
+              run-mark,
+            )
 
 -- ## An escape and the byte after it
 

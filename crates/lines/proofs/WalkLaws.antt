@@ -46,8 +46,8 @@ joins-join {src = src} {k} {p} {q} {r} v w =
       bytes = v .bytes + w .bytes;
       moved = omega (arith, v .moved, w .moved);
       goes = λ s like done f z h. v .goes s like done f z h
-      ∙ w .goes s like done (f + k) (z + v .bytes) (rw (v .mode, v .fresh) h)
-      ∙ rw (add-assoc f k 1, add-assoc z (v .bytes) (w .bytes));
+          ∙ w .goes s like done (f + k) (z + v .bytes) (rw (v .mode, v .fresh) h)
+          ∙ rw (add-assoc f k 1, add-assoc z (v .bytes) (w .bytes));
     }
 
 -- joins before a mark
@@ -59,8 +59,8 @@ joins-mark {src = src} {m} {k} {p} {q} {r} v w =
       bytes = v .bytes + w .bytes;
       moved = omega (arith, v .moved, w .moved);
       goes = λ s like done f z h. v .goes s like done f z (h .0)
-      ∙ w .goes s like done (f + k) (z + v .bytes) (rw (v .mode, v .fresh) (h .0), tt)
-      ∙ rw (add-zero (f + k), add-assoc z (v .bytes) (w .bytes));
+          ∙ w .goes s like done (f + k) (z + v .bytes) (rw (v .mode, v .fresh) (h .0), tt)
+          ∙ rw (add-zero (f + k), add-assoc z (v .bytes) (w .bytes));
     }
 
 module _ {g : Signs} {src : List ℕ} {p q : Spot} {i : Item} (v : Joined g src p q) (s : ItemIs g src q i) where

@@ -91,6 +91,12 @@ pub record Run (g : Signs) (src ms : List ℕ) (k : ℕ) (p q : Spot) : Type 0 w
   pub goes : (s : paper.Signs) → Like s g → (done : List ℕ) (f z : ℕ) → Quiet s (p .mode) (p .fresh) done ms
       → lineFrom s (stateAt p done f z) (drop (p .at) src) ≡ lineFrom s (stateAt q (done ++ ms) (f + k) (z + bytes)) (drop (q .at) src)
 
+-- From p to q a line reads some marks.
+pub record Walk (g : Signs) (src : List ℕ) (p q : Spot) : Type 0 where
+  pub passed : List ℕ
+  pub feeds : ℕ
+  pub run : Run g src passed feeds p q
+
 -- From p to q a line reads k joins.
 pub record Joins (g : Signs) (src : List ℕ) (k : ℕ) (p q : Spot) : Type 0 where
   pub mode : q .mode ≡ p .mode
