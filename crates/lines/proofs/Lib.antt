@@ -2,3 +2,4 @@ pub mod ByteLaws
 pub mod LineLaws
 pub mod WalkLaws
 pub mod RunLaws
+pub mod SignLaws

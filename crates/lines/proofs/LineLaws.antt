@@ -59,7 +59,7 @@ module _ (ms : List ℕ) (k n : ℕ) (s : Scan) where
       (onto-cond (eqb (s .mode) outside) (onto-marked outside false (512 + b)) (onto-marked (s .mode) false (256 + b)))
 
 -- no byte is taken as it stands
-plain-as-is : (g : Signs) (s : Scan) (b : ℕ) → takesAsIs (plainSigns g) s b ≡ false
+pub plain-as-is : (g : Signs) (s : Scan) (b : ℕ) → takesAsIs (plainSigns g) s b ≡ false
 unfolding takesAsIs
 plain-as-is g s b = and-false (eqb (s .mode) outside && s .fresh && not (isBlank b))
 
@@ -117,9 +117,14 @@ abbrev pub spot : ℕ → ℕ → Bool → Spot
 spot at mode fresh = record { at = at; mode = mode; fresh = fresh }
 
 -- one byte more of a line that it does not end
-line-step : (s : paper.Signs) (x : Scan) (b : ℕ) (bs : List ℕ) {n : Scan} → scan s x b ≡ n → n .ended ≡ false → lineFrom s x (b ∷ bs) ≡ lineFrom s n bs
+pub line-step : (s : paper.Signs) (x : Scan) (b : ℕ) (bs : List ℕ) {n : Scan} → scan s x b ≡ n → n .ended ≡ false → lineFrom s x (b ∷ bs) ≡ lineFrom s n bs
 unfolding lineFrom
 line-step s x b bs e f = rw (e, f)
+
+-- and that it ends
+pub line-stop : (s : paper.Signs) (x : Scan) (b : ℕ) (bs : List ℕ) {n : Scan} → scan s x b ≡ n → n .ended ≡ true → lineFrom s x (b ∷ bs) ≡ n
+unfolding lineFrom
+line-stop s x b bs e f = rw (e, f)
 
 -- a state with the same marks, LFs and bytes
 same-state : {mode : ℕ} {fresh : Bool} {marks : List ℕ} {f f′ z z′ : ℕ} → f ≡ f′ → z ≡ z′ → stateIn mode fresh marks f z ≡ stateIn mode fresh marks f′ z′
