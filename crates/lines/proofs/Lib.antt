@@ -1,3 +1,5 @@
 pub mod ByteLaws
 pub mod LineLaws
 pub mod WalkLaws
+pub mod RunLaws
+pub mod SignLaws

@@ -18,7 +18,7 @@ use Rattle.rules.specs.Lines.{outside, comment, after, Scan, dropped, fed, mark
 use Rattle.lines.specs.declared.Signs.{Signs}
 use Rattle.lines.specs.declared.Spot.{Spot}
 use Rattle.lines.specs.declared.Item.the-variants.{Mark, Join, Hidden}
-use Rattle.lines.specs.Stream.{plainSigns, stateIn, stateAt, lineLeft, lineStart, Like, Still, Quiet, Run, Joins, Passes, Marks, Ends, ItemIs, EscapeAt}
+use Rattle.lines.specs.Stream.{plainSigns, stateIn, stateAt, lineLeft, lineStart, Like, Still, Quiet, Run, Joins, Passes, Marks, Ends, ItemIs, EscapeAt, marksLeft}
 
 -- ## What is read before
 
@@ -59,7 +59,7 @@ module _ (ms : List ℕ) (k n : ℕ) (s : Scan) where
       (onto-cond (eqb (s .mode) outside) (onto-marked outside false (512 + b)) (onto-marked (s .mode) false (256 + b)))
 
 -- no byte is taken as it stands
-plain-as-is : (g : Signs) (s : Scan) (b : ℕ) → takesAsIs (plainSigns g) s b ≡ false
+pub plain-as-is : (g : Signs) (s : Scan) (b : ℕ) → takesAsIs (plainSigns g) s b ≡ false
 unfolding takesAsIs
 plain-as-is g s b = and-false (eqb (s .mode) outside && s .fresh && not (isBlank b))
 
@@ -117,9 +117,14 @@ abbrev pub spot : ℕ → ℕ → Bool → Spot
 spot at mode fresh = record { at = at; mode = mode; fresh = fresh }
 
 -- one byte more of a line that it does not end
-line-step : (s : paper.Signs) (x : Scan) (b : ℕ) (bs : List ℕ) {n : Scan} → scan s x b ≡ n → n .ended ≡ false → lineFrom s x (b ∷ bs) ≡ lineFrom s n bs
+pub line-step : (s : paper.Signs) (x : Scan) (b : ℕ) (bs : List ℕ) {n : Scan} → scan s x b ≡ n → n .ended ≡ false → lineFrom s x (b ∷ bs) ≡ lineFrom s n bs
 unfolding lineFrom
 line-step s x b bs e f = rw (e, f)
+
+-- and that it ends
+pub line-stop : (s : paper.Signs) (x : Scan) (b : ℕ) (bs : List ℕ) {n : Scan} → scan s x b ≡ n → n .ended ≡ true → lineFrom s x (b ∷ bs) ≡ n
+unfolding lineFrom
+line-stop s x b bs e f = rw (e, f)
 
 -- a state with the same marks, LFs and bytes
 same-state : {mode : ℕ} {fresh : Bool} {marks : List ℕ} {f f′ z z′ : ℕ} → f ≡ f′ → z ≡ z′ → stateIn mode fresh marks f z ≡ stateIn mode fresh marks f′ z′
@@ -164,6 +169,12 @@ module _ (g : Signs) (src : List ℕ) (p : Spot) where
       let a : 0 + k ≡ k = omega arith in
       let b : 0 + n ≡ n = omega arith in
       e ∙ rw (a, b) (lineFrom-rest g (stateAt q ms k n) (drop (q .at) src) refl refl)
+
+  -- the marks of a run stand before those still to come
+  pub run-marks : {q : Spot} {ms : List ℕ} {k : ℕ} → Run g src ms k p q → marksLeft g src p ≡ ms ++ marksLeft g src q
+  run-marks {q} {ms} {k} r =
+      ap (λ (s : Scan). s .marks)
+      (run-left q ms k (r .bytes) (r .goes (plainSigns g) (record { comment = refl; escape = refl }) [] 0 0 (plain-quiet g (p .mode) (p .fresh) [] ms)))
 
   run-passes : {q : Spot} {ms : List ℕ} {k : ℕ} (r : Run g src ms k p q) → 0 < r .bytes → q .at ≤ length src → Passes g src ms k p q
   run-passes {q} {ms} {k} r h l =

@@ -1,13 +1,13 @@
 -- A line as code reads it: from a spot in the source on, one mark after the other, with nothing kept. What is still to come is the
 -- paper's own line (Rattle.rules.specs.Lines), begun in the middle.
 use mathlib.Core.Path.{_≡_}
-use mathlib.Core.Bool.{Bool, true, false}
+use mathlib.Core.Bool.{Bool, true, false, _&&_}
 use mathlib.Core.List.{List, [], _∷_, _++_}
 use Prim.Native.Nat.{ℕ, _+_, _≤_, _<_}
 use lib.ListN.{length, getD, drop}
-use Rattle.rules.specs.Text.{every}
+use Rattle.rules.specs.Text.{every, begins}
 use Rattle.rules.specs.Names.{isBlank}
-use Rattle.rules.specs.Tokens.{isText}
+use Rattle.rules.specs.Tokens.{isText, withoutBlanks}
 use Rattle.rules.specs.Lines.{outside, comment, after, Scan, lineFrom, takesAsIs, endsEntry}
 use Rattle.rules.specs.Lines as paper
 use Rattle.lines.specs.declared.Signs.{Signs}
@@ -23,6 +23,10 @@ use Rattle.lines.specs.declared.Step.the-variants as step
 -- the two characters in force for a line in which no byte is taken as it stands and no entry ends
 abbrev pub plainSigns : Signs → paper.Signs
 plainSigns g = record { comment = g .comment; escape = g .escape; outside = false; header = false; body = false }
+
+-- the same for a line outside every category, in which the c of comment_char and escape_char is taken as it stands
+abbrev pub outsideSigns : Signs → paper.Signs
+outsideSigns g = record { comment = g .comment; escape = g .escape; outside = true; header = false; body = false }
 
 -- a line that goes on: its mode, whether a comment may open, its marks, LFs and bytes so far
 abbrev pub stateIn : ℕ → Bool → List ℕ → ℕ → ℕ → Scan
@@ -90,6 +94,12 @@ pub record Run (g : Signs) (src ms : List ℕ) (k : ℕ) (p q : Spot) : Type 0 w
   pub moved : p .at + bytes ≡ q .at
   pub goes : (s : paper.Signs) → Like s g → (done : List ℕ) (f z : ℕ) → Quiet s (p .mode) (p .fresh) done ms
       → lineFrom s (stateAt p done f z) (drop (p .at) src) ≡ lineFrom s (stateAt q (done ++ ms) (f + k) (z + bytes)) (drop (q .at) src)
+
+-- From p to q a line reads some marks.
+pub record Walk (g : Signs) (src : List ℕ) (p q : Spot) : Type 0 where
+  pub passed : List ℕ
+  pub feeds : ℕ
+  pub run : Run g src passed feeds p q
 
 -- From p to q a line reads k joins.
 pub record Joins (g : Signs) (src : List ℕ) (k : ℕ) (p q : Spot) : Type 0 where
@@ -167,3 +177,14 @@ pub record LineIs (g : Signs) (src : List ℕ) (p : Spot) (r : LineEnd) : Type 0
   pub few : p .at + r .feeds ≤ r .next
   pub to : r .next ≤ length src
   pub on : p .at < length src → p .at < r .next
+
+-- ## Lines outside every category
+
+-- a blank comes first
+abbrev pub blankFirst : List ℕ → Bool
+blankFirst [] = false
+blankFirst (m ∷ ms) = isBlank m
+
+-- a line opens with the word w and a blank after it
+unfoldable pub opensWith : List ℕ → List ℕ → Bool
+opensWith w marks = begins w (withoutBlanks marks) && blankFirst (drop (length w) (withoutBlanks marks))

@@ -15,7 +15,8 @@ use Rattle.lines.specs.declared.Signs.{Signs}
 use Rattle.lines.specs.declared.Spot.{Spot}
 use Rattle.lines.specs.declared.Step.{Step}
 use Rattle.lines.specs.declared.Step.the-variants as step
-use Rattle.lines.specs.Stream.{marksLeft, MarkIs, StepIs}
+use Rattle.lines.specs.Stream.{marksLeft, Walk, MarkIs, StepIs}
+use Rattle.lines.proofs.RunLaws.{walk-none, walk-then, mark-walk}
 use Rattle.tokens.specs.Left.{tokensLeft, Skips}
 use Rattle.tokens.proofs.TokenLaws.{tokensFrom-out, first-gap, word-whole, quote-close, quote-foul, tokensFrom-none}
 
@@ -79,18 +80,19 @@ opening-gaps (m ∷ ms) =
 pub record InBlanks (g : Signs) (src : List ℕ) (p q : Spot) : Type 0 where
   pub rest : withoutBlanks (marksLeft g src p) ≡ withoutBlanks (marksLeft g src q)
   pub mode : q .mode ≡ outside
+  pub walk : Walk g src p q
   pub from : p .at ≤ q .at
   pub to : q .at ≤ length src
 
 pub blanks-none : (g : Signs) (src : List ℕ) (p : Spot) → p .at ≤ length src → p .mode ≡ outside → InBlanks g src p p
-blanks-none g src p h m = record { rest = refl; mode = m; from = omega arith; to = h }
+blanks-none g src p h m = record { rest = refl; mode = m; walk = walk-none g src p; from = omega arith; to = h }
 
 -- where no blank comes next
 stop : {g : Signs} {src : List ℕ} {p q : Spot} → InBlanks g src p q → withoutBlanks (marksLeft g src q) ≡ marksLeft g src q → Skips g src p q
 unfolding tokensLeft
 stop {g} {src} {p} {q} v e =
     let m : marksLeft g src q ≡ withoutBlanks (marksLeft g src p) = sym (v .rest ∙ e) in
-    record { marks = m; tokens = rw m (opening-gaps (marksLeft g src p)); mode = v .mode; from = v .from; to = v .to }
+    record { marks = m; tokens = rw m (opening-gaps (marksLeft g src p)); mode = v .mode; walk = v .walk; from = v .from; to = v .to }
 
 module _ {g : Signs} {src : List ℕ} {p q : Spot} {s : Step} (v : InBlanks g src p q) (w : StepIs g src q s) where
   pub blanks-end : s ≡ step.End → Skips g src p q
@@ -111,7 +113,7 @@ module _ {g : Signs} {src : List ℕ} {p q : Spot} {s : Step} (v : InBlanks g sr
     more : isBlank m ≡ true → after outside m ≡ outside → InBlanks g src p r
     unfolding withoutBlanks
     more b a =
-        record { rest = v .rest ∙ rw (mark .marks, b); mode = mark .step .mode ∙ rw (v .mode) a; from = omega (arith, v .from, mark .on); to = mark .to }
+        record { rest = v .rest ∙ rw (mark .marks, b); mode = mark .step .mode ∙ rw (v .mode) a; walk = walk-then (v .walk) (mark-walk mark); from = omega (arith, v .from, mark .on); to = mark .to }
 
     pub blanks-space : m ≡ 32 → InBlanks g src p r
     unfolding after

@@ -16,7 +16,8 @@ use Rattle.lines.specs.declared.Signs.{Signs}
 use Rattle.lines.specs.declared.Spot.{Spot}
 use Rattle.lines.specs.declared.Step.{Step}
 use Rattle.lines.specs.declared.Step.the-variants as step
-use Rattle.lines.specs.Stream.{marksLeft, MarkIs, StepIs}
+use Rattle.lines.specs.Stream.{marksLeft, Walk, MarkIs, StepIs}
+use Rattle.lines.proofs.RunLaws.{walk-none, walk-then, mark-walk}
 use Rattle.lines.proofs.ByteLaws.{after-name, after-inner}
 use Rattle.tokens.specs.declared.NameStep.{NameStep}
 use Rattle.tokens.specs.declared.NameStep.the-variants.{Byte, Close, Open}
@@ -52,6 +53,7 @@ module _ {g : Signs} {src : List ℕ} {p : Spot} where
           closes = rw (mark .marks, h);
           mode = rw h at (mark .step .mode);
           on = mark .on;
+          walk = mark-walk mark;
           to = mark .to;
         }
 
@@ -65,6 +67,7 @@ module _ {g : Signs} {src : List ℕ} {p : Spot} where
           closes = rw (mark .marks) (simp k);
           mode = λ h. mark .step .mode ∙ inside-stays (p .mode) m h n;
           on = mark .on;
+          walk = mark-walk mark;
           to = mark .to;
         }
 
@@ -97,12 +100,13 @@ pub record InName (g : Signs) (src : List ℕ) (p q : Spot) (n : ℕ) (visible :
   pub closes : oneOf isClose (marksLeft g src p) ≡ oneOf isClose (marksLeft g src q)
   pub mode : q .mode ≡ p .mode
   pub inside : isInside (p .mode) ≡ true
+  pub walk : Walk g src p q
   pub from : n + p .at ≤ q .at
   pub to : q .at ≤ length src
 
 pub name-none : (g : Signs) (src : List ℕ) (p : Spot) → p .at ≤ length src → isInside (p .mode) ≡ true → InName g src p p 0 true
 name-none g src p h i =
-    record { long = omega arith; clean = refl; after = refl; closes = refl; mode = refl; inside = i; from = omega arith; to = h }
+    record { long = omega arith; clean = refl; after = refl; closes = refl; mode = refl; inside = i; walk = walk-none g src p; from = omega arith; to = h }
 
 pub name-less : (g : Signs) (src : List ℕ) (q : Spot) {s : NameStep} {b : ℕ} {r : Spot} → NameStepIs g src q s → s ≡ Byte b r
     → length src - r .at < length src - q .at
@@ -123,6 +127,7 @@ module _ {g : Signs} {src : List ℕ} {p q : Spot} {n : ℕ} {visible : Bool} {s
         closes = v .closes ∙ x .closes;
         mode = x .mode (rw (v .mode) (v .inside)) ∙ v .mode;
         inside = v .inside;
+        walk = walk-then (v .walk) (x .walk);
         from = omega (arith, v .from, x .on);
         to = x .to;
       }
@@ -144,6 +149,7 @@ module _ {g : Signs} {src : List ℕ} {p q : Spot} {n : ℕ} {visible : Bool} {s
         after = v .after ∙ x .after;
         closes = v .closes ∙ x .closes;
         mode = x .mode ∙ rw (v .mode);
+        walk = walk-then (v .walk) (x .walk);
         on = omega (arith, v .from, x .on);
         to = x .to;
       }
@@ -161,13 +167,14 @@ pub record InQuotes (g : Signs) (src : List ℕ) (p q : Spot) (n r : ℕ) : Type
   pub many : length names ≡ n
   pub refusal : namesRefusal names ≡ r
   pub mode : q .mode ≡ quoted
+  pub walk : Walk g src p q
   pub from : n + p .at ≤ q .at
   pub to : q .at ≤ length src
 
 pub quotes-none : (g : Signs) (src : List ℕ) (p : Spot) → p .at ≤ length src → p .mode ≡ quoted → InQuotes g src p p 0 0
 unfolding namesRefusal lowest
 quotes-none g src p h m =
-    record { names = []; tokens = refl; all = refl; many = refl; refusal = refl; mode = m; from = omega arith; to = h }
+    record { names = []; tokens = refl; all = refl; many = refl; refusal = refl; mode = m; walk = walk-none g src p; from = omega arith; to = h }
 
 -- a malformed token comes next
 foul : {g : Signs} {src : List ℕ} {p q : Spot} {n r : ℕ} (v : InQuotes g src p q n r) {ms : List ℕ} {ts : List Token} → marksLeft g src q ≡ ms
@@ -191,6 +198,7 @@ module _ {g : Signs} {src : List ℕ} {p q : Spot} {n r : ℕ} {s : Step} (v : I
           many = rw a (v .many);
           refusal = rw a (v .refusal);
           mode = next .step .mode ∙ rw (v .mode, h);
+          walk = walk-then (v .walk) (mark-walk next);
           on = omega (arith, v .from, next .on);
           to = next .to;
         }
@@ -226,6 +234,7 @@ module _ {g : Signs} {src : List ℕ} {p q : Spot} {n r : ℕ} {s : Step} (v : I
               many = length-append (v .names) (name ∷ []) ∙ rw (v .many);
               refusal = namesRefusal-snoc (v .names) name ∙ rw (v .refusal, z .refusal) (sym l);
               mode = z .mode ∙ rw (next .step .mode, v .mode, h);
+              walk = walk-then (v .walk) (walk-then (mark-walk next) (z .walk));
               from = omega (arith, v .from, next .on, z .on);
               to = z .to;
             }

@@ -15,7 +15,8 @@ use Rattle.lines.specs.declared.Signs.{Signs}
 use Rattle.lines.specs.declared.Spot.{Spot}
 use Rattle.lines.specs.declared.Step.{Step}
 use Rattle.lines.specs.declared.Step.the-variants as step
-use Rattle.lines.specs.Stream.{marksLeft, MarkIs, StepIs}
+use Rattle.lines.specs.Stream.{marksLeft, Walk, MarkIs, StepIs}
+use Rattle.lines.proofs.RunLaws.{walk-then, mark-walk}
 use Rattle.tokens.specs.declared.Closing.{Closing}
 use Rattle.tokens.specs.declared.Closing.the-variants as closing
 use Rattle.tokens.specs.declared.Quotes.{Quotes}
@@ -40,9 +41,9 @@ module _ (g : Signs) (src : List ℕ) (p : Spot) where
   first e = rw (there e) e
 
   -- a separator or a blank
-  bare-token : {q : Spot} (k : ℕ) → k ≤ 2 → tokensLeft g src p ≡ token k [] [] ∷ tokensLeft g src q → q .mode ≡ outside → p .at < q .at → q .at ≤ length src
+  bare-token : {q : Spot} (k : ℕ) → k ≤ 2 → tokensLeft g src p ≡ token k [] [] ∷ tokensLeft g src q → q .mode ≡ outside → Walk g src p q → p .at < q .at → q .at ≤ length src
       → TokenIs g src p (bareAt k q)
-  bare-token k h e m l n =
+  bare-token k h e m v l n =
       let t = there e in
       record {
         first = first e;
@@ -56,6 +57,7 @@ module _ (g : Signs) (src : List ℕ) (p : Spot) where
         name-mode = λ z. absurd (omega arith);
         quote-mode = λ z. absurd (omega arith);
         plain = m;
+        walk = v;
         on = l;
         to = n;
         inside = n;
@@ -84,7 +86,7 @@ module _ (g : Signs) (src : List ℕ) (p : Spot) where
     one : (k : ℕ) → k ≤ 2 → (m ≡ 60 → ⊥) → (m ≡ 34 → ⊥) → tokensFrom (noPart []) (m ∷ marksLeft g src q) ≡ token k [] [] ∷ tokensFrom (noPart []) (marksLeft g src q)
         → {t : Tok} → t ≡ bareAt k q → TokenIs g src p t
     unfolding tokensLeft
-    one k l h i f {t} j = rw j (bare-token k l (from-mark ∙ f) (stays h i) (mark .on) (mark .to))
+    one k l h i f {t} j = rw j (bare-token k l (from-mark ∙ f) (stays h i) (mark-walk mark) (mark .on) (mark .to))
 
     pub next-semi : m ≡ 59 → {t : Tok} → t ≡ bareAt 1 q → TokenIs g src p t
     next-semi h = one 1 (omega arith) (λ z. omega arith) (λ z. omega arith) (first-semi m (marksLeft g src q) h)
@@ -117,6 +119,7 @@ module _ (g : Signs) (src : List ℕ) (p : Spot) where
           name-mode = λ z. absurd (omega arith);
           quote-mode = λ z. absurd (omega arith);
           plain = stays (λ z. omega arith) (λ z. omega arith);
+          walk = mark-walk mark;
           on = mark .on;
           to = mark .to;
           inside = mark .to;
@@ -153,6 +156,7 @@ module _ (g : Signs) (src : List ℕ) (p : Spot) where
             name-mode = λ z. absurd (omega arith);
             quote-mode = λ z. absurd (omega arith);
             plain = w .mode;
+            walk = walk-then (mark-walk mark) (w .walk);
             on = omega (arith, mark .on, w .from);
             to = w .to;
             inside = w .to;
@@ -192,6 +196,7 @@ module _ (g : Signs) (src : List ℕ) (p : Spot) where
               name-mode = λ x. rw (mark .step .mode, o, h);
               quote-mode = λ z. absurd (omega arith);
               plain = z .mode ∙ rw (mark .step .mode, o, h);
+              walk = walk-then (mark-walk mark) (z .walk);
               on = omega (arith, mark .on, z .on);
               to = z .to;
               inside = mark .to;
@@ -239,6 +244,7 @@ module _ (g : Signs) (src : List ℕ) (p : Spot) where
                 name-mode = λ z. absurd (omega arith);
                 quote-mode = λ x. rw (mark .step .mode, o, h);
                 plain = closed .mode;
+                walk = walk-then (mark-walk mark) (closed .walk);
                 on = omega (arith, mark .on, closed .on);
                 to = closed .to;
                 inside = mark .to;

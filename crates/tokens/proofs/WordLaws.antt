@@ -17,7 +17,8 @@ use Rattle.lines.specs.declared.Signs.{Signs}
 use Rattle.lines.specs.declared.Spot.{Spot}
 use Rattle.lines.specs.declared.Step.{Step}
 use Rattle.lines.specs.declared.Step.the-variants as step
-use Rattle.lines.specs.Stream.{marksLeft, MarkIs, StepIs}
+use Rattle.lines.specs.Stream.{marksLeft, Walk, MarkIs, StepIs}
+use Rattle.lines.proofs.RunLaws.{walk-none, walk-then, mark-walk}
 use Rattle.tokens.specs.declared.WordStep.{WordStep}
 use Rattle.tokens.specs.declared.WordStep.the-variants.{Byte, End}
 use Rattle.tokens.specs.Left.{wordIn, afterWord, WordByte, WordStops, WordStepIs, WordEnds}
@@ -64,6 +65,7 @@ module _ {g : Signs} {src : List ℕ} {p : Spot} where
           after = rw (mark .marks, k);
           mode = λ z. mark .step .mode ∙ rw (z, w .name, w .quote);
           on = mark .on;
+          walk = mark-walk mark;
           to = mark .to;
         }
 
@@ -73,22 +75,23 @@ module _ {g : Signs} {src : List ℕ} {p : Spot} where
 pub record InWord (g : Signs) (src : List ℕ) (p q : Spot) : Type 0 where
   pub after : afterWord (marksLeft g src p) ≡ afterWord (marksLeft g src q)
   pub mode : q .mode ≡ outside
+  pub walk : Walk g src p q
   pub from : p .at ≤ q .at
   pub to : q .at ≤ length src
 
 pub in-none : (g : Signs) (src : List ℕ) (p : Spot) → p .at ≤ length src → p .mode ≡ outside → InWord g src p p
-in-none g src p h m = record { after = refl; mode = m; from = omega arith; to = h }
+in-none g src p h m = record { after = refl; mode = m; walk = walk-none g src p; from = omega arith; to = h }
 
 module _ {g : Signs} {src : List ℕ} {p q : Spot} {s : WordStep} (v : InWord g src p q) (w : WordStepIs g src q s) where
   pub in-more : {b : ℕ} {r : Spot} → s ≡ Byte b r → InWord g src p r
   in-more {b} {r} e =
       let x : WordByte g src q b r = subst (WordStepIs g src q) e w in
-      record { after = v .after ∙ x .after; mode = x .mode (v .mode); from = omega (arith, v .from, x .on); to = x .to }
+      record { after = v .after ∙ x .after; mode = x .mode (v .mode); walk = walk-then (v .walk) (x .walk); from = omega (arith, v .from, x .on); to = x .to }
 
   pub in-end : s ≡ End → WordEnds g src p q
   in-end e =
       let x : WordStops g src q = subst (WordStepIs g src q) e w in
-      record { after = sym (v .after ∙ x .after); mode = v .mode; from = v .from; to = v .to }
+      record { after = sym (v .after ∙ x .after); mode = v .mode; walk = v .walk; from = v .from; to = v .to }
 
 -- each byte of a word brings the end nearer
 pub word-less : (g : Signs) (src : List ℕ) (q : Spot) {s : WordStep} {b : ℕ} {r : Spot} → WordStepIs g src q s → s ≡ Byte b r

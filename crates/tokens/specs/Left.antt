@@ -13,7 +13,7 @@ use Rattle.rules.specs.Tokens as tokens
 use Rattle.rules.specs.Tokens.{broken, word, name, quote, Token, tokenAt, noPart, inWord, tokensFrom, withoutBlanks, withoutOpeningGaps, tokensRefusal, lexed, token}
 use Rattle.lines.specs.declared.Signs.{Signs}
 use Rattle.lines.specs.declared.Spot.{Spot}
-use Rattle.lines.specs.Stream.{marksLeft}
+use Rattle.lines.specs.Stream.{marksLeft, Walk}
 use Rattle.tokens.specs.declared.WordStep.{WordStep}
 use Rattle.tokens.specs.declared.WordStep.the-variants as wordStep
 use Rattle.tokens.specs.declared.NameStep.{NameStep}
@@ -98,6 +98,7 @@ pub record WordByte (g : Signs) (src : List ℕ) (p : Spot) (b : ℕ) (q : Spot)
   pub after : afterWord (marksLeft g src p) ≡ afterWord (marksLeft g src q)
   pub mode : p .mode ≡ outside → q .mode ≡ outside
   pub on : p .at < q .at
+  pub walk : Walk g src p q
   pub to : q .at ≤ length src
 
 -- The word ends.
@@ -114,6 +115,7 @@ pub record WordEnds (g : Signs) (src : List ℕ) (p q : Spot) : Type 0 where
   pub after : marksLeft g src q ≡ afterWord (marksLeft g src p)
   pub mode : q .mode ≡ outside
   pub from : p .at ≤ q .at
+  pub walk : Walk g src p q
   pub to : q .at ≤ length src
 
 -- ## What the readers of names give
@@ -125,6 +127,7 @@ pub record NameByte (g : Signs) (src : List ℕ) (p : Spot) (b : ℕ) (q : Spot)
   pub closes : oneOf isClose (marksLeft g src p) ≡ oneOf isClose (marksLeft g src q)
   pub mode : isInside (p .mode) ≡ true → q .mode ≡ p .mode
   pub on : p .at < q .at
+  pub walk : Walk g src p q
   pub to : q .at ≤ length src
 
 -- The name is closed: the spot after its `>`.
@@ -134,6 +137,7 @@ pub record NameCloses (g : Signs) (src : List ℕ) (p q : Spot) : Type 0 where
   pub closes : oneOf isClose (marksLeft g src p) ≡ true
   pub mode : q .mode ≡ lines.after (p .mode) 62
   pub on : p .at < q .at
+  pub walk : Walk g src p q
   pub to : q .at ≤ length src
 
 -- The line leaves the name open.
@@ -153,6 +157,7 @@ pub record NameEnds (g : Signs) (src : List ℕ) (p : Spot) (r : ℕ) (q : Spot)
   pub closes : oneOf isClose (marksLeft g src p) ≡ true
   pub mode : q .mode ≡ lines.after (p .mode) 62
   pub on : p .at < q .at
+  pub walk : Walk g src p q
   pub to : q .at ≤ length src
 
 abbrev pub ClosingIs : Signs → List ℕ → Spot → Closing → Type 0
@@ -166,6 +171,7 @@ pub record QuotesEnd (g : Signs) (src : List ℕ) (p : Spot) (n r : ℕ) (q : Sp
   pub refusal : namesRefusal (namesIn (marksLeft g src p)) ≡ r
   pub mode : q .mode ≡ outside
   pub on : p .at < q .at
+  pub walk : Walk g src p q
   pub to : q .at ≤ length src
 
 abbrev pub QuotesIs : Signs → List ℕ → Spot → Quotes → Type 0
@@ -193,6 +199,7 @@ pub record TokenIs (g : Signs) (src : List ℕ) (p : Spot) (t : Tok) : Type 0 wh
   pub quote-mode : t .kind ≡ tokens.quote → t .inside .mode ≡ quoted
   pub plain : t .next .mode ≡ outside
   pub on : p .at < t .next .at
+  pub walk : Walk g src p (t .next)
   pub to : t .next .at ≤ length src
   pub inside : t .inside .at ≤ length src
 
@@ -207,4 +214,5 @@ pub record Skips (g : Signs) (src : List ℕ) (p q : Spot) : Type 0 where
   pub tokens : tokensLeft g src q ≡ withoutOpeningGaps (tokensLeft g src p)
   pub mode : q .mode ≡ outside
   pub from : p .at ≤ q .at
+  pub walk : Walk g src p q
   pub to : q .at ≤ length src
