@@ -15,12 +15,6 @@ pub enum Code {
     Other,
 }
 
-// The next name in quotes: the spot right after its `<`, or that there is none.
-pub enum Named {
-    Name(Spot),
-    Close,
-}
-
 // Whether a name has these bytes.
 pub fn name_is(src: &[u8], g: Signs, p: Spot, w: &[u8]) -> bool
     requires { ⌜ p .at ≤ length (now src) ⌝ }
