@@ -1,9 +1,9 @@
-// Names in a source, each from the spot right after its `<`: beside other bytes or another name, as a character by its code, as a number.
+// Names in a source, each from the spot right after its `<`: beside other bytes, and as a character by its code.
 ghost use mathlib.Core.Path.{_≡_};
 ghost use Prim.Native.Nat.{_≤_, _<_};
 ghost use lib.ListN.{length};
 ghost use Rattle.rules.specs.Text.{same};
-ghost use Rattle.names.specs.Named.{nameLeft, hexOf, MadeIs, DigitsAre, CodeIs, hashOf, NamedIs};
+ghost use Rattle.names.specs.Named.{nameLeft, hexOf, MadeIs, DigitsAre, CodeIs};
 use lines::Signs;
 use lines::Spot;
 use tokens::NameStep;
