@@ -143,7 +143,7 @@ plain-still : (g : Signs) (mode : ℕ) (fresh : Bool) (done : List ℕ) → Stil
 unfolding endsEntry
 plain-still g mode fresh done b = (plain-as-is g (stateIn mode fresh done 0 0) b, refl)
 
-plain-quiet : (g : Signs) (mode : ℕ) (fresh : Bool) (done ms : List ℕ) → Quiet (plainSigns g) mode fresh done ms
+pub plain-quiet : (g : Signs) (mode : ℕ) (fresh : Bool) (done ms : List ℕ) → Quiet (plainSigns g) mode fresh done ms
 plain-quiet g mode fresh done [] = tt
 plain-quiet g mode fresh done (m ∷ ms) = (plain-still g mode fresh done, plain-quiet g (after mode m) (isBlank m) (done ++ m ∷ []) ms)
 
@@ -174,6 +174,11 @@ module _ (g : Signs) (src : List ℕ) (p : Spot) where
   pub run-marks : {q : Spot} {ms : List ℕ} {k : ℕ} → Run g src ms k p q → marksLeft g src p ≡ ms ++ marksLeft g src q
   run-marks {q} {ms} {k} r =
       ap (λ (s : Scan). s .marks)
+      (run-left q ms k (r .bytes) (r .goes (plainSigns g) (record { comment = refl; escape = refl }) [] 0 0 (plain-quiet g (p .mode) (p .fresh) [] ms)))
+
+  pub run-feeds : {q : Spot} {ms : List ℕ} {k : ℕ} → Run g src ms k p q → lineLeft g src p .feeds ≡ k + lineLeft g src q .feeds
+  run-feeds {q} {ms} {k} r =
+      ap (λ (s : Scan). s .feeds)
       (run-left q ms k (r .bytes) (r .goes (plainSigns g) (record { comment = refl; escape = refl }) [] 0 0 (plain-quiet g (p .mode) (p .fresh) [] ms)))
 
   run-passes : {q : Spot} {ms : List ℕ} {k : ℕ} (r : Run g src ms k p q) → 0 < r .bytes → q .at ≤ length src → Passes g src ms k p q
@@ -268,6 +273,7 @@ module _ (g : Signs) (src : List ℕ) (p : Spot) where
                   mode = rw z a;
                   fresh = rw z i;
                   bytes = 1;
+                  few = omega arith;
                   moved = refl;
                   goes = λ s like done k l q. rw at-byte
                       (line-step s (stateAt p done k l) (getD src (p .at) 0) (drop (p .at + 1) src) (stands s like done k l (q .0)) refl
@@ -327,6 +333,7 @@ module _ {g : Signs} {src : List ℕ} {p : Spot} (v : EscapeAt g src p) where
         mode = sym (after-escaped (p .mode) m (omega arith));
         fresh = sym (blank-escaped m (omega arith));
         bytes = 1;
+        few = omega arith;
         moved = refl;
         goes = λ s like done f z k. after-escape s like done f z (k .0) ∙ rw (drop-of-length-le src h, e, ← like .escape, add-zero f, add-one z);
       } in
@@ -356,6 +363,7 @@ module _ {g : Signs} {src : List ℕ} {p : Spot} (v : EscapeAt g src p) where
           mode = refl;
           fresh = refl;
           bytes = 2;
+          few = omega arith;
           moved = refl;
           goes = λ s like done f z q. pair-step s like done f z q (rw (e, add-one f, add-two z)) refl;
         } in
@@ -371,6 +379,7 @@ module _ {g : Signs} {src : List ℕ} {p : Spot} (v : EscapeAt g src p) where
             mode = b ∙ sym (after-escaped (p .mode) m d);
             fresh = c ∙ sym (blank-escaped m d);
             bytes = 2;
+            few = omega arith;
             moved = sym a;
             goes = λ s like done f z k. pair-step s like done f z (k .0) (i done f z) refl ∙ rw (a, b, c, add-zero f, add-two z);
           }

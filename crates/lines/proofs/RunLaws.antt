@@ -40,16 +40,19 @@ run-none g src p =
       mode = refl;
       fresh = refl;
       bytes = 0;
+      few = omega arith;
       moved = add-zero (p .at);
       goes = λ s like done f z h. rw (append-nil, add-zero f, add-zero z);
     }
 
-run-then : {g : Signs} {src ms ns : List ℕ} {k j : ℕ} {p q r : Spot} → Run g src ms k p q → Run g src ns j q r → Run g src (ms ++ ns) (k + j) p r
+-- one run after another
+pub run-then : {g : Signs} {src ms ns : List ℕ} {k j : ℕ} {p q r : Spot} → Run g src ms k p q → Run g src ns j q r → Run g src (ms ++ ns) (k + j) p r
 run-then {ms = ms} {ns} {k} {j} {p} {q} v w =
     record {
       mode = w .mode ∙ rw (v .mode) (sym (modeThrough-append (p .mode) ms ns));
       fresh = w .fresh ∙ rw (v .fresh) (sym (freshThrough-append (p .fresh) ms ns));
       bytes = v .bytes + w .bytes;
+      few = omega (arith, v .few, w .few);
       moved = omega (arith, v .moved, w .moved);
       goes = λ s like done f z h. v .goes s like done f z (quiet-first s (p .mode) (p .fresh) done ms ns h)
           ∙ w .goes s like (done ++ ms) (f + k) (z + v .bytes) (rw (v .mode, v .fresh) (quiet-then s (p .mode) (p .fresh) done ms ns h))

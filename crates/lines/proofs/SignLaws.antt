@@ -221,7 +221,7 @@ quiet-opening g mode fresh done (b ∷ bs) w m e h v = (
 blank-feed : (b : ℕ) → isBlank b ≡ true → b ≡ 10 → ⊥
 blank-feed b h e = let z : false ≡ true = rw e at h in false≢true z
 
-after-blank : (b : ℕ) → isBlank b ≡ true → after outside b ≡ outside
+pub after-blank : (b : ℕ) → isBlank b ≡ true → after outside b ≡ outside
 unfolding after
 after-blank b h =
     by (eqb b 32) (λ t. rw (eqb-true b 32 t)) (λ t. rw (eqb-true b 9 (rw t at h)))

@@ -33,7 +33,7 @@ joined-none g src p h =
     record {
       same = refl;
       feeds = 0;
-      joins = record { mode = refl; fresh = refl; bytes = 0; moved = add-zero (p .at); goes = λ s like done f z q. rw (add-zero f, add-zero z) };
+      joins = record { mode = refl; fresh = refl; bytes = 0; few = omega arith; moved = add-zero (p .at); goes = λ s like done f z q. rw (add-zero f, add-zero z) };
       to = h;
     }
 
@@ -44,6 +44,7 @@ joins-join {src = src} {k} {p} {q} {r} v w =
       mode = w .mode ∙ v .mode;
       fresh = w .fresh ∙ v .fresh;
       bytes = v .bytes + w .bytes;
+      few = omega (arith, v .few, w .few);
       moved = omega (arith, v .moved, w .moved);
       goes = λ s like done f z h. v .goes s like done f z h
           ∙ w .goes s like done (f + k) (z + v .bytes) (rw (v .mode, v .fresh) h)
@@ -57,6 +58,7 @@ joins-mark {src = src} {m} {k} {p} {q} {r} v w =
       mode = rw (← v .mode) (w .mode);
       fresh = w .fresh;
       bytes = v .bytes + w .bytes;
+      few = omega (arith, v .few, w .few);
       moved = omega (arith, v .moved, w .moved);
       goes = λ s like done f z h. v .goes s like done f z (h .0)
           ∙ w .goes s like done (f + k) (z + v .bytes) (rw (v .mode, v .fresh) (h .0), tt)

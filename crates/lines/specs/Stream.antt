@@ -91,6 +91,7 @@ pub record Run (g : Signs) (src ms : List ℕ) (k : ℕ) (p q : Spot) : Type 0 w
   pub mode : q .mode ≡ modeThrough (p .mode) ms
   pub fresh : q .fresh ≡ freshThrough (p .fresh) ms
   pub bytes : ℕ
+  pub few : k ≤ bytes
   pub moved : p .at + bytes ≡ q .at
   pub goes : (s : paper.Signs) → Like s g → (done : List ℕ) (f z : ℕ) → Quiet s (p .mode) (p .fresh) done ms
       → lineFrom s (stateAt p done f z) (drop (p .at) src) ≡ lineFrom s (stateAt q (done ++ ms) (f + k) (z + bytes)) (drop (q .at) src)
@@ -106,6 +107,7 @@ pub record Joins (g : Signs) (src : List ℕ) (k : ℕ) (p q : Spot) : Type 0 wh
   pub mode : q .mode ≡ p .mode
   pub fresh : q .fresh ≡ p .fresh
   pub bytes : ℕ
+  pub few : k ≤ bytes
   pub moved : p .at + bytes ≡ q .at
   pub goes : (s : paper.Signs) → Like s g → (done : List ℕ) (f z : ℕ) → Still s (p .mode) (p .fresh) done
       → lineFrom s (stateAt p done f z) (drop (p .at) src) ≡ lineFrom s (stateAt q done (f + k) (z + bytes)) (drop (q .at) src)

@@ -100,7 +100,7 @@ pub fn word_byte(src: &[u8], g: Signs, p: Spot) -> WordStep
 }
 
 // The spot after a word that goes on.
-fn end_of_word(src: &[u8], g: Signs, p: Spot) -> Spot
+pub fn end_of_word(src: &[u8], g: Signs, p: Spot) -> Spot
     requires { ⌜ (p .at ≤ length (now src)) × (p .mode ≡ outside) ⌝ }
     ensures { λ r. ⌜ WordEnds g (now (src .entry)) p r ⌝ }
 {

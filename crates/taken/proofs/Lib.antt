@@ -1,0 +1,3 @@
+pub mod BlankLaws
+pub mod OpenLaws
+pub mod TakenLaws
