@@ -24,7 +24,7 @@ use Rattle.lines.proofs.LineLaws.{onto, lineFrom-onto, plain-as-is, lin
 -- ## Opening blanks
 
 -- what follows a line that is more than blanks
-blanks-append : (ms ns : List ℕ) → (withoutBlanks ms ≡ [] → ⊥) → withoutBlanks (ms ++ ns) ≡ withoutBlanks ms ++ ns
+pub blanks-append : (ms ns : List ℕ) → (withoutBlanks ms ≡ [] → ⊥) → withoutBlanks (ms ++ ns) ≡ withoutBlanks ms ++ ns
 unfolding withoutBlanks
 blanks-append [] ns h = absurd (h refl)
 blanks-append (m ∷ ms) ns h =
@@ -85,7 +85,7 @@ stale-scan g w s b v h =
     (cond-both (Stale w) (endsEntry (plainSigns g) s b) h
     (λ e. by (isBlank b) (λ t. absurd (blank-ends w (s .marks) b v t e)) (λ t. t))))))))
 
-nonempty : (w : List ℕ) (d : ℕ) (ds : List ℕ) → w ++ d ∷ ds ≡ [] → ⊥
+pub nonempty : (w : List ℕ) (d : ℕ) (ds : List ℕ) → w ++ d ∷ ds ≡ [] → ⊥
 nonempty [] d ds e = cons-ne-nil d ds e
 nonempty (x ∷ w) d ds e = cons-ne-nil x (w ++ d ∷ ds) e
 

@@ -1,2 +1,3 @@
 pub mod CompareLaws
 pub mod CodeLaws
+pub mod WalkLaws

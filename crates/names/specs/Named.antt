@@ -1,18 +1,21 @@
 -- What is told of the name at a spot right after its `<`: its bytes are nameIn of the marks still to come (Rattle.tokens.specs.Left).
 use mathlib.Core.Path.{_≡_}
 use mathlib.Core.Bool.{Bool, true, false, _&&_, _||_}
-use mathlib.Core.List.{List}
-use Prim.Native.Nat.{ℕ}
+use mathlib.Core.List.{List, [], _∷_}
+use Prim.Native.Nat.{ℕ, _+_, _*_, _%_, _≤_}
 use lib.ListN.{length}
 use lib.Dec.{eqb}
 use Rattle.rules.specs.Text.{if_then_else_, every}
 use Rattle.rules.specs.Names.{isHex, digit, hexValue, charShaped, codeOf}
+use Rattle.rules.specs.Lines.{quoted, quotedName}
 use Rattle.lines.specs.declared.Signs.{Signs}
 use Rattle.lines.specs.declared.Spot.{Spot}
 use Rattle.lines.specs.Stream.{marksLeft}
-use Rattle.tokens.specs.Left.{nameIn}
+use Rattle.tokens.specs.Left.{nameIn, afterName, namesIn}
 use Rattle.names.specs.declared.Code.{Code}
 use Rattle.names.specs.declared.Code.the-variants.{Char, Other}
+use Rattle.names.specs.declared.Named.{Named}
+use Rattle.names.specs.declared.Named.the-variants.{Name, Close}
 
 -- the bytes of the name at a spot
 abbrev pub nameLeft : Signs → List ℕ → Spot → List ℕ
@@ -54,3 +57,26 @@ pub record CharIs (n : List ℕ) (c : ℕ) : Type 0 where
 abbrev pub CodeIs : List ℕ → Code → Type 0
 CodeIs n (Char c) = CharIs n c
 CodeIs n Other = charShaped n ≡ false
+
+-- ## A number for each name, the same for the same name
+
+-- the number that bytes go on with after h
+unfoldable pub hashFrom : ℕ → List ℕ → ℕ
+hashFrom h [] = h
+hashFrom h (b ∷ bs) = hashFrom ((h * 31 + b) % 16777216) bs
+
+-- of a whole name
+abbrev pub hashOf : List ℕ → ℕ
+hashOf n = hashFrom 0 n
+
+-- ## Names in quotes
+
+-- The next name in quotes: the spot after its `<`.
+pub record NameAt (g : Signs) (src : List ℕ) (p q : Spot) : Type 0 where
+  pub names : namesIn (marksLeft g src p) ≡ nameLeft g src q ∷ namesIn (afterName (marksLeft g src q))
+  pub mode : p .mode ≡ quoted → q .mode ≡ quotedName
+  pub to : q .at ≤ length src
+
+abbrev pub NamedIs : Signs → List ℕ → Spot → Named → Type 0
+NamedIs g src p (Name q) = NameAt g src p q
+NamedIs g src p Close = namesIn (marksLeft g src p) ≡ []

@@ -1,11 +1,14 @@
-// Names in a source, each from the spot right after its `<`: beside other bytes, and as a character by its code.
+// Names in a source, each from the spot right after its `<`: beside other bytes or another name, as a character by its code, as a number.
 ghost use mathlib.Core.Path.{_≡_};
+ghost use mathlib.Core.List.{[]};
 ghost use Prim.Native.Nat.{_≤_, _<_};
 ghost use lib.ListN.{length};
 ghost use Rattle.rules.specs.Text.{same};
-ghost use Rattle.names.specs.Named.{nameLeft, hexOf, MadeIs, DigitsAre, CodeIs};
+ghost use Rattle.names.specs.Named.{nameLeft, hexOf, MadeIs, DigitsAre, CodeIs, hashOf, NamedIs};
 use lines::Signs;
 use lines::Spot;
+use lines::Step;
+use lines::next_mark;
 use tokens::NameStep;
 use tokens::name_byte;
 
@@ -13,6 +16,12 @@ use tokens::name_byte;
 pub enum Code {
     Char(u32),
     Other,
+}
+
+// The next name in quotes: the spot right after its `<`, or that there is none.
+pub enum Named {
+    Name(Spot),
+    Close,
 }
 
 // Whether a name has these bytes.
@@ -128,5 +137,93 @@ pub fn name_char(src: &[u8], g: Signs, p: Spot) -> Code
         }
         NameStep::Close(_) => return Code::Other,
         NameStep::Open => return Code::Other,
+    }
+}
+
+// A number that is the same for the same name, below 2 to the 24th.
+pub fn name_hash(src: &[u8], g: Signs, p: Spot) -> u32
+    requires { ⌜ p .at ≤ length (now src) ⌝ }
+    ensures { λ r. ⌜ (r ≡ hashOf (nameLeft g (now (src .entry)) p)) × (r < 16777216) ⌝ }
+{
+    let mut q = p;
+    let mut h: u32 = 0;
+    loop {
+        let s = name_byte(src, g, q);
+        match s {
+            NameStep::Byte(b, r) => {
+                let x = wide(b);
+                h = (h * 31 + x) % 16777216;
+                q = r;
+            }
+            NameStep::Close(_) => return h,
+            NameStep::Open => return h,
+        }
+    }
+}
+
+// Whether a name has no byte more.
+fn ends(src: &[u8], g: Signs, p: Spot) -> bool
+    requires { ⌜ p .at ≤ length (now src) ⌝ }
+    ensures { λ r. ⌜ r ≡ same [] (nameLeft g (now (src .entry)) p) ⌝ }
+{
+    let s = name_byte(src, g, p);
+    match s {
+        NameStep::Byte(_, _) => return false,
+        NameStep::Close(_) => return true,
+        NameStep::Open => return true,
+    }
+}
+
+// Whether the names at two spots have the same bytes.
+pub fn same_name(src: &[u8], g: Signs, p: Spot, q: Spot) -> bool
+    requires { ⌜ (p .at ≤ length (now src)) × (q .at ≤ length (now src)) ⌝ }
+    ensures { λ r. ⌜ r ≡ same (nameLeft g (now (src .entry)) p) (nameLeft g (now (src .entry)) q) ⌝ }
+{
+    let mut i = p;
+    let mut j = q;
+    loop {
+        let s = name_byte(src, g, i);
+        match s {
+            NameStep::Byte(a, k) => {
+                let t = name_byte(src, g, j);
+                match t {
+                    NameStep::Byte(b, l) => {
+                        if a == b {
+                            i = k;
+                            j = l;
+                        } else {
+                            return false;
+                        }
+                    }
+                    NameStep::Close(_) => return false,
+                    NameStep::Open => return false,
+                }
+            }
+            NameStep::Close(_) => return ends(src, g, j),
+            NameStep::Open => return ends(src, g, j),
+        }
+    }
+}
+
+// The next name in quotes, from a spot in them outside names.
+pub fn next_name(src: &[u8], g: Signs, p: Spot) -> Named
+    requires { ⌜ p .at ≤ length (now src) ⌝ }
+    ensures { λ r. ⌜ NamedIs g (now (src .entry)) p r ⌝ }
+{
+    let mut q = p;
+    loop {
+        let s = next_mark(src, g, q);
+        match s {
+            Step::End => return Named::Close,
+            Step::Mark(m, r) => {
+                if m == 34 {
+                    return Named::Close;
+                }
+                if m == 60 {
+                    return Named::Name(r);
+                }
+                q = r;
+            }
+        }
     }
 }

@@ -51,7 +51,7 @@ word-passed : (ms w : List ℕ) → ms ≡ w ++ afterWord ms → w ≡ wordIn ms
 word-passed ms w e = append-cancel-right w (wordIn ms) (afterWord ms) (sym e ∙ word-split ms)
 
 -- a word ends at a blank
-word-blank : (w : List ℕ) (d : ℕ) (ds : List ℕ) → every inWord w ≡ true → isBlank d ≡ true → wordIn (w ++ d ∷ ds) ≡ w
+pub word-blank : (w : List ℕ) (d : ℕ) (ds : List ℕ) → every inWord w ≡ true → isBlank d ≡ true → wordIn (w ++ d ∷ ds) ≡ w
 unfolding wordIn
 word-blank [] d ds h b = rw b
 word-blank (m ∷ w) d ds h b = rw (every-head inWord m w h) (ap (λ (x : List ℕ). m ∷ x) (word-blank w d ds (every-tail inWord m w h) b))
@@ -71,7 +71,7 @@ other-word w ms h n =
         clash (rw g (same-refl w)) n)
         (λ t. rw (e, t) (and-false (begins w ms)))
 
-keyword-in : (comment : Bool) → every inWord (keyword comment) ≡ true
+pub keyword-in : (comment : Bool) → every inWord (keyword comment) ≡ true
 unfolding bytes every
 keyword-in true = refl
 keyword-in false = refl

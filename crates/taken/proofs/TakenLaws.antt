@@ -102,7 +102,7 @@ module _ (w bs cs : List ℕ) (m : ℕ) (v : Solid w) (a : every isBlank bs ≡ 
   unfolding opensWith
   is-open = rw (without, begins-append w (m ∷ cs), drop-append-seam w (m ∷ cs), b)
 
-keyword-solid : (comment : Bool) → Solid (keyword comment)
+pub keyword-solid : (comment : Bool) → Solid (keyword comment)
 keyword-solid true = comment-solid
 keyword-solid false = escape-solid
 

@@ -129,6 +129,22 @@ module _ (m : ℕ) (ms : List ℕ) where
         le-leb 512 m h,
       ))
 
+  -- a byte that is taken as it stands
+  pub first-as-is : 256 ≤ m → m < 512 → tokensFrom (noPart []) (m ∷ ms) ≡ token asIs ((m - 256) ∷ []) [] ∷ tokensFrom (noPart []) ms
+  unfolding lexNone
+  first-as-is h l =
+      token-first (token asIs ((m - 256) ∷ []) []) m ms
+      (simp (
+        ne-eqb m 32 (λ e. omega arith),
+        ne-eqb m 9 (λ e. omega arith),
+        ne-eqb m 59 (λ e. omega arith),
+        ne-eqb m 44 (λ e. omega arith),
+        ne-eqb m 60 (λ e. omega arith),
+        ne-eqb m 34 (λ e. omega arith),
+        lt-leb 512 m l,
+        le-leb 256 m h,
+      ))
+
 -- ## Words
 
 -- none of six

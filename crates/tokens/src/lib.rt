@@ -1,4 +1,4 @@
-// The tokens of a line, read from a spot on with nothing kept; of a line that is passed over, its words.
+// The tokens of a line, read from a spot on with nothing kept.
 ghost use mathlib.Core.Path.{_≡_};
 ghost use mathlib.Core.Bool.{true, _&&_};
 ghost use Prim.Native.Nat.{_≤_};

@@ -1,0 +1,3 @@
+pub mod WordLaws
+pub mod RunLaws
+pub mod LineWordLaws
