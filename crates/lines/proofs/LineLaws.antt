@@ -18,7 +18,7 @@ use Rattle.rules.specs.Lines.{outside, comment, after, Scan, dropped, fed, mark
 use Rattle.lines.specs.declared.Signs.{Signs}
 use Rattle.lines.specs.declared.Spot.{Spot}
 use Rattle.lines.specs.declared.Item.the-variants.{Mark, Join, Hidden}
-use Rattle.lines.specs.Stream.{plainSigns, stateIn, stateAt, lineLeft, lineStart, Like, Still, Quiet, Run, Joins, Passes, Marks, Ends, ItemIs, EscapeAt, marksLeft}
+use Rattle.lines.specs.Stream.{endOf, plainSigns, stateIn, stateAt, lineLeft, lineStart, Like, Still, Quiet, Run, Joins, Passes, Marks, Ends, ItemIs, EscapeAt, marksLeft}
 
 -- ## What is read before
 
@@ -180,6 +180,14 @@ module _ (g : Signs) (src : List ℕ) (p : Spot) where
   run-feeds {q} {ms} {k} r =
       ap (λ (s : Scan). s .feeds)
       (run-left q ms k (r .bytes) (r .goes (plainSigns g) (record { comment = refl; escape = refl }) [] 0 0 (plain-quiet g (p .mode) (p .fresh) [] ms)))
+
+  -- a run stays in its line
+  pub run-end : {q : Spot} {ms : List ℕ} {k : ℕ} → Run g src ms k p q → endOf g src p ≡ endOf g src q
+  run-end {q} {ms} {k} r =
+      let z : lineLeft g src p .size ≡ r .bytes + lineLeft g src q .size =
+      ap (λ (s : Scan). s .size)
+      (run-left q ms k (r .bytes) (r .goes (plainSigns g) (record { comment = refl; escape = refl }) [] 0 0 (plain-quiet g (p .mode) (p .fresh) [] ms))) in
+      omega (arith, z, r .moved)
 
   run-passes : {q : Spot} {ms : List ℕ} {k : ℕ} (r : Run g src ms k p q) → 0 < r .bytes → q .at ≤ length src → Passes g src ms k p q
   run-passes {q} {ms} {k} r h l =

@@ -5,6 +5,7 @@ use mathlib.Core.List.{List, [], _∷_, _++_, append-nil, append-assoc}
 use Prim.Native.Nat.{ℕ, _+_}
 use native.Mathlib.Nat.{add-zero, add-assoc}
 use native.Mathlib.Omega.{arith}
+use lib.ListN.{length-append}
 use Rattle.rules.specs.Names.{isBlank}
 use Rattle.rules.specs.Lines as paper
 use Rattle.rules.specs.Lines.{after, lineFrom}
@@ -52,7 +53,7 @@ run-then {ms = ms} {ns} {k} {j} {p} {q} v w =
       mode = w .mode ∙ rw (v .mode) (sym (modeThrough-append (p .mode) ms ns));
       fresh = w .fresh ∙ rw (v .fresh) (sym (freshThrough-append (p .fresh) ms ns));
       bytes = v .bytes + w .bytes;
-      few = omega (arith, v .few, w .few);
+      few = omega (arith, v .few, w .few, length-append ms ns);
       moved = omega (arith, v .moved, w .moved);
       goes = λ s like done f z h. v .goes s like done f z (quiet-first s (p .mode) (p .fresh) done ms ns h)
           ∙ w .goes s like (done ++ ms) (f + k) (z + v .bytes) (rw (v .mode, v .fresh) (quiet-then s (p .mode) (p .fresh) done ms ns h))

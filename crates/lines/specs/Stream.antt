@@ -91,7 +91,7 @@ pub record Run (g : Signs) (src ms : List ℕ) (k : ℕ) (p q : Spot) : Type 0 w
   pub mode : q .mode ≡ modeThrough (p .mode) ms
   pub fresh : q .fresh ≡ freshThrough (p .fresh) ms
   pub bytes : ℕ
-  pub few : k ≤ bytes
+  pub few : k + length ms ≤ bytes
   pub moved : p .at + bytes ≡ q .at
   pub goes : (s : paper.Signs) → Like s g → (done : List ℕ) (f z : ℕ) → Quiet s (p .mode) (p .fresh) done ms
       → lineFrom s (stateAt p done f z) (drop (p .at) src) ≡ lineFrom s (stateAt q (done ++ ms) (f + k) (z + bytes)) (drop (q .at) src)

@@ -1,18 +1,17 @@
 -- The keyword at a spot, and the first byte after blanks: the turns of the loop.
-use mathlib.Core.Path.{_≡_, refl, sym, ap, _∙_}
+use mathlib.Core.Path.{_≡_, refl, sym, _∙_}
 use mathlib.Core.Bool.{Bool, true, false}
-use mathlib.Core.List.{List, [], _∷_, _++_, append-assoc, append-nil}
-use Prim.Native.Nat.{ℕ, suc, _+_, _≤_, _<_}
+use mathlib.Core.List.{List, [], _∷_, _++_, append-assoc}
+use Prim.Native.Nat.{ℕ, _+_, _≤_, _<_}
 use native.Mathlib.Numerals.{add-one}
 use native.Mathlib.Omega.{arith}
 use lib.ListN.{length, getD, drop, drop-of-length-le, length-append}
 use lib.Seq.{drop-cons}
-use lib.Dec.{eqb}
 use borrow.Author.Tests.{eq-eqb}
-use Rattle.rules.specs.Text.{every, same}
+use Rattle.rules.specs.Text.{every}
 use Rattle.rules.specs.Names.{isBlank}
 use Rattle.rules.proofs.TextLaws.{every-both, every-cons}
-use Rattle.taken.specs.Signed.{lineEnds, Blanks, ByteAt, NoByte}
+use Rattle.taken.specs.Signed.{Blanks, ByteAt, NoByte}
 
 -- Only blanks stand from a place to i.
 pub record InBlanks (src : List ℕ) (at i : ℕ) : Type 0 where

@@ -1,3 +1,4 @@
+pub mod AsIsLaws
 pub mod BlankLaws
 pub mod OpenLaws
 pub mod TakenLaws

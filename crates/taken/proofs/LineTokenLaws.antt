@@ -1,8 +1,8 @@
 -- The tokens and the text of a line with a byte that is taken as it stands (TakenIs): the keyword, blanks, that byte, and what follows it.
 use mathlib.Core.Path.{_≡_, refl, sym, ap, _∙_}
-use mathlib.Core.Bool.{Bool, true, false, not, _&&_, and-true}
-use mathlib.Core.List.{List, [], _∷_, _++_, append-assoc, append-nil}
-use Prim.Native.Nat.{ℕ, _+_, _-_, _≤_, _<_}
+use mathlib.Core.Bool.{Bool, true, false, _&&_}
+use mathlib.Core.List.{List, [], _∷_, _++_, append-assoc}
+use Prim.Native.Nat.{ℕ, _+_, _-_, _<_}
 use native.Mathlib.Omega.{arith}
 use lib.ListN.{length, drop}
 use lib.Dec.{eqb}
@@ -15,7 +15,7 @@ use Rattle.rules.specs.Lines.{isWordLine}
 use Rattle.rules.proofs.TextLaws.{every-head, every-tail, every-append, every-both, every-mono, begins-split}
 use Rattle.lines.specs.Stream.{blankFirst, opensWith}
 use Rattle.lines.proofs.SignLaws.{Solid, blanks-append, nonempty}
-use Rattle.tokens.specs.Left.{wordIn, afterWord}
+use Rattle.tokens.specs.Left.{afterWord}
 use Rattle.tokens.proofs.TokenLaws.{first-gap, first-as-is, first-word, word-whole}
 use Rattle.taken.specs.Signed.{keyword}
 use Rattle.taken.proofs.OpenLaws.{word-blank, keyword-in}
@@ -49,7 +49,7 @@ before w done h o = go (drop (length w) (withoutBlanks done)) refl
 -- ## Tokens
 
 -- blanks before other marks
-gaps : (bs ms : List ℕ) → every isBlank bs ≡ true
+pub gaps : (bs ms : List ℕ) → every isBlank bs ≡ true
     → withoutGaps false (tokensFrom (noPart []) (bs ++ ms)) ≡ withoutGaps false (tokensFrom (noPart []) ms)
 unfolding withoutGaps
 gaps [] ms h = refl
@@ -104,7 +104,7 @@ line-tokens comment done c ms h o l =
 
 -- ## Text
 
-blank-text : (b : ℕ) → isBlank b ≡ true → isText b ≡ true
+pub blank-text : (b : ℕ) → isBlank b ≡ true → isText b ≡ true
 blank-text b h = by (eqb b 32) (λ t. rw (eqb-true b 32 t)) (λ t. rw (eqb-true b 9 (rw t at h)))
 
 text-without : (ms : List ℕ) → every isText (withoutBlanks ms) ≡ true → every isText ms ≡ true
@@ -113,7 +113,7 @@ text-without [] h = refl
 text-without (m ∷ ms) h =
     by (isBlank m) (λ t. and-intro (blank-text m t) (text-without ms (rw t at h))) (λ t. rw t at h)
 
-keyword-text : (comment : Bool) → every isText (keyword comment) ≡ true
+pub keyword-text : (comment : Bool) → every isText (keyword comment) ≡ true
 unfolding bytes every
 keyword-text true = refl
 keyword-text false = refl

@@ -1,29 +1,29 @@
 -- How a line outside every category opens: with the keyword and a blank, or not.
 use borrow.Author.Tests.{ne-eqb}
 use mathlib.Core.Path.{_≡_, refl, sym, ap, _∙_, subst}
-use mathlib.Core.Bool.{Bool, true, false, not, _&&_, _||_, and-false, false≢true}
-use mathlib.Core.List.{List, [], _∷_, _++_, append-nil, append-assoc, append-cancel-right}
-use Prim.Native.Nat.{ℕ, _+_, _≤_, _<_}
-use native.Mathlib.Omega.{arith}
+use mathlib.Core.Bool.{Bool, true, false, not, _&&_, and-false}
+use mathlib.Core.List.{List, [], _∷_, _++_, append-cancel-right}
+use Prim.Native.Nat.{ℕ, _+_, _≤_}
 use lib.ListN.{length, drop}
 use lib.Seq.{drop-append-seam}
 use lib.Dec.{eqb}
-use Rattle.lists.proofs.Bools.{by, clash, and-left, and-right, and-intro}
+use Rattle.lists.proofs.Bools.{by, clash, and-intro}
 use Rattle.rules.specs.Text.{bytes, every, same, begins}
 use Rattle.rules.specs.Names.{isBlank}
 use Rattle.rules.specs.Tokens.{inWord, withoutBlanks}
-use Rattle.rules.specs.Lines.{outside, after, lineOf}
+use Rattle.rules.specs.Lines.{outside, after, isWordLine, isSignLine, takesAsIs, lineOf}
 use Rattle.rules.proofs.TextLaws.{every-head, every-tail, same-refl, begins-split}
 use Rattle.lines.specs.declared.Signs.{Signs}
 use Rattle.lines.specs.declared.Spot.{Spot}
 use Rattle.lines.specs.declared.Step.{Step}
 use Rattle.lines.specs.declared.Step.the-variants as step
-use Rattle.lines.specs.Stream.{plainSigns, outsideSigns, lineLeft, lineStart, marksLeft, MarkIs, StepIs, blankFirst, opensWith, Run}
+use Rattle.lines.specs.Stream.{plainSigns, outsideSigns, lineLeft, lineStart, marksLeft, freshThrough, MarkIs, StepIs, blankFirst, opensWith, Run}
 use Rattle.lines.proofs.LineLaws.{lineOf-left, run-marks}
 use Rattle.lines.proofs.RunLaws.{run-then}
-use Rattle.lines.proofs.SignLaws.{outside-plain, after-blank}
+use Rattle.lines.proofs.SignLaws.{Solid, comment-solid, escape-solid, blank-ends, word-opens, after-blank}
 use Rattle.tokens.specs.Left.{wordIn, afterWord, WordEnds, Skips}
 use Rattle.taken.specs.Signed.{keyword, KeywordAt, Opened, Visible, WordIs}
+use Rattle.taken.proofs.AsIsLaws.{Kind, Never, line-never, last-blank}
 use Rattle.taken.specs.declared.Keyword.{Keyword}
 use Rattle.taken.specs.declared.Keyword.the-variants as key
 
@@ -38,7 +38,7 @@ opening (m ∷ ms) =
     (λ t. let r = opening ms in (m ∷ r .0, and-intro t (r .1), rw t (ap (λ (x : List ℕ). m ∷ x) (r .2))))
     (λ t. ([], refl, rw t))
 
-opening-blank : (ms bs : List ℕ) → ms ≡ bs ++ withoutBlanks ms → every isBlank bs ≡ true
+pub opening-blank : (ms bs : List ℕ) → ms ≡ bs ++ withoutBlanks ms → every isBlank bs ≡ true
 opening-blank ms bs e = let r = opening ms in rw (append-cancel-right bs (r .0) (withoutBlanks ms) (sym e ∙ r .2)) (r .1)
 
 -- a word and what comes after it
@@ -84,6 +84,28 @@ other false = refl
 
 -- ## A line that is plain
 
+-- where a comment may open, a line is more than a word
+not-word : (w ms : List ℕ) → Solid w → freshThrough true ms ≡ true → withoutBlanks ms ≡ w → ⊥
+unfolding withoutBlanks
+not-word w [] v f e = v .some (sym e)
+not-word w (m ∷ ms) v f e = let r = last-blank m ms f in blank-ends w (r .0) (r .1) v (r .3) (ap withoutBlanks (sym (r .2)) ∙ e)
+
+-- marks that do not open with a keyword and a blank are no keyword and blanks
+not-line : (w : List ℕ) → Solid w → (ms ns : List ℕ) → freshThrough true ms ≡ true → opensWith w (ms ++ ns) ≡ false → isWordLine w ms ≡ false
+not-line w v ms ns f h = by (isWordLine w ms) (λ t. clash (word-opens w ms ns v (not-word w ms v f) t) h) (λ t. t)
+
+-- in them no byte is taken as it stands
+pub outside-never : (g : Signs) (all : List ℕ) → opensWith (bytes "comment_char") all ≡ false → opensWith (bytes "escape_char") all ≡ false
+    → Never (outsideSigns g) all
+unfolding Never takesAsIs isSignLine
+outside-never g all h k ms ns e f x b i =
+    let c = not-line (bytes "comment_char") comment-solid ms ns f (rw (sym e) h) in
+    let d = not-line (bytes "escape_char") escape-solid ms ns f (rw (sym e) k) in
+    rw (i, c, d) (and-false (eqb (x .mode) outside && x .fresh && not (isBlank b)))
+
+pub outside-kind : (g : Signs) → Kind (outsideSigns g) g
+outside-kind g = record { like = record { comment = refl; escape = refl }; free = refl }
+
 -- by what its marks without the opening blanks are
 plain-line : (g : Signs) (src : List ℕ) (at : ℕ) (ms : List ℕ) → ms ≡ withoutBlanks (marksLeft g src (lineStart at))
     → ((comment : Bool) → (begins (keyword comment) ms && blankFirst (drop (length (keyword comment)) ms)) ≡ false)
@@ -92,7 +114,7 @@ unfolding opensWith
 plain-line g src at ms e h =
     let l = lineOf-left g src at in
     let m : withoutBlanks (lineOf (plainSigns g) (drop at src) .marks) ≡ ms = rw l (sym e) in
-    outside-plain g (drop at src) (rw m (h true)) (rw m (h false)) ∙ l
+    line-never (outside-kind g) (drop at src) (outside-never g (lineOf (plainSigns g) (drop at src) .marks) (rw m (h true)) (rw m (h false))) ∙ l
 
 module _ (g : Signs) (src : List ℕ) (at : ℕ) {q : Spot} (v : Skips g src (lineStart at) q) where
   -- its first word is neither keyword

@@ -7,6 +7,7 @@ use lib.ListN.{length, drop}
 use lib.Dec.{eqb}
 use Rattle.rules.specs.Text.{if_then_else_, bytes, every, same}
 use Rattle.rules.specs.Names.{isBlank}
+use Rattle.rules.specs.Lines as paper
 use Rattle.rules.specs.Lines.{outside, isWordLine, lineOf}
 use Rattle.lines.specs.declared.Signs.{Signs}
 use Rattle.lines.specs.declared.Spot.{Spot}
@@ -42,6 +43,16 @@ pub record TakenIs (g : Signs) (src : List ℕ) (at : ℕ) (comment : Bool) (c k
   pub marks : lineOf (outsideSigns g) (drop at src) .marks ≡ done ++ (256 + c) ∷ marksLeft g src rest
   pub feeds : lineOf (outsideSigns g) (drop at src) .feeds ≡ k + lineLeft g src rest .feeds
   pub end : at + lineOf (outsideSigns g) (drop at src) .size ≡ endOf g src rest
+  pub few : at + k ≤ rest .at
+  pub mode : rest .mode ≡ outside
+  pub to : rest .at ≤ length src
+
+-- The same of a line of any kind s, with the marks done before the byte.
+pub record ByteTaken (s : paper.Signs) (g : Signs) (src : List ℕ) (at : ℕ) (done : List ℕ) (c k : ℕ) (rest : Spot) : Type 0 where
+  pub marks : lineOf s (drop at src) .marks ≡ done ++ (256 + c) ∷ marksLeft g src rest
+  pub feeds : lineOf s (drop at src) .feeds ≡ k + lineLeft g src rest .feeds
+  pub end : at + lineOf s (drop at src) .size ≡ endOf g src rest
+  pub on : at < rest .at
   pub few : at + k ≤ rest .at
   pub mode : rest .mode ≡ outside
   pub to : rest .at ≤ length src

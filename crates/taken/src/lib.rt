@@ -50,7 +50,7 @@ fn keyword_at(src: &[u8], g: Signs, p: Spot) -> Keyword
 }
 
 // The first byte after the blanks from a place on, as it stands.
-fn after_blanks(src: &[u8], at: usize) -> Found
+pub fn after_blanks(src: &[u8], at: usize) -> Found
     requires { ⌜ at ≤ length (now src) ⌝ }
     ensures { λ r. ⌜ FoundIs (now (src .entry)) at r ⌝ }
 {

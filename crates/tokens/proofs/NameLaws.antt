@@ -52,6 +52,7 @@ module _ {g : Signs} {src : List ℕ} {p : Spot} where
           after = rw (mark .marks, h);
           closes = rw (mark .marks, h);
           mode = rw h at (mark .step .mode);
+          edge = mark .step .fresh ∙ rw h;
           on = mark .on;
           walk = mark-walk mark;
           to = mark .to;
@@ -149,6 +150,8 @@ module _ {g : Signs} {src : List ℕ} {p q : Spot} {n : ℕ} {visible : Bool} {s
         after = v .after ∙ x .after;
         closes = v .closes ∙ x .closes;
         mode = x .mode ∙ rw (v .mode);
+        edge = x .edge;
+        long = omega (arith, v .from, x .on, l);
         walk = walk-then (v .walk) (x .walk);
         on = omega (arith, v .from, x .on);
         to = x .to;
@@ -198,6 +201,7 @@ module _ {g : Signs} {src : List ℕ} {p q : Spot} {n r : ℕ} {s : Step} (v : I
           many = rw a (v .many);
           refusal = rw a (v .refusal);
           mode = next .step .mode ∙ rw (v .mode, h);
+          edge = next .step .fresh ∙ rw h;
           walk = walk-then (v .walk) (mark-walk next);
           on = omega (arith, v .from, next .on);
           to = next .to;

@@ -16,13 +16,14 @@ use Rattle.lines.specs.declared.Spot.{Spot}
 use Rattle.lines.specs.declared.Step.{Step}
 use Rattle.lines.specs.declared.Step.the-variants as step
 use Rattle.lines.specs.Stream.{marksLeft, Walk, MarkIs, StepIs}
-use Rattle.lines.proofs.RunLaws.{walk-then, mark-walk}
+use Rattle.lines.proofs.RunLaws.{walk-none, walk-then, mark-walk}
 use Rattle.tokens.specs.declared.Closing.{Closing}
 use Rattle.tokens.specs.declared.Closing.the-variants as closing
 use Rattle.tokens.specs.declared.Quotes.{Quotes}
 use Rattle.tokens.specs.declared.Quotes.the-variants as quotes
 use Rattle.tokens.specs.declared.Tok.{Tok}
 use Rattle.tokens.specs.Left.{tokensLeft, tokenThere, wordIn, afterWord, isClose, isInside, nameIn, afterName, namesIn, WordEnds, NameEnds, ClosingIs, QuotesEnd, QuotesIs, bareAt, TokenIs}
+use Rattle.tokens.proofs.WordLaws.{unblank, wide-unblank}
 use Rattle.tokens.proofs.TokenLaws.{first-gap, first-semi, first-comma, first-name, first-quote, first-dead, first-word, word-whole, name-closed, name-open, in-word}
 use Rattle.tokens.proofs.RefusalLaws.{refusal-broken, refusal-name, refusal-empty, refusal-quote, tokensRefusal-cons, three-first}
 use Rattle.tokens.proofs.WordLaws.{in-word-yes}
@@ -43,7 +44,7 @@ module _ (g : Signs) (src : List ℕ) (p : Spot) where
   -- a separator or a blank
   bare-token : {q : Spot} (k : ℕ) → k ≤ 2 → tokensLeft g src p ≡ token k [] [] ∷ tokensLeft g src q → q .mode ≡ outside → Walk g src p q → p .at < q .at → q .at ≤ length src
       → TokenIs g src p (bareAt k q)
-  bare-token k h e m v l n =
+  bare-token {q} k h e m v l n =
       let t = there e in
       record {
         first = first e;
@@ -57,7 +58,12 @@ module _ (g : Signs) (src : List ℕ) (p : Spot) where
         name-mode = λ z. absurd (omega arith);
         quote-mode = λ z. absurd (omega arith);
         plain = m;
+        edge = λ z. absurd (omega arith);
+        long-word = λ z. absurd (omega arith);
+        long-name = λ z. absurd (omega arith);
         walk = v;
+        enter = v;
+        leave = walk-none g src q;
         on = l;
         to = n;
         inside = n;
@@ -119,7 +125,12 @@ module _ (g : Signs) (src : List ℕ) (p : Spot) where
           name-mode = λ z. absurd (omega arith);
           quote-mode = λ z. absurd (omega arith);
           plain = stays (λ z. omega arith) (λ z. omega arith);
+          edge = λ z. mark .step .fresh ∙ wide-unblank m h;
+          long-word = λ z. absurd (omega arith);
+          long-name = λ z. absurd (omega arith);
           walk = mark-walk mark;
+          enter = mark-walk mark;
+          leave = walk-none g src q;
           on = mark .on;
           to = mark .to;
           inside = mark .to;
@@ -156,7 +167,12 @@ module _ (g : Signs) (src : List ℕ) (p : Spot) where
             name-mode = λ z. absurd (omega arith);
             quote-mode = λ z. absurd (omega arith);
             plain = w .mode;
+            edge = λ z. w .edge (mark .step .fresh ∙ unblank m goes-on);
+            long-word = λ z. rw t (omega (arith, w .long, mark .on));
+            long-name = λ z. absurd (omega arith);
             walk = walk-then (mark-walk mark) (w .walk);
+            enter = walk-then (mark-walk mark) (w .walk);
+            leave = walk-none g src _;
             on = omega (arith, mark .on, w .from);
             to = w .to;
             inside = w .to;
@@ -196,7 +212,12 @@ module _ (g : Signs) (src : List ℕ) (p : Spot) where
               name-mode = λ x. rw (mark .step .mode, o, h);
               quote-mode = λ z. absurd (omega arith);
               plain = z .mode ∙ rw (mark .step .mode, o, h);
+              edge = λ x. z .edge;
+              long-word = λ x. absurd (omega arith);
+              long-name = λ x. z .long;
               walk = walk-then (mark-walk mark) (z .walk);
+              enter = mark-walk mark;
+              leave = z .walk;
               on = omega (arith, mark .on, z .on);
               to = z .to;
               inside = mark .to;
@@ -244,7 +265,12 @@ module _ (g : Signs) (src : List ℕ) (p : Spot) where
                 name-mode = λ z. absurd (omega arith);
                 quote-mode = λ x. rw (mark .step .mode, o, h);
                 plain = closed .mode;
+                edge = λ x. closed .edge;
+                long-word = λ x. absurd (omega arith);
+                long-name = λ x. absurd (omega arith);
                 walk = walk-then (mark-walk mark) (closed .walk);
+                enter = mark-walk mark;
+                leave = closed .walk;
                 on = omega (arith, mark .on, closed .on);
                 to = closed .to;
                 inside = mark .to;

@@ -23,7 +23,8 @@ use Rattle.tokens.specs.declared.WordStep.{WordStep}
 use Rattle.tokens.specs.declared.WordStep.the-variants.{Byte, End}
 use Rattle.tokens.specs.Left.{wordIn, afterWord, WordByte, WordStops, WordStepIs, WordEnds}
 use Rattle.tokens.proofs.TokenLaws.{in-word}
-use Rattle.lists.proofs.Bools.{by}
+use Rattle.lists.proofs.Bools.{by, clash}
+use Rattle.rules.specs.Names.{isBlank}
 
 -- ## The marks of a word
 
@@ -39,6 +40,14 @@ in-word-yes m h a b c d e =
 
 pub word-small : (m : ℕ) {t : Bool} → t ≡ inWord m → t ≡ true → m < 256
 word-small m f y = in-word m (sym f ∙ y) .small
+
+-- it is no blank
+pub unblank : (m : ℕ) → inWord m ≡ true → isBlank m ≡ false
+unblank m h = by (isBlank m) (λ t. clash h (rw t)) (λ t. t)
+
+-- nor is a byte behind an escape
+pub wide-unblank : (m : ℕ) → 256 ≤ m → isBlank m ≡ false
+wide-unblank m h = simp (ne-eqb m 32 (λ e. omega (arith, e, h)), ne-eqb m 9 (λ e. omega (arith, e, h)))
 
 -- ## The next byte
 
@@ -64,6 +73,7 @@ module _ {g : Signs} {src : List ℕ} {p : Spot} where
           bytes = rw (mark .marks, k);
           after = rw (mark .marks, k);
           mode = λ z. mark .step .mode ∙ rw (z, w .name, w .quote);
+          edge = mark .step .fresh ∙ unblank m k;
           on = mark .on;
           walk = mark-walk mark;
           to = mark .to;
@@ -75,23 +85,25 @@ module _ {g : Signs} {src : List ℕ} {p : Spot} where
 pub record InWord (g : Signs) (src : List ℕ) (p q : Spot) : Type 0 where
   pub after : afterWord (marksLeft g src p) ≡ afterWord (marksLeft g src q)
   pub mode : q .mode ≡ outside
+  pub edge : p .fresh ≡ false → q .fresh ≡ false
+  pub long : length (wordIn (marksLeft g src p)) + p .at ≤ length (wordIn (marksLeft g src q)) + q .at
   pub walk : Walk g src p q
   pub from : p .at ≤ q .at
   pub to : q .at ≤ length src
 
 pub in-none : (g : Signs) (src : List ℕ) (p : Spot) → p .at ≤ length src → p .mode ≡ outside → InWord g src p p
-in-none g src p h m = record { after = refl; mode = m; walk = walk-none g src p; from = omega arith; to = h }
+in-none g src p h m = record { after = refl; mode = m; edge = λ e. e; long = omega arith; walk = walk-none g src p; from = omega arith; to = h }
 
 module _ {g : Signs} {src : List ℕ} {p q : Spot} {s : WordStep} (v : InWord g src p q) (w : WordStepIs g src q s) where
   pub in-more : {b : ℕ} {r : Spot} → s ≡ Byte b r → InWord g src p r
   in-more {b} {r} e =
       let x : WordByte g src q b r = subst (WordStepIs g src q) e w in
-      record { after = v .after ∙ x .after; mode = x .mode (v .mode); walk = walk-then (v .walk) (x .walk); from = omega (arith, v .from, x .on); to = x .to }
+      record { after = v .after ∙ x .after; mode = x .mode (v .mode); edge = λ e. x .edge; long = (let l = ap length (x .bytes) in omega (arith, v .long, x .on, l)); walk = walk-then (v .walk) (x .walk); from = omega (arith, v .from, x .on); to = x .to }
 
   pub in-end : s ≡ End → WordEnds g src p q
   in-end e =
       let x : WordStops g src q = subst (WordStepIs g src q) e w in
-      record { after = sym (v .after ∙ x .after); mode = v .mode; walk = v .walk; from = v .from; to = v .to }
+      record { after = sym (v .after ∙ x .after); mode = v .mode; edge = v .edge; long = (let l = ap length (x .bytes) in omega (arith, v .long, l)); walk = v .walk; from = v .from; to = v .to }
 
 -- each byte of a word brings the end nearer
 pub word-less : (g : Signs) (src : List ℕ) (q : Spot) {s : WordStep} {b : ℕ} {r : Spot} → WordStepIs g src q s → s ≡ Byte b r

@@ -2,7 +2,7 @@
 use mathlib.Core.Path.{_≡_}
 use mathlib.Core.Bool.{Bool, true, false, _||_, not}
 use mathlib.Core.List.{List, [], _∷_, map}
-use Prim.Native.Nat.{ℕ, _%_, _≤_, _<_}
+use Prim.Native.Nat.{ℕ, _+_, _%_, _≤_, _<_}
 use lib.ListN.{length}
 use lib.Dec.{eqb}
 use Rattle.rules.specs.Text.{if_then_else_, oneOf}
@@ -97,6 +97,7 @@ pub record WordByte (g : Signs) (src : List ℕ) (p : Spot) (b : ℕ) (q : Spot)
   pub bytes : wordIn (marksLeft g src p) ≡ b ∷ wordIn (marksLeft g src q)
   pub after : afterWord (marksLeft g src p) ≡ afterWord (marksLeft g src q)
   pub mode : p .mode ≡ outside → q .mode ≡ outside
+  pub edge : q .fresh ≡ false
   pub on : p .at < q .at
   pub walk : Walk g src p q
   pub to : q .at ≤ length src
@@ -114,6 +115,8 @@ WordStepIs g src p wordStep.End = WordStops g src p
 pub record WordEnds (g : Signs) (src : List ℕ) (p q : Spot) : Type 0 where
   pub after : marksLeft g src q ≡ afterWord (marksLeft g src p)
   pub mode : q .mode ≡ outside
+  pub edge : p .fresh ≡ false → q .fresh ≡ false
+  pub long : length (wordIn (marksLeft g src p)) + p .at ≤ q .at
   pub from : p .at ≤ q .at
   pub walk : Walk g src p q
   pub to : q .at ≤ length src
@@ -136,6 +139,7 @@ pub record NameCloses (g : Signs) (src : List ℕ) (p q : Spot) : Type 0 where
   pub after : afterName (marksLeft g src p) ≡ marksLeft g src q
   pub closes : oneOf isClose (marksLeft g src p) ≡ true
   pub mode : q .mode ≡ lines.after (p .mode) 62
+  pub edge : q .fresh ≡ false
   pub on : p .at < q .at
   pub walk : Walk g src p q
   pub to : q .at ≤ length src
@@ -156,6 +160,8 @@ pub record NameEnds (g : Signs) (src : List ℕ) (p : Spot) (r : ℕ) (q : Spot)
   pub after : afterName (marksLeft g src p) ≡ marksLeft g src q
   pub closes : oneOf isClose (marksLeft g src p) ≡ true
   pub mode : q .mode ≡ lines.after (p .mode) 62
+  pub edge : q .fresh ≡ false
+  pub long : length (nameIn (marksLeft g src p)) + p .at < q .at
   pub on : p .at < q .at
   pub walk : Walk g src p q
   pub to : q .at ≤ length src
@@ -170,6 +176,7 @@ pub record QuotesEnd (g : Signs) (src : List ℕ) (p : Spot) (n r : ℕ) (q : Sp
   pub many : length (namesIn (marksLeft g src p)) ≡ n
   pub refusal : namesRefusal (namesIn (marksLeft g src p)) ≡ r
   pub mode : q .mode ≡ outside
+  pub edge : q .fresh ≡ false
   pub on : p .at < q .at
   pub walk : Walk g src p q
   pub to : q .at ≤ length src
@@ -198,8 +205,13 @@ pub record TokenIs (g : Signs) (src : List ℕ) (p : Spot) (t : Tok) : Type 0 wh
   pub name-mode : t .kind ≡ tokens.name → t .inside .mode ≡ inName
   pub quote-mode : t .kind ≡ tokens.quote → t .inside .mode ≡ quoted
   pub plain : t .next .mode ≡ outside
+  pub edge : broken ≤ t .kind → t .next .fresh ≡ false
+  pub long-word : t .kind ≡ tokens.word → length (tokenThere g src p .text) + p .at ≤ t .next .at
+  pub long-name : t .kind ≡ tokens.name → length (nameIn (marksLeft g src (t .inside))) + t .inside .at < t .next .at
   pub on : p .at < t .next .at
   pub walk : Walk g src p (t .next)
+  pub enter : Walk g src p (t .inside)
+  pub leave : Walk g src (t .inside) (t .next)
   pub to : t .next .at ≤ length src
   pub inside : t .inside .at ≤ length src
 

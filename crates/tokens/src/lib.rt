@@ -187,7 +187,7 @@ fn name_refusal(n: usize, visible: bool) -> u8
 }
 
 // The lower of two refusals, 0 being none.
-fn lower_of(a: u8, b: u8) -> u8
+pub fn lower_of(a: u8, b: u8) -> u8
     ensures { λ r. ⌜ r ≡ lower a b ⌝ }
 {
     if a == 0 {

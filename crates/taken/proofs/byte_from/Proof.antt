@@ -1,6 +1,5 @@
 -- `taken::byte_from` meets its contract: the byte is taken, or the line ends before one.
 use Rattle.taken.proofs.TakenLaws.{found-nothing, found-less, found-byte, found-fits}
-use Rattle.taken.proofs.TakenLaws.{found-nothing, found-less, found-byte}
 use borrow.Author.Needs.{needs}
 use Rattle.taken.proofs.byte_from.Statement.{statement}
 use Rattle.taken.proofs.byte_from.Tie as tie

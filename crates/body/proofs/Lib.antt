@@ -1,0 +1,4 @@
+pub mod OutcomeLaws
+pub mod FirstLaws
+pub mod PlainLaws
+pub mod BodyLaws

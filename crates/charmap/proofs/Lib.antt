@@ -1,0 +1,7 @@
+pub mod KindLaws
+pub mod HeaderLaws
+pub mod EntryLaws
+pub mod EmptyLaws
+pub mod ReadLaws
+pub mod AnswerLaws
+pub mod CodeLaws

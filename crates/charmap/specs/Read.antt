@@ -1,0 +1,68 @@
+-- The run over a charmap's lines, as far as its functions read it (Rattle.rules.specs.Charmap). No public contract cites this file.
+use mathlib.Core.Path.{_≡_}
+use mathlib.Core.Bool.{true}
+use mathlib.Core.List.{List, [], _∷_}
+use Prim.Native.Nat.{ℕ, suc, _≤_}
+use lib.ListN.{length, drop}
+use lib.Dec.{eqb}
+use Rattle.rules.specs.Text.{oneOf}
+use Rattle.rules.specs.Charmap.{Given, MapEnded, mapEnded, mapStart, mapLinesFrom, areaOf}
+use Rattle.units.specs.Numbers.{numberOf}
+use Rattle.signs.specs.declared.Chars.{Chars}
+use Rattle.heading.specs.Head.{headWith}
+use Rattle.charmap.specs.declared.Header.{Header}
+use Rattle.charmap.specs.declared.Header.the-variants as header
+use Rattle.charmap.specs.declared.Entries.{Entries}
+use Rattle.charmap.specs.declared.Entries.the-variants as entries
+
+-- a refusal that a charmap's line can have
+abbrev pub OfLine : ℕ → Type 0
+OfLine n = oneOf (eqb n) (2 ∷ 3 ∷ 6 ∷ 7 ∷ 10 ∷ []) ≡ true
+
+-- the run over all lines
+abbrev pub wholeRun : List ℕ → MapEnded
+wholeRun src = mapLinesFrom mapStart 1 0 src
+
+-- the run over those after CHARMAP, from a place and a line's number on
+abbrev pub bodyRun : List ℕ → Chars → ℕ → ℕ → MapEnded
+bodyRun src h at number = mapLinesFrom (headWith h true) number 0 (drop at src)
+
+-- ## Up to CHARMAP
+
+-- The run goes on behind CHARMAP; at most each byte before the place was an LF.
+pub record Opened (src : List ℕ) (h : Chars) (at number : ℕ) : Type 0 where
+  pub same : wholeRun src ≡ bodyRun src h at number
+  pub to : at ≤ length src
+  pub few : number ≤ suc at
+
+abbrev pub HeaderIs : List ℕ → Header → Type 0
+HeaderIs src (header.Opened h at number) = Opened src h at number
+HeaderIs src (header.Refused r line) = wholeRun src ≡ mapEnded (numberOf r) line []
+
+-- ## Up to END CHARMAP
+
+-- Nothing is given yet.
+pub record Opens (src : List ℕ) (at number : ℕ) (area : List ℕ) : Type 0 where
+  pub short : length src ≤ 1048576
+  pub to : at ≤ length src
+  pub few : number ≤ suc at
+  pub none : area ≡ areaOf []
+
+-- The run ends with what the area holds.
+pub record Closes (run : MapEnded) (after : List ℕ) : Type 0 where
+  pub given : List Given
+  pub ended : run ≡ mapEnded 0 0 given
+  pub holds : after ≡ areaOf given
+
+-- by how a run ends
+abbrev pub RunIs : MapEnded → List ℕ → Entries → Type 0
+RunIs run after entries.Closed = Closes run after
+RunIs run after (entries.Refused r line) = run ≡ mapEnded (numberOf r) line []
+
+abbrev pub EntriesAre : List ℕ → Chars → ℕ → ℕ → List ℕ → Entries → Type 0
+EntriesAre src h at number after r = RunIs (bodyRun src h at number) after r
+
+-- ## All lines
+
+abbrev pub SourceIs : List ℕ → List ℕ → Entries → Type 0
+SourceIs src after r = RunIs (wholeRun src) after r

@@ -1,0 +1,164 @@
+// The reader of charmaps: its header's lines, its body's lines, then the 512 numbers. `read` is public and has no `requires`.
+ghost use mathlib.Core.Path.{_≡_};
+ghost use mathlib.Core.List.{[]};
+ghost use Prim.Native.Nat.{_≤_};
+ghost use lib.ListN.{length, replicate};
+ghost use Rattle.rules.specs.Charmap.{areaOf};
+ghost use Rattle.rules.specs.Calls.{charmapCall};
+ghost use Rattle.units.specs.Numbers.{numberOf};
+ghost use Rattle.charmap.specs.Answers.{readAs};
+ghost use Rattle.charmap.specs.Read.{OfLine, HeaderIs, Opens, EntriesAre, SourceIs};
+use body::BodyLine;
+use body::body_line;
+use giving::copy_area;
+use heading::Heading;
+use heading::header_line;
+use lines::Signs;
+use signs::Chars;
+use signs::start;
+use units::Refusal;
+
+// Whether the area was written, or why not: the refusal and its line.
+pub enum Mapped {
+    Done,
+    Refused(Refusal, usize),
+}
+
+// The header up to CHARMAP: the two characters in force after it, the place after that line, and the number of the next one.
+pub enum Header {
+    Opened(Chars, usize, usize),
+    Refused(Refusal, usize),
+}
+
+// The body up to END CHARMAP.
+pub enum Entries {
+    Closed,
+    Refused(Refusal, usize),
+}
+
+// The refusal of a line, by its number.
+fn refusal_of(n: u8) -> Refusal
+    requires { ⌜ OfLine n ⌝ }
+    ensures { λ r. ⌜ numberOf r ≡ n ⌝ }
+{
+    if n == 2 {
+        return Refusal::BadByte;
+    }
+    if n == 3 {
+        return Refusal::Malformed;
+    }
+    if n == 6 {
+        return Refusal::Unknown;
+    }
+    if n == 7 {
+        return Refusal::TooMany;
+    }
+    Refusal::ByteTwice
+}
+
+// The lines up to CHARMAP.
+fn header_lines(src: &[u8]) -> Header
+    requires { ⌜ length (now src) ≤ 1048576 ⌝ }
+    ensures { λ r. ⌜ HeaderIs (now (src .entry)) r ⌝ }
+{
+    let mut h = start();
+    let mut at: usize = 0;
+    let mut number: usize = 1;
+    while at < src.len() {
+        let s = header_line(src, h, at);
+        match s {
+            Heading::Refused(n) => return Header::Refused(refusal_of(n), number),
+            Heading::Line(c, opened, next, feeds) => {
+                if opened {
+                    return Header::Opened(c, next, number + feeds);
+                }
+                h = c;
+                at = next;
+                number += feeds;
+            }
+        }
+    }
+    Header::Refused(Refusal::Malformed, number)
+}
+
+// The lines from CHARMAP to END CHARMAP, and what they give, in an area where nothing is given yet.
+fn body_lines(src: &[u8], h: Chars, from: usize, first: usize, area: &mut [u32]) -> Entries
+    requires { ⌜ Opens (now src) from first (now area) ⌝ }
+    ensures { λ r. ⌜ EntriesAre (now (src .entry)) h from first (now (area .exit)) r ⌝ }
+{
+    let mut at = from;
+    let mut number = first;
+    while at < src.len() {
+        let g = Signs {
+            comment: h.comment,
+            escape: h.escape,
+        };
+        let s = body_line(src, g, at, area);
+        match s {
+            BodyLine::Refused(n) => return Entries::Refused(refusal_of(n), number),
+            BodyLine::Line(closed, next, feeds) => {
+                if closed {
+                    return Entries::Closed;
+                }
+                at = next;
+                number += feeds;
+            }
+        }
+    }
+    Entries::Refused(Refusal::Malformed, number)
+}
+
+// All lines, and what they give.
+fn all_lines(src: &[u8], area: &mut [u32]) -> Entries
+    requires { ⌜ (length (now src) ≤ 1048576) × (now area ≡ areaOf []) ⌝ }
+    ensures { λ r. ⌜ SourceIs (now (src .entry)) (now (area .exit)) r ⌝ }
+{
+    let s = header_lines(src);
+    match s {
+        Header::Refused(r, line) => return Entries::Refused(r, line),
+        Header::Opened(h, at, number) => return body_lines(src, h, at, number, area),
+    }
+}
+
+// An area where nothing is given.
+fn empty(area: &mut [u32])
+    requires { ⌜ now area ≡ replicate 512 0 ⌝ }
+    ensures { λ _. ⌜ now (area .exit) ≡ areaOf [] ⌝ }
+{
+    let mut i: usize = 0;
+    while i < 256 {
+        area[i] = 0x110000;
+        i += 1;
+    }
+}
+
+// What is given by a source that is not too long, by way of an area of its own, which is all zeros.
+fn read_by(src: &[u8], own: &mut [u32], area: &mut [u32]) -> Mapped
+    requires { ⌜ (length (now src) ≤ 1048576) × (now own ≡ replicate 512 0) ⌝ }
+    ensures { λ r. ⌜ readAs r (now (area .exit)) ≡ charmapCall (now (src .entry)) (now (area .entry)) ⌝ }
+{
+    empty(own);
+    let s = all_lines(src, own);
+    match s {
+        Entries::Refused(r, line) => return Mapped::Refused(r, line),
+        Entries::Closed => {
+            if area.len() < 512 {
+                return Mapped::Refused(Refusal::ShortArea, 0);
+            }
+            copy_area(own, area);
+            return Mapped::Done;
+        }
+    }
+}
+
+// A charmap's source to 512 numbers in front of the area, which stays as it was behind them and in a refusal: 1, then by line 2, 3, 6, 7
+// or 10, then 9.
+pub fn read(src: &[u8], area: &mut [u32]) -> Mapped
+    ensures { λ r. ⌜ readAs r (now (area .exit)) ≡ charmapCall (now (src .entry)) (now (area .entry)) ⌝ }
+{
+    if 1048576 < src.len() {
+        return Mapped::Refused(Refusal::TooLong, 0);
+    }
+    let mut own = [0u32; 512];
+    read_by(src, &mut own, area)
+}

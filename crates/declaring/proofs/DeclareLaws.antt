@@ -1,0 +1,161 @@
+-- collating-symbol: what it does before the order, and its refusal; and what both lines that declare share.
+use mathlib.Core.Path.{_≡_, refl, sym, ap, _∙_, subst}
+use mathlib.Core.Bool.{true, false, not, or-true, false≢true}
+use mathlib.Core.List.{List, [], _∷_}
+use Prim.Native.Nat.{ℕ, _+_, _/_, _≤_, _<_}
+use Prim.Native.String.{String}
+use native.Mathlib.Omega.{arith}
+use lib.ListN.{length}
+use lib.Dec.{eqb}
+use borrow.Author.Tests.{eqb-true, eqb-false, ne-eqb}
+use Rattle.lists.proofs.Bools.{by, clash}
+use Rattle.rules.specs.Text.{bytes, _unless_, lower, lowest}
+use Rattle.rules.specs.Names.{charShaped}
+use Rattle.rules.specs.Tokens.{name, Token, tokenAt, theName, single, operands, tokensRefusal}
+use Rattle.rules.specs.State.{Chain, Declaration, symbol, character, named, State, withDeclared, Outcome}
+use Rattle.rules.specs.Declarations.{symbolLine}
+use Rattle.rules.specs.Source.{collateLine}
+use Rattle.rules.proofs.TextLaws.{lower-none, lowest-unless}
+use Rattle.lines.specs.declared.Signs.{Signs}
+use Rattle.lines.specs.declared.Spot.{Spot}
+use Rattle.lines.specs.declared.LineEnd.{LineEnd}
+use Rattle.tokens.specs.Left.{tokensLeft}
+use Rattle.opening.proofs.OpenLaws.{left-some}
+use Rattle.subjects.specs.Keys.{Key, item, chars, keyAt}
+use Rattle.store.specs.Store.{Decl, first, Holds, Sound, Declares}
+use Rattle.store.specs.declared.Found.{Found}
+use Rattle.store.specs.declared.Found.the-variants.{At, Nothing}
+use Rattle.known.specs.Known.{declaredAt, Says, none, symbols, elements, characters}
+use Rattle.known.proofs.NewLaws.{known-symbol-new}
+use Rattle.symbols.specs.declared.Symbol.{Symbol}
+use Rattle.symbols.specs.declared.Symbol.the-variants as answer
+use Rattle.symbols.specs.Symbols.{isFound, knownIn, isNewIn, Alike, symbolRefusal, Reaches, SymbolAt, SymbolNot, SymbolIs}
+use Rattle.symbols.proofs.PaperLaws.{alike-none, alike-symbol, alike-element, alike-character, symbol-paper, symbol-misplaced}
+use Rattle.keywords.proofs.KeywordLaws.{at-symbol}
+use Rattle.sheet.specs.declared.Sheet.{Sheet}
+use Rattle.sheet.specs.declared.Step.the-variants.{Next, Refused}
+use Rattle.sheet.specs.Sheets.{Open}
+use Rattle.sheet.proofs.OrderLaws.{open-declared}
+use Rattle.declaring.specs.Worded.{Opened, Writes}
+use Rattle.declaring.proofs.RefusalLaws.{Fair, bounded-clean, bounded-three, fair-symbol}
+use Rattle.declaring.proofs.OpenedLaws.{line-moves, line-accepted, line-refused, line-foul}
+
+-- ## What is declared
+
+-- what the store holds has the names and the characters of what the lines have declared
+pub says-alike : {w : List ℕ} {ds : List Decl} {cs : List Declaration} → Says w ds cs → Alike ds cs
+says-alike none = alike-none
+says-alike (symbols {n = n} {v = v} z s) = alike-symbol (declaredAt (item (named n)) v) (says-alike s) refl
+says-alike (elements {n = n} {xs = xs} {v = v} {q = q} z l s) = alike-element (declaredAt (item (named n)) v) (says-alike s) (declaredAt (chars xs) q) refl refl
+says-alike (characters {c = c} {v = v} s) = alike-character (declaredAt (item (character c)) v) (says-alike s) refl
+
+not-found : (f : Found) → isFound f ≡ false → f ≡ Nothing
+not-found (At v) e = absurd (false≢true (sym e))
+not-found Nothing e = refl
+
+-- a key that is not known is not found
+pub first-none : (k : Key) (ds : List Decl) → knownIn k ds ≡ false → first k ds ≡ Nothing
+unfolding knownIn
+first-none k ds e = not-found (first k ds) e
+
+-- nor is a new name
+pub new-unknown : (ds : List Decl) (n : List ℕ) → isNewIn ds n ≡ true → knownIn (item (named n)) ds ≡ false
+unfolding isNewIn
+new-unknown ds n h =
+    by (knownIn (item (named n)) ds) (λ t. clash h (rw (t, or-true (charShaped n)))) (λ t. t)
+
+pub positive : (r : ℕ) → (r ≡ 0 → ⊥) → 1 ≤ r
+positive r h = by (eqb r 0) (λ t. absurd (h (eqb-true r 0 t))) (λ t. let q = eqb-false r 0 t in omega (arith, q))
+
+-- ## Rows
+
+module _ {g : Signs} {src : List ℕ} {at : ℕ} {p : Spot} {e : LineEnd} {key : String} (l : Opened g src at p e key) where
+  -- where the source goes on, the LF stands behind what the line reaches
+  pub line-reaches : {place : ℕ} → Reaches g src p place → e .next < length src → place + 1 ≤ e .next
+  line-reaches r h =
+      let a = r .end in
+      let b = l .end in
+      let c = r .long in
+      let d = left-some g src (r .after) (omega (arith, a, b, h)) in
+      omega (arith, a, b, c, d)
+
+-- ## collating-symbol
+
+-- a name that is accepted is new
+symbol-new : (ds : List Decl) (os : List Token) → symbolRefusal ds os ≡ 0 → isNewIn ds (theName (tokenAt os 0)) ≡ true
+unfolding symbolRefusal
+symbol-new ds os h =
+    let new = isNewIn ds (theName (tokenAt os 0)) in
+    let a = lower-none (tokensRefusal os) (lowest (3 unless single name os ∷ 5 unless new ∷ [])) h .1 in
+    let b = lowest-unless 3 (single name os) (5 unless new ∷ []) (omega arith) a .1 in
+    lowest-unless 5 new [] (omega arith) b .0
+
+module _ (g : Signs) (src : List ℕ) (at : ℕ) (p : Spot) (e : LineEnd) (l : Opened g src at p e "collating-symbol") where
+  abbrev left : List Token
+  left = operands (tokensLeft g src p)
+
+  symbol-fault : (s : State) (number : ℕ)
+      → lower (tokensRefusal left) (collateLine s number (bytes "collating-symbol") left .refusal) ≡ lower (tokensRefusal left) (symbolLine s left .refusal)
+  symbol-fault s number = ap (λ (o : Outcome). lower (tokensRefusal left) (o .refusal)) (at-symbol s number (bytes "collating-symbol") left refl)
+
+  symbol-state : (s : State) (number : ℕ) → collateLine s number (bytes "collating-symbol") left .state ≡ withDeclared s (symbol (theName (tokenAt left 0)) ∷ s .declared)
+  unfolding symbolLine
+  symbol-state s number = ap (λ (o : Outcome). o .state) (at-symbol s number (bytes "collating-symbol") left refl)
+
+  -- its name stands behind the keyword
+  symbol-behind : (v : ℕ) → p .at < v / 2 → at + 17 ≤ v / 2
+  unfolding bytes
+  symbol-behind v h = let a : 16 + at ≤ p .at = l .first .long in omega (arith, a, h)
+
+  module _ (w w′ : List ℕ) (sh : Sheet) where
+    pub symbol-misplaced-step : {x : ℕ} → x ≡ lower (2 unless e .text) 3 → (sh .phase ≡ 3 → ⊥) → Writes g src w sh at w′ (Refused x)
+    symbol-misplaced-step b n =
+        record {
+          is = λ number depth. line-refused l w sh number depth (bounded-three (e .text) b) (λ cs s o d u.
+              symbol-fault s number ∙ symbol-misplaced s left (rw (o .phase, ne-eqb (sh .phase) 3 n)));
+        }
+
+    pub symbol-foul : e .text ≡ false → Writes g src w sh at w′ (Refused 2)
+    symbol-foul x = record { is = λ number depth. line-foul l w sh number depth x }
+
+    module _ (f : sh .phase ≡ 3) (x : e .text ≡ true) where
+      paper : {r : ℕ} → ((n : ℕ) (ds : List Decl) → Holds (keyAt g src) (length src) w n ds → symbolRefusal ds left ≡ r)
+          → {cs : List Chain} {s : State} (number : ℕ) → Open g src w sh cs at s
+          → lower (tokensRefusal left) (collateLine s number (bytes "collating-symbol") left .refusal) ≡ r
+      paper h {s = s} number o =
+          let k = o .known in
+          symbol-fault s number ∙ sym (symbol-paper s left (k .ds) (says-alike (k .says)) (rw (o .phase, f))) ∙ h (o .n) (k .ds) (k .holds)
+
+      module _ {y : Symbol} (a : SymbolIs g src p w w′ y) where
+        pub symbol-refused-step : Sound (keyAt g src) (length src) w → {r : ℕ} → y ≡ answer.Refused r → Writes g src w sh at w′ (Refused r)
+        symbol-refused-step i {r} z =
+            let b : SymbolNot g src p w r = subst (SymbolIs g src p w w′) z a .0 in
+            let c = b .refusal .is (i .n) (i .ds) (i .holds) in
+            record {
+              is = λ number depth. line-refused l w sh number depth
+                  (bounded-clean x (subst Fair c (fair-symbol (i .ds) left)) (positive r (b .some))) (λ cs s o d u. paper (b .refusal .is) number o);
+            }
+
+        pub symbol-done : {v : ℕ} → y ≡ answer.Declared v → Writes g src w sh at w′ (Next sh (e .next) (e .feeds))
+        symbol-done {v} z =
+            let b : SymbolAt g src p w v = subst (SymbolIs g src p w w′) z a .0 in
+            let c : Declares (keyAt g src) (length src) w v w′ = subst (SymbolIs g src p w w′) z a .1 in
+            let m = theName (tokenAt left 0) in
+            let far = symbol-behind v (b .mark .behind) in
+            record {
+              is = λ number depth. record {
+                moves = line-moves l;
+                leaves = λ cs s o d u.
+                    let k = o .known in
+                    let n = new-unknown (k .ds) m (symbol-new (k .ds) left (b .refusal .is (o .n) (k .ds) (k .holds))) in
+                    let rows : o .n ≤ (at + 5) / 8 = rw f at (o .rows (l .first .inside)) in
+                    record {
+                      after = withDeclared s (symbol m ∷ s .declared);
+                      outcome = line-accepted l w sh number o u x (paper (b .refusal .is) number o) (symbol-state s number);
+                      held = open-declared g src w sh cs at s o (l .first .inside) (e .next) w′ (v / 16 + 1) (symbol m ∷ s .declared) f
+                          (known-symbol-new g src w (sh .order) (s .ordered .rules) (o .n) (s .declared) (s .ordered .lines) k v w′ c
+                          (omega (arith, rows, far)) (b .mark .within) (first-none (keyAt g src v) (k .ds) (ap (λ (q : Key). knownIn q (k .ds)) (b .mark .key) ∙ n)) (let y = b .mark .behind in omega (arith, y)) m (b .mark .key))
+                          (c .long) (c .beyond) (λ h. let q = line-reaches l (b .mark .room) h in omega (arith, q));
+                    };
+              };
+            }

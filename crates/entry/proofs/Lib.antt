@@ -1,0 +1,10 @@
+pub mod ShapeLaws
+pub mod LexLaws
+pub mod HexLaws
+pub mod BodyLaws
+pub mod TailLaws
+pub mod FirstLaws
+pub mod PairLaws
+pub mod ByteLaws
+pub mod HeadLaws
+pub mod EntryLaws

@@ -1,0 +1,24 @@
+-- `heading::malformed` meets its contract: 2 is told before 3.
+use Rattle.heading.proofs.EndLaws.{malformed-start, malformed-form, malformed-bytes}
+use borrow.Author.Needs.{needs}
+use Rattle.heading.proofs.malformed.Statement.{statement}
+use Rattle.heading.proofs.malformed.Tie as tie
+
+signs-of-requires : tie.Need-signs-of-requires
+signs-of-requires c κs = search needs
+
+start-of-requires : tie.Need-start-of-requires
+start-of-requires c κs = search needs
+
+line-end-requires : tie.Need-line-end-requires
+line-end-requires c κs = search malformed-start
+
+returns : tie.Need-returns
+returns c = search malformed-form
+
+returns-2 : tie.Need-returns-2
+returns-2 c = search malformed-bytes
+
+pub malformed-spec : {M : Type 1} → statement M
+malformed-spec =
+    tie.close (tie.spec signs-of-requires start-of-requires line-end-requires returns returns-2)

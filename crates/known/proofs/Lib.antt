@@ -1,0 +1,6 @@
+pub mod DeclaredLaws
+pub mod MarkLaws
+pub mod RankLaws
+pub mod LineLaws
+pub mod GrownLaws
+pub mod NewLaws

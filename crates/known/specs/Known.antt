@@ -1,0 +1,100 @@
+-- What the lines so far have declared and ordered (Rattle.rules.specs.State), as the work area holds it: what is declared stands in the store
+-- (Rattle.store), the order lines in their list (Rattle.listed), and their weights are read again from the source.
+use mathlib.Core.Path.{_≡_}
+use mathlib.Core.Bool.{Bool, true, false, _||_}
+use mathlib.Core.List.{List, [], _∷_, map}
+use Prim.Native.Nat.{ℕ, _+_, _*_, _/_, _%_, _≤_, _<_}
+use lib.ListN.{length}
+use lib.Dec.{leb, eqb}
+use Rattle.lists.proofs.Lists.{All}
+use Rattle.rules.specs.Text.{if_then_else_, oneOf}
+use Rattle.rules.specs.Tokens.{operands}
+use Rattle.rules.specs.Lines.{outside}
+use Rattle.rules.specs.Meaning.{Rule}
+use Rattle.rules.specs.State.{Declaration, symbol, element, Subject, character, named, undefined, OrderLine}
+use Rattle.rules.specs.OrderLines.{operandList, weightsOf}
+use Rattle.lines.specs.declared.Signs.{Signs}
+use Rattle.lines.specs.declared.Spot.{Spot}
+use Rattle.tokens.specs.Left.{tokensLeft}
+use Rattle.rows.specs.Cells.{cell}
+use Rattle.subjects.specs.Keys.{nameSpot, subjectLeft, Key, item, chars, keyAt}
+use Rattle.store.specs.Store.{Decl, first, isPlace, Holds}
+use Rattle.store.specs.declared.Found.{Found}
+use Rattle.store.specs.declared.Found.the-variants.{At, Nothing}
+use Rattle.listed.specs.declared.Order.{Order}
+use Rattle.listed.specs.Listed.{charsNumber, lineNumber, placeNumber, nextNumber, rankNumber, Lines}
+
+-- ## Declarations
+
+abbrev pub declaredAt : Key → ℕ → Decl
+declaredAt k v = record { key = k; place = v }
+
+-- What the store holds is what the lines have declared: of an element its name, and then its characters.
+pub data Says (w : List ℕ) : List Decl → List Declaration → Type 0 where
+  none : Says w [] []
+  symbols : {n : List ℕ} {v : ℕ} {ds : List Decl} {cs : List Declaration} → cell w v charsNumber ≡ 0 → Says w ds cs
+      → Says w (declaredAt (item (named n)) v ∷ ds) (symbol n ∷ cs)
+  elements : {n xs : List ℕ} {v q : ℕ} {ds : List Decl} {cs : List Declaration} → cell w v charsNumber ≡ q → 1 ≤ q → Says w ds cs
+      → Says w (declaredAt (chars xs) q ∷ declaredAt (item (named n)) v ∷ ds) (element n xs ∷ cs)
+  characters : {c v : ℕ} {ds : List Decl} {cs : List Declaration} → Says w ds cs → Says w (declaredAt (item (character c)) v ∷ ds) cs
+
+-- No key is declared twice.
+pub data Once : List Decl → Type 0 where
+  nothing : Once []
+  another : {d : Decl} {ds : List Decl} → first (d .key) ds ≡ Nothing → Once ds → Once (d ∷ ds)
+
+-- ## Order lines
+
+-- the mark of UNDEFINED: its row stands behind those of the source
+abbrev pub undefinedMark : ℕ → ℕ
+undefinedMark len = 16 * (len / 8 + 1)
+
+-- what an order line's mark names
+unfoldable pub subjectAt : Signs → List ℕ → ℕ → Subject
+subjectAt g src v = if leb (undefinedMark (length src)) v then undefined else subjectLeft g src (nameSpot (v / 2))
+
+-- right after an order line's subject
+abbrev pub behind : ℕ → Spot
+behind at = record { at = at; mode = outside; fresh = false }
+
+-- the order line of a mark
+unfoldable pub lineAt : Signs → List ℕ → List Rule → List ℕ → ℕ → OrderLine
+lineAt g src rs w v = record {
+  number = cell w v lineNumber;
+  subject = subjectAt g src v;
+  weights = weightsOf (subjectAt g src v) rs (operandList (operands (tokensLeft g src (behind (cell w v placeNumber)))));
+}
+
+-- a mark has a row: it is declared, or it is that of UNDEFINED
+abbrev pub isRow : ℕ → List Decl → ℕ → Bool
+isRow len ds v = isPlace v ds || eqb v (undefinedMark len)
+
+-- the mark of a subject
+unfoldable pub markOf : ℕ → List Decl → Subject → Found
+markOf len ds (character c) = first (item (character c)) ds
+markOf len ds (named n) = first (item (named n)) ds
+markOf len ds undefined = At (undefinedMark len)
+
+-- A mark in the list.
+pub record IsListed (len : ℕ) (w : List ℕ) (ds : List Decl) (v : ℕ) : Type 0 where
+  pub row : isRow len ds v ≡ true
+  pub even : v % 2 ≡ 0
+  pub some : 1 ≤ cell w v placeNumber
+
+-- ## All of it
+
+-- The area holds these declarations and order lines.
+pub record Known (g : Signs) (src w : List ℕ) (o : Order) (rs : List Rule) (n : ℕ) (cs : List Declaration) (ls : List OrderLine) : Type 0 where
+  pub ds : List Decl
+  pub holds : Holds (keyAt g src) (length src) w n ds
+  pub says : Says w ds cs
+  pub once : Once ds
+  pub some : (v : ℕ) → isPlace v ds ≡ true → 1 ≤ v
+  pub marks : List ℕ
+  pub lines : Lines w o marks
+  pub are : ls ≡ map (lineAt g src rs w) marks
+  pub listed : All (IsListed (length src) w ds) marks
+  pub all : (v : ℕ) → isRow (length src) ds v ≡ true → 1 ≤ cell w v placeNumber → oneOf (eqb v) marks ≡ true
+  pub free : (v k : ℕ) → n ≤ v / 16 → v / 16 ≤ length src / 8 → k < 5 → cell w v k ≡ 0
+  pub alone : (v : ℕ) → isRow (length src) ds v ≡ true → cell w v placeNumber ≡ 0 → cell w v nextNumber ≡ 0
+  pub unranked : (v : ℕ) → isRow (length src) ds v ≡ true → cell w v rankNumber ≡ 0

@@ -1,0 +1,99 @@
+-- The used order lines in their order: a list of marks, linked through the rows of the work area (Rattle.rows.specs.Cells).
+use mathlib.Core.Path.{_≡_}
+use mathlib.Core.List.{List, [], _∷_}
+use Prim.Native.Nat.{ℕ, suc, _+_, _*_, _/_, _≤_}
+use lib.ListN.{length, set}
+use lib.Dec.{eqb}
+use Rattle.lists.proofs.Lists.{All}
+use Rattle.rules.specs.Text.{if_then_else_}
+use Rattle.rows.specs.Cells.{cellAt, cell}
+use Rattle.rows.proofs.CellLaws.{Apart}
+use Rattle.listed.specs.declared.Order.{Order}
+
+-- ## The five numbers of a row: of an element, the mark of its characters; of an order line, the number of its first physical line, the
+-- place after its subject (0: there is no such line), the mark of the next one (0 for the last), and its rank
+
+abbrev pub charsNumber : ℕ
+charsNumber = 0
+
+abbrev pub lineNumber : ℕ
+lineNumber = 1
+
+abbrev pub placeNumber : ℕ
+placeNumber = 2
+
+abbrev pub nextNumber : ℕ
+nextNumber = 3
+
+abbrev pub rankNumber : ℕ
+rankNumber = 4
+
+-- ## The list
+
+-- A mark whose row stands in the area.
+pub record Row (w : List ℕ) (v : ℕ) : Type 0 where
+  pub some : 1 ≤ v
+  pub inside : 8 * (v / 16) + 8 ≤ length w
+
+-- The marks from p on are linked.
+pub data Linked (w : List ℕ) : ℕ → List ℕ → Type 0 where
+  ends : Linked w 0 []
+  goes : {v : ℕ} {vs : List ℕ} → Row w v → Linked w (cell w v nextNumber) vs → Linked w v (v ∷ vs)
+
+-- No two of the marks are of one row.
+pub data Spread : List ℕ → Type 0 where
+  none : Spread []
+  more : {v : ℕ} {vs : List ℕ} → All (Apart v) vs → Spread vs → Spread (v ∷ vs)
+
+-- the last mark, 0 for none
+unfoldable pub lastOf : List ℕ → ℕ
+lastOf [] = 0
+lastOf (v ∷ []) = v
+lastOf (v ∷ u ∷ us) = lastOf (u ∷ us)
+
+-- The area holds these order lines.
+pub record Lines (w : List ℕ) (o : Order) (vs : List ℕ) : Type 0 where
+  pub linked : Linked w (o .first) vs
+  pub spread : Spread vs
+  pub last : o .last ≡ lastOf vs
+  pub count : o .count ≡ length vs
+
+-- It holds some.
+pub record SomeLines (w : List ℕ) (o : Order) : Type 0 where
+  pub marks : List ℕ
+  pub lines : Lines w o marks
+
+-- ## One line more
+
+-- The row of a mark, if it is one, stands in the area.
+pub record Reached (w : List ℕ) (l : ℕ) : Type 0 where
+  pub inside : (l ≡ 0 → ⊥) → 8 * (l / 16) + 8 ≤ length w
+
+-- a link from the last line, if there is one
+unfoldable pub linkedTo : List ℕ → ℕ → ℕ → List ℕ
+linkedTo w l v = if eqb l 0 then w else set w (cellAt l nextNumber) v
+
+-- the link to a new line, and its numbers
+unfoldable pub withLine : List ℕ → Order → ℕ → ℕ → ℕ → List ℕ
+withLine w o v number place = set (set (linkedTo w (o .last) v) (cellAt v lineNumber) number) (cellAt v placeNumber) place
+
+-- the list with a line more
+abbrev pub longer : Order → ℕ → Order
+longer o v = record { first = if eqb (o .first) 0 then v else o .first; last = v; count = o .count + 1 }
+
+-- A mark that is in no row of these, with no link yet.
+pub record NewLine (w : List ℕ) (v : ℕ) (vs : List ℕ) : Type 0 where
+  pub row : Row w v
+  pub apart : All (Apart v) vs
+  pub alone : cell w v nextNumber ≡ 0
+
+-- ## Ranks
+
+-- the marks get their ranks, from k on
+unfoldable pub ranked : List ℕ → ℕ → List ℕ → List ℕ
+ranked w k [] = w
+ranked w k (v ∷ vs) = ranked (set w (cellAt v rankNumber) k) (suc k) vs
+
+-- Every line has its rank.
+pub record Ranks (w : List ℕ) (o : Order) (w′ : List ℕ) : Type 0 where
+  pub area : (vs : List ℕ) → Lines w o vs → w′ ≡ ranked w 1 vs

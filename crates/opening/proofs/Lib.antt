@@ -1,0 +1,2 @@
+pub mod CollateLaws
+pub mod OpenLaws

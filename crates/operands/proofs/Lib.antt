@@ -1,0 +1,10 @@
+pub mod TidyLaws
+pub mod ListLaws
+pub mod BlankLaws
+pub mod NextLaws
+pub mod AfterLaws
+pub mod LoweredLaws
+pub mod OneLaws
+pub mod FirstLaws
+pub mod LateLaws
+pub mod LineLaws

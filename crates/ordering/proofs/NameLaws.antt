@@ -1,0 +1,224 @@
+-- A line that opens with a name, as an order line: what it is read as, and the row that it is given.
+use mathlib.Core.Path.{_≡_, refl, sym, ap, _∙_, subst}
+use mathlib.Core.Bool.{true, false, false≢true}
+use mathlib.Core.List.{List, [], _∷_}
+use Prim.Native.Nat.{ℕ, _+_, _*_, _/_, _%_, _≤_, _<_}
+use native.Mathlib.Omega.{arith}
+use lib.ListN.{length}
+use lib.Dec.{eqb}
+use borrow.Author.Tests.{eqb-true, eqb-false}
+use Rattle.lists.proofs.Bools.{by, and-left, and-right, clash}
+use Rattle.rules.specs.Text.{_unless_, lower, every}
+use Rattle.rules.specs.Names.{isHex, charShaped, codeOf}
+use Rattle.rules.specs.Lines.{outside, inName}
+use Rattle.rules.specs.Tokens.{tokensRefusal}
+use Rattle.rules.specs.State.{Declaration, Subject, character, Chain, State, gives}
+use Rattle.rules.specs.OrderLines.{subjectOf, stands, orderLine}
+use Rattle.lines.specs.declared.Signs.{Signs}
+use Rattle.lines.specs.declared.Spot.{Spot}
+use Rattle.lines.specs.declared.LineEnd.{LineEnd}
+use Rattle.lines.specs.Stream.{marksLeft, lineStart, Run, Walk}
+use Rattle.tokens.specs.declared.Tok.{Tok}
+use Rattle.tokens.specs.Left.{isInside, tokenThere}
+use Rattle.tokens.proofs.RefusalLaws.{lower-assoc}
+use Rattle.names.specs.Named.{nameLeft}
+use Rattle.subjects.specs.Keys.{Key, item, chars, keyAt, subjectLeft}
+use Rattle.subjects.proofs.KeyLaws.{keyAt-quotes}
+use Rattle.subjects.proofs.SpotLaws.{keyAt-inside}
+use Rattle.store.specs.declared.Found.{Found}
+use Rattle.store.specs.declared.Found.the-variants.{At, Nothing}
+use Rattle.store.specs.Store.{Decl, first, Holds, Finds}
+use Rattle.store.proofs.ListLaws.{first-fresh, found-key, found-place}
+use Rattle.known.specs.Known.{Says}
+use Rattle.known.proofs.DeclaredLaws.{isFound, known-declared}
+use Rattle.known.proofs.NewLaws.{known-character-new}
+use Rattle.sheet.specs.declared.Sheet.{Sheet}
+use Rattle.sheet.specs.declared.Step.{Step}
+use Rattle.sheet.specs.Sheets.{Open, SomeOpen, StepIs}
+use Rattle.sheet.specs.Names.{subjectIn, operandsFrom, NameLine}
+use Rattle.sheet.proofs.SheetLaws.{read-whole}
+use Rattle.ordering.specs.declared.Facts.{Facts}
+use Rattle.ordering.specs.Facts.{FactsOf, OwnRefused, RowIs, Ready, Lists}
+use Rattle.ordering.specs.Lines.{Reads}
+use Rattle.ordering.proofs.FactLaws.{mark-found, mark-is}
+use Rattle.ordering.proofs.RangeLaws.{Ranged, ranged-low, ranged-high, ranged-lower, ranged-unless, ranged-tokens, ranged-order, lower-right-zero, Taken}
+use Rattle.ordering.proofs.StepLaws.{spot-behind, line-taken, line-listed, Placed, placed-is, placed-lines, placed-small}
+
+-- ## Names
+
+-- a name that is shaped as a character has five bytes at least
+shaped-long : (m : List ℕ) → charShaped m ≡ true → 5 ≤ length m
+unfolding charShaped
+shaped-long [] h = absurd (false≢true h)
+shaped-long (b ∷ bs) h =
+    by (eqb (length bs) 4)
+    (λ t. let e = eqb-true (length bs) 4 t in omega (arith, e))
+    (λ t. let k = and-right (eqb b 85) _ (and-left _ (every isHex bs) h) in
+    let e = eqb-true (length bs) 8 (rw t at k) in omega (arith, e))
+
+-- A character: its code, and that its name is so shaped.
+record Shaped (m : List ℕ) : Type 0 where
+  code : ℕ
+  is : subjectOf m ≡ character code
+  shaped : charShaped m ≡ true
+
+-- what stands and is not declared is a character
+stands-alone : (w : List ℕ) (ds : List Decl) (cs : List Declaration) → Says w ds cs → (m : List ℕ) → stands cs (subjectOf m) ≡ true
+    → first (item (subjectOf m)) ds ≡ Nothing → Shaped m
+unfolding subjectOf stands
+stands-alone w ds cs s m h e =
+    by (charShaped m)
+    (λ t. record { code = codeOf m; is = rw t; shaped = t })
+    (λ t. clash (known-declared w m ds cs s ∙ rw t at h) (ap isFound (rw t at e)))
+
+-- the mark of a name is even
+even-found : (g : Signs) (src w : List ℕ) (n : ℕ) (ds : List Decl) → Holds (keyAt g src) (length src) w n ds → (x : Subject) (u : ℕ)
+    → first (item x) ds ≡ At u → u % 2 ≡ 0
+even-found g src w n ds h x u e =
+    by (eqb (u % 2) 0)
+    (λ t. eqb-true (u % 2) 0 t)
+    (λ t. absurd (item-chars x (keyAt-quotes g src u (eqb-false (u % 2) 0 t)) (found-key h (item x) u e)))
+  where
+    item-chars : (x : Subject) {k : Key} {xs : List ℕ} → k ≡ chars xs → k ≡ item x → ⊥
+    item-chars x e f = let z : _≡_ {A = ℕ} 0 1 = cc in omega (arith, z)
+
+-- a walk into a name passes a byte
+walk-on : {g : Signs} {src : List ℕ} {p q : Spot} → Walk g src p q → p .mode ≡ outside → q .mode ≡ inName → p .at < q .at
+walk-on {g} {src} {p} {q} w a b = go (w .passed) (w .run)
+  where
+    go : (ms : List ℕ) {k : ℕ} → Run g src ms k p q → p .at < q .at
+    go [] r = absurd (let z = r .mode in omega (arith, z, a, b))
+    go (m ∷ ms) r = let f = r .few in let z = r .moved in omega (arith, f, z)
+
+-- ## The line
+
+module _ (g : Signs) (src : List ℕ) (at : ℕ) (q : Spot) (t : Tok) (e : LineEnd) (l : NameLine g src at q t e) where
+  pub name-to : t .inside .at ≤ length src
+  name-to = l .token .inside
+
+  pub name-inside : isInside (t .inside .mode) ≡ true
+  name-inside = rw (l .token .name-mode (l .name))
+
+  pub name-next : t .next .at ≤ length src
+  name-next = l .token .to
+
+  pub name-plain : t .next .mode ≡ outside
+  name-plain = l .token .plain
+
+  name-after : at < t .inside .at
+  name-after = let a = walk-on (l .token .enter) (l .plain) (l .token .name-mode (l .name)) in let b = l .from in omega (arith, a, b)
+
+  name-far : e .next < length src → t .next .at < e .next
+  name-far h = let a = l .reach in l .far (omega (arith, a, h))
+
+  pub name-some : 1 ≤ t .next .at
+  name-some = let a = l .token .on in omega (arith, a)
+
+  module _ (w : List ℕ) (sh : Sheet) (number : ℕ) (k : Facts) (f : FactsOf g src w (subjectLeft g src (t .inside)) k) (r : ℕ) (v : OwnRefused g src w sh (t .next) k r) where
+    module _ {x y : ℕ} (a : x ≡ lower (t .refusal) r) (b : y ≡ lower (2 unless e .text) x) where
+      -- the whole refusal
+      refusal-is : (cs : List Chain) (s : State) → Open g src w sh cs at s
+          → lower (2 unless e .text) (lower (t .refusal) (lower (tokensRefusal (operandsFrom g src (t .next))) (orderLine s number (subjectIn g src t) (operandsFrom g src (t .next)) .refusal))) ≡ y
+      refusal-is cs s o =
+          sym (b ∙ ap (lower (2 unless e .text)) (a ∙ ap (lower (t .refusal)) (v .is (subjectIn g src t) f cs at s number o)))
+
+      ranged : {depth : ℕ} → SomeOpen g src w sh at depth → Ranged y
+      ranged so =
+          let s = so .state in
+          let c = orderLine s number (subjectIn g src t) (operandsFrom g src (t .next)) .refusal in
+          let d = tokensRefusal (operandsFrom g src (t .next)) in
+          subst Ranged (refusal-is (so .chains) s (so .held))
+          (ranged-lower (2 unless e .text) (lower (t .refusal) (lower d c)) (ranged-unless 2 (e .text) (omega arith) (omega arith))
+          (ranged-lower (t .refusal) (lower d c) (subst Ranged (l .token .refusal) (ranged-tokens (tokenThere g src q ∷ [])))
+          (ranged-lower d c (ranged-tokens (operandsFrom g src (t .next))) (ranged-order s number (subjectIn g src t) (operandsFrom g src (t .next))))))
+
+      pub name-reads : (depth : ℕ) → SomeOpen g src w sh at depth → Reads g src w sh at number (subjectIn g src t) (t .next) y
+      name-reads depth so = record {
+        outcome = λ cs s o u.
+            read-whole g src w sh cs at s o u number (marksLeft g src (lineStart at))
+            ∙ l .whole s number (o .inside)
+            ∙ ap (λ (z : ℕ). gives (lower (2 unless e .text) z) (orderLine s number (subjectIn g src t) (operandsFrom g src (t .next)) .state))
+            (lower-assoc (t .refusal) (tokensRefusal (operandsFrom g src (t .next))) (orderLine s number (subjectIn g src t) (operandsFrom g src (t .next)) .refusal))
+            ∙ ap (λ (z : ℕ). gives z (orderLine s number (subjectIn g src t) (operandsFrom g src (t .next)) .state)) (refusal-is cs s o);
+        none = λ z cs s o.
+            let c = orderLine s number (subjectIn g src t) (operandsFrom g src (t .next)) .refusal in
+            let d = tokensRefusal (operandsFrom g src (t .next)) in
+            lower-right-zero d c (lower-right-zero (t .refusal) (lower d c) (lower-right-zero (2 unless e .text) (lower (t .refusal) (lower d c)) (refusal-is cs s o ∙ z)));
+        low = ranged-low y (ranged so);
+        high = ranged-high y (ranged so);
+      }
+
+  -- ## Its row
+
+  module _ (w : List ℕ) (sh : Sheet) (number : ℕ) (cs : List Chain) (s : State) (o : Open g src w sh cs at s) (y : Taken s number (subjectIn g src t) (operandsFrom g src (t .next))) where
+    rows-at : o .n ≤ (at + 1) / 8
+    rows-at = let h = o .rows (l .inside) in rw (sym (o .phase) ∙ y .phase) at h
+
+    on : at < e .next
+    on = l .line .on (l .inside)
+
+    name-placed : (w′ : List ℕ) (m : ℕ) (f : Found) → Finds (keyAt g src) (length src) w (keyAt g src (2 * t .inside .at)) f
+        → RowIs g src w (2 * t .inside .at) w′ m f → Placed g src w sh (subjectIn g src t) (e .next) w′ m s
+    name-placed w′ m (At u) d h =
+        let x = subjectIn g src t in
+        let k = o .known in
+        let i = mark-is g src w (t .inside) (At u) name-inside d (sh .order) (s .ordered .rules) (o .n) (s .declared) (s .ordered .lines) k in
+        subst (λ (z : List ℕ). Placed g src w sh x (e .next) z m s) (sym (h .1))
+        (subst (λ (z : ℕ). Placed g src w sh x (e .next) w z s) (sym (h .0)) (record {
+          n = o .n;
+          known = k;
+          mark = mark-found (length src) (k .ds) (nameLeft g src (t .inside)) ∙ i;
+          even = even-found g src w (o .n) (k .ds) (k .holds) x u i;
+          some = k .some u (found-place (k .holds) (item x) u i);
+          long = refl;
+          beyond = λ j a. refl;
+          rows = λ a. let b = rows-at in let c = on in omega (arith, b, c);
+        }))
+    name-placed w′ m Nothing d h =
+        let v = 2 * t .inside .at in
+        let x = subjectIn g src t in
+        let k = o .known in
+        let i = mark-is g src w (t .inside) Nothing name-inside d (sh .order) (s .ordered .rules) (o .n) (s .declared) (s .ordered .lines) k in
+        let z = stands-alone w (k .ds) (s .declared) (k .says) (nameLeft g src (t .inside)) (y .stood) i in
+        let key : keyAt g src v ≡ item x = keyAt-inside g src (t .inside) name-inside in
+        let a = name-after in
+        let b = rows-at in
+        let c = name-to in
+        let room : o .n ≤ v / 16 = omega (arith, a, b) in
+        let below : v / 2 ≤ length src = omega (arith, c) in
+        let new : first (keyAt g src v) (k .ds) ≡ Nothing = ap (λ (j : Key). first j (k .ds)) key ∙ i in
+        let some : 1 ≤ v = omega (arith, a) in
+        let char : keyAt g src v ≡ item (character (z .code)) = key ∙ ap item (z .is) in
+        let more = known-character-new g src w (sh .order) (s .ordered .rules) (o .n) (s .declared) (s .ordered .lines) k v w′ (h .1) room below new some (z .code) char in
+        let found : first (keyAt g src v) (more .known .ds) ≡ At v = ap (first (keyAt g src v)) (more .same) ∙ first-fresh (keyAt g src) v (k .ds) in
+        subst (λ (j : ℕ). Placed g src w sh x (e .next) w′ j s) (sym (h .0)) (record {
+          n = v / 16 + 1;
+          known = more .known;
+          mark = mark-found (length src) (more .known .ds) (nameLeft g src (t .inside)) ∙ ap (λ (j : Key). first j (more .known .ds)) (sym key) ∙ found;
+          even = omega arith;
+          some = some;
+          long = h .1 .long;
+          beyond = λ j n. h .1 .beyond j (omega (arith, n));
+          rows = λ n. let p = name-far n in let q = l .token .long-name (l .name) in let r = shaped-long (nameLeft g src (t .inside)) (z .shaped) in omega (arith, p, q, r);
+        })
+
+  -- ## The step
+
+  module _ (w : List ℕ) (sh : Sheet) (number depth : ℕ) (so : SomeOpen g src w sh at depth) (f : Found) (d : Finds (keyAt g src) (length src) w (keyAt g src (2 * t .inside .at)) f)
+      (r : ℕ) (v : Reads g src w sh at number (subjectIn g src t) (t .next) r) (z : r ≡ 0) (w′ : List ℕ) (m : ℕ) (h : RowIs g src w (2 * t .inside .at) w′ m f) where
+    there : (cs : List Chain) (s : State) → Open g src w sh cs at s → Placed g src w sh (subjectIn g src t) (e .next) w′ m s
+    there cs s o = name-placed w sh number cs s o (line-taken v z cs s o) w′ m f d h
+
+    pub name-ready : number ≤ at + 1 → Ready w′ sh m number (t .next .at)
+    name-ready i =
+        let k = there (so .chains) (so .state) (so .held) in
+        let a = so .short in
+        let b = l .inside in
+        let c = name-next in
+        let n = so .held .few in
+        record { row = placed-is k; lines = placed-lines k; small-mark = placed-small k; small-number = omega (arith, a, b, i); small-place = omega (arith, a, c); few = omega (arith, n) }
+
+    pub name-listed : (w″ : List ℕ) (st : Step) → Lists w′ sh m number (t .next .at) e w″ st → StepIs g src w sh at number depth w″ st
+    name-listed w″ st a =
+        line-listed v z (l .line) (l .inside) there depth (t .next .at) w″ st
+        (spot-behind (t .next) name-plain (l .token .edge (let k = l .name in omega (arith, k)))) name-some a

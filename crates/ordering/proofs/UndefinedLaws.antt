@@ -1,0 +1,108 @@
+-- A line that opens with the word UNDEFINED, as an order line.
+use mathlib.Core.Path.{_≡_, refl, sym, ap, _∙_, subst}
+use mathlib.Core.List.{List}
+use Prim.Native.Nat.{ℕ, _+_, _/_, _≤_}
+use native.Mathlib.Omega.{arith}
+use lib.ListN.{length}
+use Rattle.rules.specs.Text.{bytes, same, is, _unless_, lower}
+use Rattle.rules.specs.Tokens.{Token, tokensRefusal}
+use Rattle.rules.specs.State.{undefined, Chain, State, Outcome, gives}
+use Rattle.rules.specs.OrderLines.{orderLine}
+use Rattle.rules.specs.Source.{collateLine}
+use Rattle.lines.specs.declared.Signs.{Signs}
+use Rattle.lines.specs.declared.Spot.{Spot}
+use Rattle.lines.specs.declared.LineEnd.{LineEnd}
+use Rattle.lines.specs.Stream.{marksLeft, lineStart}
+use Rattle.store.specs.declared.Found.the-variants.{At}
+use Rattle.known.specs.Known.{undefinedMark, markOf}
+use Rattle.sheet.specs.declared.Sheet.{Sheet}
+use Rattle.sheet.specs.declared.Step.{Step}
+use Rattle.sheet.specs.Sheets.{Open, SomeOpen, StepIs}
+use Rattle.sheet.specs.Names.{operandsFrom}
+use Rattle.sheet.proofs.SheetLaws.{read-whole}
+use Rattle.ordering.specs.declared.Facts.{Facts}
+use Rattle.ordering.specs.Facts.{Rowed, undefinedFacts, OwnRefused, Ready, Lists}
+use Rattle.sheet.specs.Words.{WordLine}
+use Rattle.ordering.specs.Lines.{Reads}
+use Rattle.ordering.proofs.FactLaws.{undefined-are}
+use Rattle.ordering.proofs.RangeLaws.{Ranged, ranged-low, ranged-high, ranged-lower, ranged-unless, ranged-tokens, ranged-order, lower-right-zero}
+use Rattle.ordering.proofs.StepLaws.{spot-behind, line-taken, line-listed, Placed, placed-is, placed-lines, placed-small}
+
+-- the line of that word is an order line
+undefined-collate : (s : State) (number : ℕ) (os : List Token) → collateLine s number (bytes "UNDEFINED") os ≡ orderLine s number undefined os
+unfolding collateLine is same bytes
+undefined-collate s number os = refl
+
+nine : length (bytes "UNDEFINED") ≡ 9
+unfolding bytes
+nine = refl
+
+-- its row stands behind those of the source
+pub undefined-rowed : (src w : List ℕ) (m : ℕ) → m ≡ undefinedMark (length src) → length src + 64 ≤ length w → Rowed w (At m)
+undefined-rowed src w m e h = omega (arith, e, h)
+
+module _ (g : Signs) (src : List ℕ) (at : ℕ) (p : Spot) (e : LineEnd) (l : WordLine g src at p e (bytes "UNDEFINED")) (w : List ℕ) (sh : Sheet) (number m : ℕ)
+    (mark : m ≡ undefinedMark (length src)) where
+  module _ (k : Facts) (f : k ≡ undefinedFacts w m) (r : ℕ) (v : OwnRefused g src w sh p k r) {y : ℕ} (b : y ≡ lower (2 unless e .text) r) where
+    refusal-is : (cs : List Chain) (s : State) → Open g src w sh cs at s
+        → lower (2 unless e .text) (lower (tokensRefusal (operandsFrom g src p)) (orderLine s number undefined (operandsFrom g src p) .refusal)) ≡ y
+    refusal-is cs s o = sym (b ∙ ap (lower (2 unless e .text)) (v .is undefined (undefined-are g src w m k mark f) cs at s number o))
+
+    ranged : {depth : ℕ} → SomeOpen g src w sh at depth → Ranged y
+    ranged so =
+        let s = so .state in
+        let c = orderLine s number undefined (operandsFrom g src p) .refusal in
+        let d = tokensRefusal (operandsFrom g src p) in
+        subst Ranged (refusal-is (so .chains) s (so .held))
+        (ranged-lower (2 unless e .text) (lower d c) (ranged-unless 2 (e .text) (omega arith) (omega arith))
+        (ranged-lower d c (ranged-tokens (operandsFrom g src p)) (ranged-order s number undefined (operandsFrom g src p))))
+
+    pub undefined-reads : (depth : ℕ) → SomeOpen g src w sh at depth → Reads g src w sh at number undefined p y
+    undefined-reads depth so = record {
+      outcome = λ cs s o u.
+          read-whole g src w sh cs at s o u number (marksLeft g src (lineStart at))
+          ∙ l .whole s number (o .inside)
+          ∙ ap (λ (z : Outcome). gives (lower (2 unless e .text) (lower (tokensRefusal (operandsFrom g src p)) (z .refusal))) (z .state)) (undefined-collate s number (operandsFrom g src p))
+          ∙ ap (λ (z : ℕ). gives z (orderLine s number undefined (operandsFrom g src p) .state)) (refusal-is cs s o);
+      none = λ z cs s o.
+          let c = orderLine s number undefined (operandsFrom g src p) .refusal in
+          let d = tokensRefusal (operandsFrom g src p) in
+          lower-right-zero d c (lower-right-zero (2 unless e .text) (lower d c) (refusal-is cs s o ∙ z));
+      low = ranged-low y (ranged so);
+      high = ranged-high y (ranged so);
+    }
+
+  -- ## The step
+
+  module _ (depth : ℕ) (so : SomeOpen g src w sh at depth) (r : ℕ) (v : Reads g src w sh at number undefined p r) (z : r ≡ 0) where
+    there : (cs : List Chain) (s : State) → Open g src w sh cs at s → Placed g src w sh undefined (e .next) w m s
+    unfolding markOf
+    there cs s o =
+        let y = line-taken v z cs s o in
+        let rows : o .n ≤ (at + 1) / 8 = (let h = o .rows (l .inside) in rw (sym (o .phase) ∙ y .phase) at h) in
+        let on = l .line .on (l .inside) in
+        record {
+          n = o .n;
+          known = o .known;
+          mark = ap At (sym mark);
+          even = omega (arith, mark);
+          some = omega (arith, mark);
+          long = refl;
+          beyond = λ j a. refl;
+          rows = λ a. omega (arith, rows, on);
+        }
+
+    pub undefined-ready : number ≤ at + 1 → Ready w sh m number (p .at)
+    undefined-ready i =
+        let k = there (so .chains) (so .state) (so .held) in
+        let a = so .short in
+        let b = l .inside in
+        let c = l .to in
+        let n = so .held .few in
+        record { row = placed-is k; lines = placed-lines k; small-mark = placed-small k; small-number = omega (arith, a, b, i); small-place = omega (arith, a, c); few = omega (arith, n) }
+
+    pub undefined-listed : (w″ : List ℕ) (st : Step) → Lists w sh m number (p .at) e w″ st → StepIs g src w sh at number depth w″ st
+    undefined-listed w″ st a =
+        let c = l .long in
+        let n = nine in
+        line-listed v z (l .line) (l .inside) there depth (p .at) w″ st (spot-behind p (l .plain) (l .edge)) (omega (arith, c, n)) a

@@ -1,0 +1,20 @@
+-- `ordering::is_formed` meets its contract: a law for each way to return.
+use Rattle.ordering.proofs.OwnLaws.{formed-else, formed-plain, formed-symbol}
+use borrow.Author.Needs.{needs}
+use Rattle.ordering.proofs.is_formed.Statement.{statement}
+use Rattle.ordering.proofs.is_formed.Tie as tie
+
+no-operand-requires : tie.Need-no-operand-requires
+no-operand-requires c κs = search needs
+
+returns : tie.Need-returns
+returns c = search formed-symbol
+
+returns-2 : tie.Need-returns-2
+returns-2 c = search formed-plain
+
+returns-3 : tie.Need-returns-3
+returns-3 c = search formed-else
+
+pub is-formed-spec : {M : Type 1} → statement M
+is-formed-spec = tie.close (tie.spec no-operand-requires returns returns-2 returns-3)

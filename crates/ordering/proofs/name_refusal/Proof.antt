@@ -1,0 +1,31 @@
+-- `ordering::name_refusal` meets its contract: it is that of the paper's order line.
+use Rattle.ordering.proofs.StepLaws.{some-known}
+use Rattle.ordering.proofs.NameLaws.{name-to, name-inside, name-next, name-plain, name-reads}
+use borrow.Author.Needs.{needs}
+use Rattle.ordering.proofs.name_refusal.Statement.{statement}
+use Rattle.ordering.proofs.name_refusal.Tie as tie
+
+name-facts-requires : tie.Need-name-facts-requires
+name-facts-requires c κs = ((search name-to, search name-inside), (search some-known, search needs))
+
+own-refusal-requires : tie.Need-own-refusal-requires
+own-refusal-requires c κs = ((search name-next, search name-plain), search some-known)
+
+lower-of-requires : tie.Need-lower-of-requires
+lower-of-requires c κs = search needs
+
+refusal-with-requires : tie.Need-refusal-with-requires
+refusal-with-requires c κs = search needs
+
+returns : tie.Need-returns
+returns c = search name-reads
+
+pub name-refusal-spec : {M : Type 1} → statement M
+name-refusal-spec =
+    tie.close
+    (tie.spec
+    name-facts-requires
+    own-refusal-requires
+    lower-of-requires
+    refusal-with-requires
+    returns)

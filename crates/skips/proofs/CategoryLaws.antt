@@ -1,0 +1,89 @@
+-- The lines of another category: the END line of its name, and the turns of the loop to it.
+use mathlib.Core.Path.{_≡_, refl, sym, _∙_}
+use mathlib.Core.Bool.{Bool, true, false}
+use mathlib.Core.List.{List}
+use Prim.Native.Nat.{ℕ, _+_, _≤_, _<_}
+use native.Mathlib.Omega.{arith}
+use lib.ListN.{length, drop}
+use borrow.Author.Tests.{eqb-true, ne-eqb, lt-leb}
+use Rattle.lists.proofs.Bools.{cond-true}
+use Rattle.rules.specs.Text.{if_then_else_, is}
+use Rattle.rules.specs.State.{betweenCategories, inOtherCategory, State, inPhase, toPhase, gives}
+use Rattle.rules.specs.Conditionals.{isUnused}
+use Rattle.rules.specs.Source.{signs, otherLine, unusedLine, wholeLine, lineOutcome, linesFrom}
+use Rattle.lines.specs.declared.Signs.{Signs}
+use Rattle.lines.specs.declared.LineEnd.{LineEnd}
+use Rattle.lines.specs.Stream.{plainSigns, lineStart, marksLeft, LineIs}
+use Rattle.passed.specs.Words.{wordsLeft, firstWord}
+use Rattle.skips.specs.Passing.{InOther, Begins, isEnd, CategoryStops, CategoryRefused}
+use Rattle.skips.proofs.LineRuns.{signs-plain, run-passed, run-unended, refuses-from}
+
+-- ## A line
+
+module _ (g : Signs) (src name : List ℕ) (s : State) (u : InOther g name s) where
+  phase : s .place .phase ≡ inOtherCategory
+  phase = eqb-true (s .place .phase) inOtherCategory (u .inside)
+
+  pub other-signs : signs s ≡ plainSigns g
+  other-signs = let h = phase in signs-plain g s (u .comment) (u .escape) (lt-leb (s .place .phase) betweenCategories (omega arith))
+
+  pub other-inside : inPhase betweenCategories s ≡ false
+  other-inside = let h = phase in ne-eqb (s .place .phase) betweenCategories (λ e. omega arith)
+
+  -- it looks only for its own END line
+  other-line : (n at : ℕ)
+      → lineOutcome s n (marksLeft g src (lineStart at)) ≡ gives 0 (if isEnd g src at name then toPhase s betweenCategories else s)
+  unfolding lineOutcome otherLine isEnd is
+  other-line n at =
+      let ws = wordsLeft g src (lineStart at) in
+      let marks = marksLeft g src (lineStart at) in
+      cond-true (otherLine s ws) (if isUnused s then unusedLine s n (firstWord g src (lineStart at)) marks else wholeLine s n marks) (u .inside)
+      ∙ rw (u .category)
+
+  pub end-line : (n at : ℕ) → isEnd g src at name ≡ true
+      → lineOutcome s n (marksLeft g src (lineStart at)) ≡ gives 0 (toPhase s betweenCategories)
+  end-line n at t = other-line n at ∙ rw t
+
+  pub kept-line : (n at : ℕ) → isEnd g src at name ≡ false → lineOutcome s n (marksLeft g src (lineStart at)) ≡ gives 0 s
+  kept-line n at t = other-line n at ∙ rw t
+
+-- ## Line after line
+
+-- From the place `at` to i no END line of the category is passed.
+pub record InCategory (g : Signs) (src : List ℕ) (at number : ℕ) (name : List ℕ) (i n : ℕ) : Type 0 where
+  pub from : at ≤ i
+  pub to : i ≤ length src
+  pub few : n ≤ i + 1
+  pub run : (s : State) → InOther g name s → linesFrom s number 0 (drop at src) ≡ linesFrom s n 0 (drop i src)
+
+pub category-begins : (g : Signs) (src : List ℕ) (at number : ℕ) (name : List ℕ) → Begins src at number → InCategory g src at number name at number
+category-begins g src at number name h = record { from = omega arith; to = h .inside; few = h .few; run = λ s u. refl }
+
+module _ {g : Signs} {src : List ℕ} {at number : ℕ} {name : List ℕ} {i n : ℕ} (v : InCategory g src at number name i n) where
+  pub category-end : length src ≤ i → CategoryRefused g src at number name 3 n
+  category-end h =
+      record {
+        three = refl;
+        run = λ s u. refuses-from (v .run s u) (run-unended src i n s (other-inside g src name s u) h);
+      }
+
+  module _ (h : i < length src) {e : LineEnd} (l : LineIs g src (lineStart i) e) {t : Bool} (k : t ≡ isEnd g src i name) where
+    pub category-stops : t ≡ true → CategoryStops g src at number name (e .next) (n + e .feeds)
+    category-stops b =
+        record {
+          from = omega (arith, v .from, l .few);
+          to = l .to;
+          few = omega (arith, v .few, l .few);
+          run = λ s u. v .run s u
+              ∙ run-passed g src i n s (other-signs g src name s u) (toPhase s betweenCategories) e h l (end-line g src name s u n i (sym k ∙ b));
+        }
+
+    pub category-on : t ≡ false → InCategory g src at number name (e .next) (n + e .feeds)
+    category-on b =
+        record {
+          from = omega (arith, v .from, l .few);
+          to = l .to;
+          few = omega (arith, v .few, l .few);
+          run = λ s u. v .run s u
+              ∙ run-passed g src i n s (other-signs g src name s u) s e h l (kept-line g src name s u n i (sym k ∙ b));
+        }

@@ -1,0 +1,4 @@
+pub mod LineRuns
+pub mod BranchLaws
+pub mod CategoryLaws
+pub mod NameLaws

@@ -1,0 +1,214 @@
+// The lines of a locale source that are passed over: an unused branch of a conditional chain, and another category.
+ghost use mathlib.Core.Path.{_≡_};
+ghost use Prim.Native.Nat.{_≤_, _<_};
+ghost use lib.ListN.{length};
+ghost use Rattle.lines.specs.Stream.{lineStart};
+ghost use Rattle.passed.specs.Words.{firstWord};
+ghost use Rattle.skips.specs.Passing.{KindIs, Begins, TurnIs, BranchIs, Named, nameAt, Copies, isEnd, CategoryIs};
+use lines::Signs;
+use lines::Spot;
+use lines::line_end;
+use passed::first_word_is;
+use passed::words_are;
+use tokens::WordStep;
+use tokens::word_byte;
+
+// What a line is in an unused branch, by its first word.
+pub enum Kind {
+    // it opens an inner chain
+    Opens,
+    // it closes a chain
+    Closes,
+    // it begins another branch
+    Branches,
+    Other,
+}
+
+// What a line of an unused branch does.
+pub enum Turn {
+    // it is passed over, with so many chains open after it
+    On(usize),
+    // it is one of the branch's own chain
+    Own,
+    // it opens one chain more than may nest
+    Deep,
+}
+
+// Stop: the place and the number of the line that is to be read next. Refused: why, and at which line.
+pub enum Skip {
+    Stop(usize, usize),
+    Refused(u8, usize),
+}
+
+// What the line at a place is in an unused branch.
+fn line_kind(src: &[u8], g: Signs, at: usize) -> Kind
+    requires { ⌜ at ≤ length (now src) ⌝ }
+    ensures { λ r. ⌜ KindIs (firstWord g (now (src .entry)) (lineStart at)) r ⌝ }
+{
+    let p = Spot {
+        at: at,
+        mode: 0,
+        fresh: true,
+    };
+    if first_word_is(src, g, p, b"ifdef") {
+        return Kind::Opens;
+    }
+    if first_word_is(src, g, p, b"ifndef") {
+        return Kind::Opens;
+    }
+    if first_word_is(src, g, p, b"endif") {
+        return Kind::Closes;
+    }
+    if first_word_is(src, g, p, b"elif") {
+        return Kind::Branches;
+    }
+    if first_word_is(src, g, p, b"else") {
+        return Kind::Branches;
+    }
+    Kind::Other
+}
+
+// What the line at a place does in an unused branch, where `depth` chains are open with the branch's own and `total` with the inner ones.
+fn branch_turn(src: &[u8], g: Signs, at: usize, depth: usize, total: usize) -> Turn
+    requires { ⌜ (at ≤ length (now src)) × (depth ≤ total) ⌝ }
+    ensures { λ r. ⌜ TurnIs g (now (src .entry)) at depth total r ⌝ }
+{
+    let k = line_kind(src, g, at);
+    match k {
+        Kind::Opens => {
+            if total < 8 {
+                return Turn::On(total + 1);
+            }
+            return Turn::Deep;
+        }
+        Kind::Closes => {
+            if total == depth {
+                return Turn::Own;
+            }
+            return Turn::On(total - 1);
+        }
+        Kind::Branches => {
+            if total == depth {
+                return Turn::Own;
+            }
+            return Turn::On(total);
+        }
+        Kind::Other => return Turn::On(total),
+    }
+}
+
+// The rest of an unused branch, where `depth` chains are open: the next line of its own chain.
+pub fn skip_branch(src: &[u8], g: Signs, at: usize, number: usize, depth: usize) -> Skip
+    requires { ⌜ Begins (now src) at number ⌝ }
+    ensures { λ r. ⌜ BranchIs g (now (src .entry)) at number depth r ⌝ }
+{
+    let mut i = at;
+    let mut n = number;
+    let mut total = depth;
+    while i < src.len() {
+        let t = branch_turn(src, g, i, depth, total);
+        match t {
+            Turn::Own => return Skip::Stop(i, n),
+            Turn::Deep => return Skip::Refused(7, n),
+            Turn::On(o) => {
+                let p = Spot {
+                    at: i,
+                    mode: 0,
+                    fresh: true,
+                };
+                let e = line_end(src, g, p);
+                i = e.next;
+                n += e.feeds;
+                total = o;
+            }
+        }
+    }
+    Skip::Refused(3, n)
+}
+
+// Whether the line at a place is the END line of the category of this name.
+fn is_end(src: &[u8], g: Signs, at: usize, name: &[u8]) -> bool
+    requires { ⌜ (at ≤ length (now src)) × (0 < length (now name)) ⌝ }
+    ensures { λ r. ⌜ r ≡ isEnd g (now (src .entry)) at (now (name .entry)) ⌝ }
+{
+    let p = Spot {
+        at: at,
+        mode: 0,
+        fresh: true,
+    };
+    words_are(src, g, p, b"END", name)
+}
+
+// The rest of another category of this name: the line after its END line.
+fn skip_named(src: &[u8], g: Signs, at: usize, number: usize, name: &[u8]) -> Skip
+    requires { ⌜ Begins (now src) at number × (0 < length (now name)) ⌝ }
+    ensures { λ r. ⌜ CategoryIs g (now (src .entry)) at number (now (name .entry)) r ⌝ }
+{
+    let mut i = at;
+    let mut n = number;
+    while i < src.len() {
+        let p = Spot {
+            at: i,
+            mode: 0,
+            fresh: true,
+        };
+        let e = line_end(src, g, p);
+        let next = e.next;
+        let m = n + e.feeds;
+        if is_end(src, g, i, name) {
+            return Skip::Stop(next, m);
+        }
+        i = next;
+        n = m;
+    }
+    Skip::Refused(3, n)
+}
+
+// The word at a place, copied to the front of the room: how many bytes it has. So a name is read once, however many lines it is joined of.
+fn copy_word(src: &[u8], g: Signs, at: usize, room: &mut [u8]) -> usize
+    requires { ⌜ (at ≤ length (now src)) × (length (nameAt g (now src) at) ≤ length (now room)) ⌝ }
+    ensures { λ r. ⌜ Copies g (now (src .entry)) at (now (room .entry)) (now (room .exit)) r ⌝ }
+{
+    let mut q = Spot {
+        at: at,
+        mode: 0,
+        fresh: true,
+    };
+    let mut i = 0;
+    loop {
+        let s = word_byte(src, g, q);
+        match s {
+            WordStep::End => return i,
+            WordStep::Byte(b, r) => {
+                room[i] = b;
+                i += 1;
+                q = r;
+            }
+        }
+    }
+}
+
+// The rest of another category, with room for its name.
+fn skip_copied(
+    src: &[u8],
+    g: Signs,
+    at: usize,
+    number: usize,
+    category: usize,
+    room: &mut [u8],
+) -> Skip
+    requires { ⌜ Begins (now src) at number × Named g (now src) category × (32 ≤ length (now room)) ⌝ }
+    ensures { λ r. ⌜ CategoryIs g (now (src .entry)) at number (nameAt g (now (src .entry)) category) r ⌝ }
+{
+    let n = copy_word(src, g, category, room);
+    skip_named(src, g, at, number, &room[..n])
+}
+
+// The rest of another category, whose name stands at `category`: the line after its END line.
+pub fn skip_category(src: &[u8], g: Signs, at: usize, number: usize, category: usize) -> Skip
+    requires { ⌜ Begins (now src) at number × Named g (now src) category ⌝ }
+    ensures { λ r. ⌜ CategoryIs g (now (src .entry)) at number (nameAt g (now (src .entry)) category) r ⌝ }
+{
+    let mut room = [0u8; 32];
+    skip_copied(src, g, at, number, category, &mut room)
+}

@@ -1,0 +1,4 @@
+pub mod StandLaws
+pub mod TokenLaws
+pub mod TurnLaws
+pub mod CountLaws

@@ -1,0 +1,4 @@
+pub mod AreaLaws
+pub mod SeekLaws
+pub mod DeclareLaws
+pub mod ListLaws

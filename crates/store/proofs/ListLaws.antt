@@ -1,0 +1,134 @@
+-- For callers: what the list says after a declaration and after a number is set, and how marks and keys go together.
+use mathlib.Core.Path.{_≡_, refl, sym, ap, _∙_}
+use mathlib.Core.Bool.{true, false, false≢true}
+use mathlib.Core.List.{List, [], _∷_}
+use Prim.Native.Nat.{ℕ, _-_, _/_, _≤_, _<_}
+use native.Mathlib.Omega.{arith}
+use lib.ListN.{set}
+use lib.Dec.{eqb}
+use borrow.Author.Tests.{eq-eqb, eqb-true, eqb-false}
+use Rattle.lists.proofs.Bools.{by, clash}
+use Rattle.subjects.specs.Keys.{Key, sameKey}
+use Rattle.subjects.proofs.KeyLaws.{sameKey-true, sameKey-refl, sameKey-equal}
+use Rattle.store.specs.declared.Found.the-variants.{At, Nothing}
+use Rattle.store.specs.Store.{Decl, first, isPlace, Distinct, fresh, Nodes, none, more, Holds}
+use Rattle.store.proofs.AreaLaws.{placed, placed-within}
+
+-- ## Nothing declared
+
+pub first-none : (k : Key) → first k [] ≡ Nothing
+unfolding first
+first-none k = refl
+
+pub isPlace-none : (p : ℕ) → isPlace p [] ≡ false
+unfolding isPlace
+isPlace-none p = refl
+
+-- ## A declaration more
+
+module _ (key : ℕ → Key) (v : ℕ) (ds : List Decl) where
+  pub first-fresh-same : (k : Key) → sameKey (key v) k ≡ true → first k (fresh key v ∷ ds) ≡ At v
+  unfolding first
+  first-fresh-same k t = rw t
+
+  pub first-fresh : first (key v) (fresh key v ∷ ds) ≡ At v
+  first-fresh = first-fresh-same (key v) (sameKey-refl (key v))
+
+  pub first-fresh-other : (k : Key) → sameKey (key v) k ≡ false → first k (fresh key v ∷ ds) ≡ first k ds
+  unfolding first
+  first-fresh-other k t = rw t
+
+  pub isPlace-fresh : isPlace v (fresh key v ∷ ds) ≡ true
+  unfolding isPlace
+  isPlace-fresh = rw (eq-eqb v v refl)
+
+  pub isPlace-older : (p : ℕ) → isPlace p ds ≡ true → isPlace p (fresh key v ∷ ds) ≡ true
+  unfolding isPlace
+  isPlace-older p h = by (eqb v p) (λ t. rw t) (λ t. rw t h)
+
+-- ## Marks and keys
+
+module _ {key : ℕ → Key} {len : ℕ} {w : List ℕ} where
+  first-low : {n : ℕ} {ds : List Decl} (k : Key) (p : ℕ) → Nodes key len w n ds → first k ds ≡ At p → (p / 16 < n) × (p / 2 ≤ len)
+  unfolding first
+  first-low k p none e = let z : _≡_ {A = ℕ} 0 1 = cc in absurd (omega arith)
+  first-low k p (more {d = d} a ns) e =
+      by (sameKey (d .key) k)
+      (λ t. let q : At (d .place) ≡ At p = rw t at e in let z : d .place ≡ p = cc in omega (arith, a .below, a .within))
+      (λ t. let r = first-low k p ns (rw t at e) in omega (arith, a .below, r .0, r .1))
+
+  first-key : {n : ℕ} {ds : List Decl} (k : Key) (p : ℕ) → Nodes key len w n ds → first k ds ≡ At p → key p ≡ k
+  unfolding first
+  first-key k p none e = let z : _≡_ {A = ℕ} 0 1 = cc in absurd (omega arith)
+  first-key k p (more {d = d} a ns) e =
+      by (sameKey (d .key) k)
+      (λ t. let q : At (d .place) ≡ At p = rw t at e in let z : d .place ≡ p = cc in rw (← z) (a .keyed ∙ sameKey-true (d .key) k t))
+      (λ t. first-key k p ns (rw t at e))
+
+  first-place : {n : ℕ} {ds : List Decl} (k : Key) (p : ℕ) → Nodes key len w n ds → first k ds ≡ At p → isPlace p ds ≡ true
+  unfolding first isPlace
+  first-place k p none e = cc
+  first-place k p (more {d = d} a ns) e =
+      by (eqb (d .place) p) (λ t. rw t)
+      (λ t. rw t (by (sameKey (d .key) k)
+      (λ u. let q : At (d .place) ≡ At p = rw u at e in let z : d .place ≡ p = cc in absurd (eqb-false (d .place) p t z))
+      (λ u. first-place k p ns (rw u at e))))
+
+  new-place : {n : ℕ} {ds : List Decl} (p : ℕ) → Nodes key len w n ds → n ≤ p / 16 → isPlace p ds ≡ false
+  new-place {ds = ds} p ns h = by (isPlace p ds) (λ t. let b = placed p ns t in absurd (omega arith)) (λ t. t)
+
+  distinct : {n : ℕ} {ds : List Decl} → Nodes key len w n ds → Distinct ds
+  distinct none = tt
+  distinct (more {d = d} a ns) = (new-place (d .place) ns (omega arith), distinct ns)
+
+  one-row : {n : ℕ} {ds : List Decl} (p q : ℕ) → Nodes key len w n ds → isPlace p ds ≡ true → isPlace q ds ≡ true → p / 16 ≡ q / 16 → p ≡ q
+  unfolding isPlace
+  one-row p q none e f r = absurd (false≢true e)
+  one-row p q (more {d = d} a ns) e f r =
+      by (eqb (d .place) p)
+      (λ t. by (eqb (d .place) q) (λ u. sym (eqb-true (d .place) p t) ∙ eqb-true (d .place) q u)
+      (λ u. let b = placed q ns (rw u at f) in let z = eqb-true (d .place) p t in absurd (omega arith)))
+      (λ t. by (eqb (d .place) q)
+      (λ u. let b = placed p ns (rw t at e) in let z = eqb-true (d .place) q u in absurd (omega arith))
+      (λ u. one-row p q ns (rw t at e) (rw u at f) r))
+
+  some-place : {n : ℕ} {ds : List Decl} (p : ℕ) → Nodes key len w n ds → isPlace p ds ≡ true → first (key p) ds ≡ Nothing → ⊥
+  unfolding isPlace first
+  some-place p none e f = false≢true e
+  some-place p (more {d = d} a ns) e f =
+      by (sameKey (d .key) (key p))
+      (λ u. let q : At (d .place) ≡ Nothing = rw u at f in let z : _≡_ {A = ℕ} 0 1 = cc in absurd (omega arith))
+      (λ u. by (eqb (d .place) p)
+      (λ t. let z = eqb-true (d .place) p t in clash (sameKey-equal (sym (a .keyed) ∙ ap key z)) u)
+      (λ t. some-place p ns (rw t at e) (rw u at f)))
+
+  module _ {n : ℕ} {ds : List Decl} (v : Holds key len w n ds) where
+    -- what is found stands in the source, is declared, and has the key
+    pub found-within : (k : Key) (p : ℕ) → first k ds ≡ At p → p / 2 ≤ len
+    found-within k p e = first-low k p (v .nodes) e .1
+
+    pub found-place : (k : Key) (p : ℕ) → first k ds ≡ At p → isPlace p ds ≡ true
+    found-place k p e = first-place k p (v .nodes) e
+
+    pub found-key : (k : Key) (p : ℕ) → first k ds ≡ At p → key p ≡ k
+    found-key k p e = first-key k p (v .nodes) e
+
+    -- what is declared is found
+    pub place-found : (p : ℕ) → isPlace p ds ≡ true → first (key p) ds ≡ Nothing → ⊥
+    place-found p e = some-place p (v .nodes) e
+
+    pub place-below : (p : ℕ) → isPlace p ds ≡ true → p / 16 < n
+    place-below p e = placed p (v .nodes) e
+
+    pub place-within : (p : ℕ) → isPlace p ds ≡ true → p / 2 ≤ len
+    place-within p e = placed-within p (v .nodes) e
+
+    pub place-new : (p : ℕ) → n ≤ p / 16 → isPlace p ds ≡ false
+    place-new p h = new-place p (v .nodes) h
+
+    -- no mark stands twice, nor two in one row
+    pub places-distinct : Distinct ds
+    places-distinct = distinct (v .nodes)
+
+    pub place-row : (p q : ℕ) → isPlace p ds ≡ true → isPlace q ds ≡ true → p / 16 ≡ q / 16 → p ≡ q
+    place-row p q e f r = one-row p q (v .nodes) e f r

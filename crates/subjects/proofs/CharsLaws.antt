@@ -1,0 +1,173 @@
+-- The characters in quotes, one after the other: the next one, and the turns of the loops.
+use mathlib.Core.Path.{_≡_, refl, sym, ap, _∙_, subst}
+use mathlib.Core.Bool.{Bool, true, false}
+use mathlib.Core.List.{List, [], _∷_, map}
+use Prim.Native.Nat.{ℕ, _+_, _*_, _%_, _≤_, _<_}
+use native.Mathlib.Nat.{le-refl}
+use native.Mathlib.Omega.{arith}
+use lib.ListN.{length}
+use borrow.Author.Tests.{eq-eqb, ne-eqb}
+use Rattle.rules.specs.Text.{same, every, oneOf}
+use Rattle.rules.specs.Names.{charShaped, codeOf, isCharName}
+use Rattle.rules.specs.Lines.{quoted}
+use Rattle.rules.proofs.TextLaws.{every-head, every-tail, oneOf-head-false, oneOf-tail-false}
+use Rattle.lists.proofs.Bools.{and-left}
+use Rattle.lines.specs.declared.Signs.{Signs}
+use Rattle.lines.specs.declared.Spot.{Spot}
+use Rattle.lines.specs.Stream.{marksLeft}
+use Rattle.lines.proofs.ByteLaws.{after-inner-close}
+use Rattle.lines.proofs.LineLaws.{ends-source}
+use Rattle.tokens.specs.declared.Closing.{Closing}
+use Rattle.tokens.specs.declared.Closing.the-variants as closing
+use Rattle.tokens.specs.Left.{isClose, isInside, afterName, namesIn, NameEnds, ClosingIs}
+use Rattle.names.specs.declared.Named.{Named}
+use Rattle.names.specs.declared.Named.the-variants.{Name, Close}
+use Rattle.names.specs.Named.{nameLeft, hashFrom, hashOf, NameAt, NamedIs}
+use Rattle.subjects.specs.declared.NextChar.{NextChar}
+use Rattle.subjects.specs.declared.NextChar.the-variants.{Char, End}
+use Rattle.subjects.specs.Keys.{quoteSpot, charOf, charsLeft, AfterName, CharNext, NextIs}
+
+-- ## Quotes with characters only
+
+-- where each name is shaped as a character, the characters are the names' codes
+pub charsOf-shaped : (ns : List (List ℕ)) → every charShaped ns ≡ true → map charOf ns ≡ map codeOf ns
+unfolding charOf
+charsOf-shaped [] h = refl
+charsOf-shaped (n ∷ ns) h = let s = every-head charShaped n ns h in let r = charsOf-shaped ns (every-tail charShaped n ns h) in rw (s, r)
+
+-- where each name is that of a character too
+pub charsOf-names : (ns : List (List ℕ)) → every isCharName ns ≡ true → map charOf ns ≡ map codeOf ns
+unfolding charOf isCharName
+charsOf-names [] h = refl
+charsOf-names (n ∷ ns) h =
+    let s = and-left (charShaped n) _ (every-head isCharName n ns h) in
+    let r = charsOf-names ns (every-tail isCharName n ns h) in
+    rw (s, r)
+
+-- ## After a name
+
+-- nothing comes after a name that is left open
+after-open-none : (ms : List ℕ) → oneOf isClose ms ≡ false → afterName ms ≡ []
+unfolding afterName
+after-open-none [] h = refl
+after-open-none (m ∷ ms) h =
+    let s = oneOf-head-false isClose m ms h in
+    let r = after-open-none ms (oneOf-tail-false isClose m ms h) in
+    rw (s, r)
+
+module _ (g : Signs) (src : List ℕ) (p : Spot) {c : Closing} (w : ClosingIs g src p c) where
+  pub after-closed : {f : ℕ} {q : Spot} → c ≡ closing.Closed f q → AfterName g src p q
+  after-closed {f} {q} e =
+      let x : NameEnds g src p f q = subst (ClosingIs g src p) e w in
+      record { names = ap namesIn (sym (x .after)); mode = λ h. x .mode ∙ sym (after-inner-close h refl); to = x .to }
+
+  pub after-open : c ≡ closing.Open → AfterName g src p (quoteSpot (length src))
+  after-open e =
+      let x : oneOf isClose (marksLeft g src p) ≡ false = subst (ClosingIs g src p) e w in
+      let none : marksLeft g src (quoteSpot (length src)) ≡ [] = ends-source g src (quoteSpot (length src)) (le-refl (length src)) (le-refl (length src)) .none in
+      record { names = ap namesIn (none ∙ sym (after-open-none (marksLeft g src p) x)); mode = λ h. refl; to = le-refl (length src) }
+
+-- ## The next character
+
+module _ (g : Signs) (src : List ℕ) (p : Spot) {n : Named} (w : NamedIs g src p n) where
+  pub next-none : n ≡ Close → charsLeft g src p ≡ []
+  unfolding charsLeft
+  next-none e = let x : namesIn (marksLeft g src p) ≡ [] = subst (NamedIs g src p) e w in rw x
+
+  module _ {q : Spot} (e : n ≡ Name q) where
+    there : NameAt g src p q
+    there = subst (NamedIs g src p) e w
+
+    pub next-to : q .at ≤ length src
+    next-to = there .to
+
+    pub next-inside : p .mode ≡ quoted → isInside (q .mode) ≡ true
+    next-inside h = rw (there .mode h)
+
+    pub next-char : {c : ℕ} {r : Spot} → p .mode ≡ quoted → c ≡ charOf (nameLeft g src q) → AfterName g src q r → CharNext g src p c r
+    unfolding charsLeft
+    next-char h f a = record { chars = rw (there .names, f, a .names); mode = a .mode (there .mode h); to = a .to }
+
+-- ## The turns of the loops
+
+module _ (g : Signs) (src : List ℕ) (q : Spot) {s : NextChar} (w : NextIs g src q s) where
+  step-char : {c : ℕ} {r : Spot} → s ≡ Char c r → CharNext g src q c r
+  step-char e = subst (NextIs g src q) e w
+
+  step-end : s ≡ End → charsLeft g src q ≡ []
+  step-end e = subst (NextIs g src q) e w
+
+  pub step-less : {c : ℕ} {r : Spot} → s ≡ Char c r → length (charsLeft g src r) < length (charsLeft g src q)
+  step-less e = let x = step-char e in rw (x .chars) (omega arith)
+
+  pub ends-more : {c : ℕ} {r : Spot} → s ≡ Char c r → false ≡ same [] (charsLeft g src q)
+  unfolding same
+  ends-more e = let x = step-char e in sym (rw (x .chars))
+
+  pub ends-none : s ≡ End → true ≡ same [] (charsLeft g src q)
+  unfolding same
+  ends-none e = sym (rw (step-end e))
+
+-- The characters before q make h.
+pub record Summing (g : Signs) (src : List ℕ) (p q : Spot) (h : ℕ) : Type 0 where
+  pub rest : hashFrom h (charsLeft g src q) ≡ hashOf (charsLeft g src p)
+  pub small : h < 16777216
+  pub mode : q .mode ≡ quoted
+  pub to : q .at ≤ length src
+
+pub summing-none : (g : Signs) (src : List ℕ) (p : Spot) → p .at ≤ length src → p .mode ≡ quoted → Summing g src p p 0
+summing-none g src p h m = record { rest = refl; small = omega arith; mode = m; to = h }
+
+module _ {g : Signs} {src : List ℕ} {p q : Spot} {h : ℕ} {s : NextChar} (v : Summing g src p q h) (w : NextIs g src q s) where
+  pub summing-end : s ≡ End → h ≡ hashOf (charsLeft g src p)
+  unfolding hashFrom
+  summing-end e = rw (step-end g src q w e) at (v .rest)
+
+  pub summing-more : {c x : ℕ} {r : Spot} → s ≡ Char c r → x ≡ c → Summing g src p r ((h * 31 + x) % 16777216)
+  unfolding hashFrom
+  summing-more {c} {x} {r} e f =
+      let y : CharNext g src q c r = step-char g src q w e in
+      record { rest = rw f (rw (y .chars) at (v .rest)); small = omega arith; mode = y .mode; to = y .to }
+
+-- The quotes agree before i and before j.
+pub record Agree (g : Signs) (src : List ℕ) (p q i j : Spot) : Type 0 where
+  pub rest : same (charsLeft g src p) (charsLeft g src q) ≡ same (charsLeft g src i) (charsLeft g src j)
+  pub first : i .at ≤ length src
+  pub first-mode : i .mode ≡ quoted
+  pub second : j .at ≤ length src
+  pub second-mode : j .mode ≡ quoted
+
+pub agree-none : (g : Signs) (src : List ℕ) (p q : Spot) → p .at ≤ length src → p .mode ≡ quoted → q .at ≤ length src → q .mode ≡ quoted
+    → Agree g src p q p q
+agree-none g src p q h m k n = record { rest = refl; first = h; first-mode = m; second = k; second-mode = n }
+
+module _ {g : Signs} {src : List ℕ} {p q i j : Spot} (v : Agree g src p q i j) (s : NextChar) (w : NextIs g src i s) where
+  pub agree-end : {t : Bool} → s ≡ End → t ≡ same [] (charsLeft g src j) → t ≡ same (charsLeft g src p) (charsLeft g src q)
+  agree-end e f = f ∙ sym (v .rest ∙ rw (step-end g src i w e))
+
+  module _ {a : ℕ} {k : Spot} (e : s ≡ Char a k) (t : NextChar) (x : NextIs g src j t) where
+    one : CharNext g src i a k
+    one = step-char g src i w e
+
+    pub agree-longer : t ≡ End → false ≡ same (charsLeft g src p) (charsLeft g src q)
+    unfolding same
+    agree-longer f = sym (v .rest ∙ rw (one .chars, step-end g src j x f))
+
+    module _ {b : ℕ} {l : Spot} (f : t ≡ Char b l) where
+      two : CharNext g src j b l
+      two = step-char g src j x f
+
+      pub agree-not : (a ≡ b → ⊥) → false ≡ same (charsLeft g src p) (charsLeft g src q)
+      unfolding same
+      agree-not n = sym (v .rest ∙ rw (one .chars, two .chars) (simp (ne-eqb a b n)))
+
+      pub agree-more : a ≡ b → Agree g src p q k l
+      unfolding same
+      agree-more h =
+          record {
+            rest = v .rest ∙ rw (one .chars, two .chars) (simp (eq-eqb a b h));
+            first = one .to;
+            first-mode = one .mode;
+            second = two .to;
+            second-mode = two .mode;
+          }

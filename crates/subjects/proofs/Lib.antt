@@ -1,0 +1,4 @@
+pub mod SpotLaws
+pub mod SubjectLaws
+pub mod CharsLaws
+pub mod KeyLaws

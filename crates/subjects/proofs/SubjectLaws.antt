@@ -1,0 +1,78 @@
+-- What a name means, from the code that its reader gives.
+use mathlib.Core.Path.{_≡_, sym, ap, _∙_, subst}
+use mathlib.Core.Bool.{Bool, false}
+use mathlib.Core.List.{List}
+use Prim.Native.Nat.{ℕ, _%_}
+use lib.Dec.{eqb}
+use Rattle.rules.specs.Text.{same}
+use Rattle.rules.specs.Names.{charShaped}
+use Rattle.rules.specs.State.{character, named}
+use Rattle.rules.specs.OrderLines.{subjectOf, sameSubject}
+use Rattle.names.specs.declared.Code.{Code}
+use Rattle.names.specs.declared.Code.the-variants.{Char, Other}
+use Rattle.names.specs.Named.{CharIs, CodeIs, hashOf}
+use Rattle.subjects.specs.Keys.{charOf, hashSubject, hashKey, item}
+
+pub hash-code : (c h : ℕ) → h ≡ c → h % 16777216 ≡ hashKey (item (character c))
+unfolding hashKey hashSubject
+hash-code c h e = rw e
+
+-- ## One name
+
+module _ (n : List ℕ) {c : Code} (w : CodeIs n c) where
+  shaped : {x : ℕ} → c ≡ Char x → CharIs n x
+  shaped e = subst (CodeIs n) e w
+
+  other : c ≡ Other → charShaped n ≡ false
+  other e = subst (CodeIs n) e w
+
+  pub char-code : {x : ℕ} → c ≡ Char x → x ≡ charOf n
+  unfolding charOf
+  char-code e = let k = shaped e in k .code ∙ sym (rw (k .shaped))
+
+  pub char-none : c ≡ Other → 0 ≡ charOf n
+  unfolding charOf
+  char-none e = sym (rw (other e))
+
+  subject-char : {x : ℕ} → c ≡ Char x → subjectOf n ≡ character x
+  unfolding subjectOf
+  subject-char e = let k = shaped e in rw (k .shaped) (ap character (sym (k .code)))
+
+  subject-name : c ≡ Other → subjectOf n ≡ named n
+  unfolding subjectOf
+  subject-name e = rw (other e)
+
+  pub hash-char : {x h : ℕ} → c ≡ Char x → h ≡ x → h % 16777216 ≡ hashSubject (subjectOf n)
+  unfolding hashSubject
+  hash-char e f = ap (λ (y : ℕ). y % 16777216) f ∙ sym (ap hashSubject (subject-char e))
+
+  pub hash-name : {k h : ℕ} → c ≡ Other → k ≡ hashOf n → h ≡ k → h ≡ hashSubject (subjectOf n)
+  unfolding hashSubject
+  hash-name e f h = h ∙ f ∙ sym (ap hashSubject (subject-name e))
+
+  pub means-char : (x y : ℕ) → c ≡ Char x → eqb x y ≡ sameSubject (subjectOf n) (character y)
+  unfolding sameSubject
+  means-char x y e = sym (rw (subject-char e))
+
+  pub means-name : (y : ℕ) → c ≡ Other → false ≡ sameSubject (subjectOf n) (character y)
+  unfolding sameSubject
+  means-name y e = sym (rw (subject-name e))
+
+-- ## Two names
+
+module _ (m n : List ℕ) {c d : Code} (v : CodeIs m c) (w : CodeIs n d) where
+  pub alike-chars : {x y : ℕ} → c ≡ Char x → d ≡ Char y → eqb x y ≡ sameSubject (subjectOf m) (subjectOf n)
+  unfolding sameSubject
+  alike-chars e f = sym (rw (subject-char m v e, subject-char n w f))
+
+  pub alike-char-name : {x : ℕ} → c ≡ Char x → d ≡ Other → false ≡ sameSubject (subjectOf m) (subjectOf n)
+  unfolding sameSubject
+  alike-char-name e f = sym (rw (subject-char m v e, subject-name n w f))
+
+  pub alike-name-char : {y : ℕ} → c ≡ Other → d ≡ Char y → false ≡ sameSubject (subjectOf m) (subjectOf n)
+  unfolding sameSubject
+  alike-name-char e f = sym (rw (subject-name m v e, subject-char n w f))
+
+  pub alike-names : {t : Bool} → c ≡ Other → d ≡ Other → t ≡ same m n → t ≡ sameSubject (subjectOf m) (subjectOf n)
+  unfolding sameSubject
+  alike-names e f h = h ∙ sym (rw (subject-name m v e, subject-name n w f))

@@ -1,0 +1,253 @@
+// What stands at a mark of the source: a name's subject, or the characters of quotes; its number for chains, and whether two are the same.
+ghost use mathlib.Core.Path.{_≡_};
+ghost use mathlib.Core.Bool.{true};
+ghost use mathlib.Core.List.{[]};
+ghost use Prim.Native.Nat.{ℕ, _/_, _≤_, _<_};
+ghost use lib.ListN.{length};
+ghost use Rattle.rules.specs.Text.{same};
+ghost use Rattle.rules.specs.Lines.{quoted};
+ghost use Rattle.rules.specs.State.{character};
+ghost use Rattle.rules.specs.OrderLines.{sameSubject};
+ghost use Rattle.tokens.specs.Left.{isInside};
+ghost use Rattle.names.specs.Named.{nameLeft, hashOf};
+ghost use Rattle.subjects.specs.Keys.{nameSpot, quoteSpot, charOf, charsLeft, subjectLeft, AfterName, NextIs, keyAt, hashSubject, hashKey, sameKey, item};
+use lines::Signs;
+use lines::Spot;
+use names::Code;
+use names::Named;
+use names::name_char;
+use names::name_hash;
+use names::next_name;
+use names::same_name;
+use tokens::Closing;
+use tokens::end_of_name;
+
+// The next character in quotes, with the spot after its name.
+pub enum NextChar {
+    Char(u32, Spot),
+    End,
+}
+
+// The spot of a name's mark, right after its `<`.
+fn name_spot(v: usize) -> Spot
+    ensures { λ r. ⌜ r ≡ nameSpot (v / 2) ⌝ }
+{
+    Spot {
+        at: v / 2,
+        mode: 1,
+        fresh: false,
+    }
+}
+
+// The spot of the mark of quotes, right after the opening `"`.
+fn quote_spot(v: usize) -> Spot
+    ensures { λ r. ⌜ r ≡ quoteSpot (v / 2) ⌝ }
+{
+    Spot {
+        at: v / 2,
+        mode: 2,
+        fresh: false,
+    }
+}
+
+fn wide(x: u32) -> usize
+    ensures { λ r. ⌜ (r ≡ x) × (r < 4294967296) ⌝ }
+{
+    x as usize
+}
+
+// The code of a name in quotes, 0 for one that is not shaped as a character.
+pub fn char_at(src: &[u8], g: Signs, p: Spot) -> u32
+    requires { ⌜ p .at ≤ length (now src) ⌝ }
+    ensures { λ r. ⌜ r ≡ charOf (nameLeft g (now (src .entry)) p) ⌝ }
+{
+    let c = name_char(src, g, p);
+    match c {
+        Code::Char(x) => return x,
+        Code::Other => return 0,
+    }
+}
+
+// The spot after a name in quotes; after one that is left open, the source's end.
+pub fn after_name(src: &[u8], g: Signs, p: Spot) -> Spot
+    requires { ⌜ (p .at ≤ length (now src)) × (isInside (p .mode) ≡ true) ⌝ }
+    ensures { λ r. ⌜ AfterName g (now (src .entry)) p r ⌝ }
+{
+    let c = end_of_name(src, g, p);
+    match c {
+        Closing::Closed(_, q) => return q,
+        Closing::Open => {
+            return Spot {
+                at: src.len(),
+                mode: 2,
+                fresh: false,
+            };
+        }
+    }
+}
+
+// The next character in quotes, from a spot in them outside names.
+pub fn next_char(src: &[u8], g: Signs, p: Spot) -> NextChar
+    requires { ⌜ (p .at ≤ length (now src)) × (p .mode ≡ quoted) ⌝ }
+    ensures { λ r. ⌜ NextIs g (now (src .entry)) p r ⌝ }
+{
+    let n = next_name(src, g, p);
+    match n {
+        Named::Name(q) => {
+            let c = char_at(src, g, q);
+            let r = after_name(src, g, q);
+            return NextChar::Char(c, r);
+        }
+        Named::Close => return NextChar::End,
+    }
+}
+
+// A number that is the same for the same characters in quotes, below 2 to the 24th.
+fn chars_hash(src: &[u8], g: Signs, p: Spot) -> usize
+    requires { ⌜ (p .at ≤ length (now src)) × (p .mode ≡ quoted) ⌝ }
+    ensures { λ r. ⌜ r ≡ hashOf (charsLeft g (now (src .entry)) p) ⌝ }
+{
+    let mut q = p;
+    let mut h: usize = 0;
+    loop {
+        let s = next_char(src, g, q);
+        match s {
+            NextChar::Char(c, r) => {
+                let x = wide(c);
+                h = (h * 31 + x) % 16777216;
+                q = r;
+            }
+            NextChar::End => return h,
+        }
+    }
+}
+
+// Whether no character is left in quotes.
+fn ends(src: &[u8], g: Signs, p: Spot) -> bool
+    requires { ⌜ (p .at ≤ length (now src)) × (p .mode ≡ quoted) ⌝ }
+    ensures { λ r. ⌜ r ≡ same [] (charsLeft g (now (src .entry)) p) ⌝ }
+{
+    let s = next_char(src, g, p);
+    match s {
+        NextChar::Char(_, _) => return false,
+        NextChar::End => return true,
+    }
+}
+
+// Whether two quotes have the same characters.
+fn same_chars(src: &[u8], g: Signs, p: Spot, q: Spot) -> bool
+    requires { ⌜ (p .at ≤ length (now src)) × (p .mode ≡ quoted) × (q .at ≤ length (now src)) × (q .mode ≡ quoted) ⌝ }
+    ensures { λ r. ⌜ r ≡ same (charsLeft g (now (src .entry)) p) (charsLeft g (now (src .entry)) q) ⌝ }
+{
+    let mut i = p;
+    let mut j = q;
+    loop {
+        let s = next_char(src, g, i);
+        match s {
+            NextChar::Char(a, k) => {
+                let t = next_char(src, g, j);
+                match t {
+                    NextChar::Char(b, l) => {
+                        if a == b {
+                            i = k;
+                            j = l;
+                        } else {
+                            return false;
+                        }
+                    }
+                    NextChar::End => return false,
+                }
+            }
+            NextChar::End => return ends(src, g, j),
+        }
+    }
+}
+
+// The number of a character.
+pub fn code_hash(c: u32) -> usize
+    ensures { λ r. ⌜ r ≡ hashKey (item (character c)) ⌝ }
+{
+    wide(c) % 16777216
+}
+
+// The number of what the name at a spot means.
+fn subject_hash(src: &[u8], g: Signs, p: Spot) -> usize
+    requires { ⌜ p .at ≤ length (now src) ⌝ }
+    ensures { λ r. ⌜ r ≡ hashSubject (subjectLeft g (now (src .entry)) p) ⌝ }
+{
+    let c = name_char(src, g, p);
+    match c {
+        Code::Char(x) => return wide(x) % 16777216,
+        Code::Other => return wide(name_hash(src, g, p)),
+    }
+}
+
+// The number of what stands at a mark.
+pub fn key_hash(src: &[u8], g: Signs, v: usize) -> usize
+    requires { ⌜ v / 2 ≤ length (now src) ⌝ }
+    ensures { λ r. ⌜ r ≡ hashKey (keyAt g (now (src .entry)) v) ⌝ }
+{
+    if v % 2 == 0 {
+        return subject_hash(src, g, name_spot(v));
+    }
+    chars_hash(src, g, quote_spot(v))
+}
+
+// Whether the names at two spots mean the same.
+pub fn same_subject(src: &[u8], g: Signs, p: Spot, q: Spot) -> bool
+    requires { ⌜ (p .at ≤ length (now src)) × (q .at ≤ length (now src)) ⌝ }
+    ensures { λ r. ⌜ r ≡ sameSubject (subjectLeft g (now (src .entry)) p) (subjectLeft g (now (src .entry)) q) ⌝ }
+{
+    let c = name_char(src, g, p);
+    let d = name_char(src, g, q);
+    match c {
+        Code::Char(x) => match d {
+            Code::Char(y) => return x == y,
+            Code::Other => return false,
+        },
+        Code::Other => match d {
+            Code::Char(_) => return false,
+            Code::Other => return same_name(src, g, p, q),
+        },
+    }
+}
+
+// Whether the same stands at two marks.
+pub fn same_key(src: &[u8], g: Signs, v: usize, w: usize) -> bool
+    requires { ⌜ (v / 2 ≤ length (now src)) × (w / 2 ≤ length (now src)) ⌝ }
+    ensures { λ r. ⌜ r ≡ sameKey (keyAt g (now (src .entry)) v) (keyAt g (now (src .entry)) w) ⌝ }
+{
+    if v % 2 == 0 {
+        if w % 2 == 0 {
+            return same_subject(src, g, name_spot(v), name_spot(w));
+        }
+        return false;
+    }
+    if w % 2 == 0 {
+        return false;
+    }
+    same_chars(src, g, quote_spot(v), quote_spot(w))
+}
+
+// Whether the name at a spot is the character with a code.
+fn means_code(src: &[u8], g: Signs, p: Spot, c: u32) -> bool
+    requires { ⌜ p .at ≤ length (now src) ⌝ }
+    ensures { λ r. ⌜ r ≡ sameSubject (subjectLeft g (now (src .entry)) p) (character c) ⌝ }
+{
+    let d = name_char(src, g, p);
+    match d {
+        Code::Char(x) => return x == c,
+        Code::Other => return false,
+    }
+}
+
+// Whether the character with a code stands at a mark.
+pub fn has_code(src: &[u8], g: Signs, v: usize, c: u32) -> bool
+    requires { ⌜ v / 2 ≤ length (now src) ⌝ }
+    ensures { λ r. ⌜ r ≡ sameKey (keyAt g (now (src .entry)) v) (item (character c)) ⌝ }
+{
+    if v % 2 == 0 {
+        return means_code(src, g, name_spot(v), c);
+    }
+    false
+}

@@ -1,0 +1,5 @@
+pub mod LateLaws
+pub mod HeadLaws
+pub mod NewLaws
+pub mod SymbolLaws
+pub mod PaperLaws

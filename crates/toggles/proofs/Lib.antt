@@ -1,0 +1,5 @@
+pub mod WordLaws
+pub mod AreaLaws
+pub mod FindLaws
+pub mod TurnLaws
+pub mod RefusalLaws

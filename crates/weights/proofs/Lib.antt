@@ -1,0 +1,6 @@
+pub mod LateLaws
+pub mod MadeLaws
+pub mod SplitLaws
+pub mod NextLaws
+pub mod ByLaws
+pub mod WeightLaws

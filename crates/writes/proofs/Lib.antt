@@ -1,0 +1,4 @@
+pub mod StoreLaws
+pub mod PartLaws
+pub mod LineLaws
+pub mod ItemLaws

@@ -1,0 +1,67 @@
+-- `writes::write_item` meets its contract: the characters, two numbers more, and the counts make up the record; the weights stand behind.
+use Rattle.ranks.proofs.MeasureLaws.{row-inside, row-line}
+use Rattle.writes.proofs.ItemLaws.{item-chars, item-start, item-place, item-room, item-put, item-same}
+use borrow.Author.Needs.{needs}
+use Rattle.writes.proofs.write_item.Statement.{statement}
+use Rattle.writes.proofs.write_item.Tie as tie
+
+told-requires : tie.Need-told-requires
+told-requires c κs = search (needs, row-inside)
+
+wide-requires : tie.Need-wide-requires
+wide-requires c κs = search needs
+
+told-requires-2 : tie.Need-told-requires-2
+told-requires-2 c κs = search (needs, row-inside)
+
+write-chars-requires : tie.Need-write-chars-requires
+write-chars-requires c κs = search (needs, item-chars)
+
+add-area : tie.Need-add-area
+add-area c = search needs
+
+mul-area : tie.Need-mul-area
+mul-area c = search needs
+
+slice-write-area : tie.Need-slice-write-area
+slice-write-area c = search (needs, item-start)
+
+add-area-2 : tie.Need-add-area-2
+add-area-2 c = search needs
+
+mul-area-2 : tie.Need-mul-area-2
+mul-area-2 c = search needs
+
+slice-write-area-2 : tie.Need-slice-write-area-2
+slice-write-area-2 c = search (needs, item-place)
+
+add-write-line : tie.Need-add-write-line
+add-write-line c = search needs
+
+write-line-requires : tie.Need-write-line-requires
+write-line-requires c κs = (search row-line, (search needs, search item-room))
+
+same-length : tie.Need-same-length
+same-length c = search (needs, item-same)
+
+returns : tie.Need-returns
+returns c = search item-put
+
+pub write-item-spec : {M : Type 1} → statement M
+write-item-spec =
+    tie.close
+    (tie.spec
+    told-requires
+    wide-requires
+    told-requires-2
+    write-chars-requires
+    add-area
+    mul-area
+    slice-write-area
+    add-area-2
+    mul-area-2
+    slice-write-area-2
+    add-write-line
+    write-line-requires
+    same-length
+    returns)

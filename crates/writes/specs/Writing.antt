@@ -1,0 +1,107 @@
+-- What stands in a table's area after one item was written.
+use mathlib.Core.Path.{_≡_}
+use mathlib.Core.List.{List, [], _∷_, map, flatten}
+use Prim.Native.Nat.{ℕ, _+_, _*_, _/_, _≤_, _<_}
+use lib.ListN.{length, getD, set, drop}
+use lib.Seq.{sets}
+use lib.Dec.{eqb, leb}
+use Rattle.rules.specs.Text.{if_then_else_}
+use Rattle.rules.specs.Lines.{quoted}
+use Rattle.rules.specs.Meaning.{countAll}
+use Rattle.rules.specs.Table.{pad, padded, counts}
+use Rattle.rules.specs.State.{Subject}
+use Rattle.lines.specs.declared.Signs.{Signs}
+use Rattle.lines.specs.declared.Spot.{Spot}
+use Rattle.lines.specs.Stream.{marksLeft}
+use Rattle.tokens.specs.Left.{namesIn}
+use Rattle.names.specs.Named.{nameLeft}
+use Rattle.rows.specs.Cells.{cell}
+use Rattle.listed.specs.Listed.{charsNumber}
+use Rattle.subjects.specs.Keys.{nameSpot, quoteSpot, charOf, charsLeft, keyAt}
+use Rattle.store.specs.Store.{Decl, headsOf, Roomy, Holds}
+use Rattle.ranks.specs.declared.Part.{Part}
+use Rattle.ranks.specs.declared.Part.the-variants as part
+use Rattle.ranks.specs.Ranks.{rankIn}
+use Rattle.ranks.specs.Reading.{partRanks, ranksAt, itemRanks}
+use Rattle.writes.specs.declared.Coded.{Coded}
+
+-- These numbers stand in the area from a place on, nothing else in it is changed, and `next` is the place behind them.
+pub record Puts (area : List ℕ) (at : ℕ) (xs : List ℕ) (after : List ℕ) (next : ℕ) : Type 0 where
+  pub is : after ≡ sets area at xs
+  pub to : next ≡ at + length xs
+
+-- ## Weights
+
+-- The ranks that `ranks` gives stand in the area.
+pub record RanksPut (g : Signs) (src w : List ℕ) (ranks : (Subject → ℕ) → List ℕ) (area : List ℕ) (at : ℕ) (after : List ℕ) (next : ℕ) : Type 0 where
+  pub puts : (n : ℕ) (ds : List Decl) → Holds (keyAt g src) (length src) w n ds → Puts area at (ranks (rankIn w ds)) after next
+
+-- how many names are still to come in quotes
+unfoldable pub quoteSize : Signs → List ℕ → Spot → ℕ
+quoteSize g src p = length (namesIn (marksLeft g src p))
+
+-- how many weights an operand gives
+unfoldable pub partSize : Signs → List ℕ → Part → ℕ
+partSize g src part.Own = 1
+partSize g src part.None = 0
+partSize g src (part.One p) = 1
+partSize g src (part.Quotes p) = quoteSize g src p
+
+-- The weights of an operand stand in the area from a place on, and how many they are at another.
+pub record LevelPut (g : Signs) (src w : List ℕ) (own : ℕ) (x : Part) (area : List ℕ) (slot at : ℕ) (after : List ℕ) (next : ℕ) : Type 0 where
+  pub is : (n : ℕ) (ds : List Decl) → Holds (keyAt g src) (length src) w n ds
+      → after ≡ set (sets area at (partRanks g src own x (rankIn w ds))) slot (length (partRanks g src own x (rankIn w ds)))
+  pub to : next ≡ at + partSize g src x
+
+-- The area has place for a line's counts, and behind them for its weights, which are equally many whatever their ranks are.
+pub record LineRoom (g : Signs) (src : List ℕ) (place levels own : ℕ) (area : List ℕ) (counts at : ℕ) : Type 0 where
+  pub before : counts + levels ≤ at
+  pub by : Subject → ℕ
+  pub room : at + countAll (ranksAt g src place levels own by) ≤ length area
+
+-- The counts of a line's weights stand in the area, and the weights.
+pub record LinePut (g : Signs) (src w : List ℕ) (place levels own : ℕ) (area : List ℕ) (counts at : ℕ) (after : List ℕ) (next : ℕ) : Type 0 where
+  pub is : (n : ℕ) (ds : List Decl) → Holds (keyAt g src) (length src) w n ds
+      → after ≡ sets (sets area counts (map length (ranksAt g src place levels own (rankIn w ds)))) at (flatten (ranksAt g src place levels own (rankIn w ds)))
+  pub to : (n : ℕ) (ds : List Decl) → Holds (keyAt g src) (length src) w n ds → next ≡ at + countAll (ranksAt g src place levels own (rankIn w ds))
+
+-- ## Characters
+
+-- the mark of UNDEFINED, whose row is behind the others; marks from it on stand for no place of the source
+abbrev pub undefinedMark : ℕ → ℕ
+undefinedMark len = 16 * headsOf len
+
+-- the characters of the item whose order line is at a mark: an element's stand in quotes
+unfoldable pub itemChars : Signs → List ℕ → List ℕ → ℕ → List ℕ
+itemChars g src w mark =
+    if leb (undefinedMark (length src)) mark then []
+    else if eqb (cell w mark charsNumber) 0 then charOf (nameLeft g src (nameSpot (mark / 2))) ∷ []
+    else charsLeft g src (quoteSpot (cell w mark charsNumber / 2))
+
+-- What the mark and its row name stands in the source.
+pub record CharsReady (len : ℕ) (w : List ℕ) (mark : ℕ) : Type 0 where
+  pub roomy : Roomy len w
+  pub name : mark < undefinedMark len → mark / 2 ≤ len
+  pub quotes : mark < undefinedMark len → cell w mark charsNumber / 2 ≤ len
+
+-- The first of the characters still to come in quotes, or padding, and the spot before the others.
+pub record CodeIs (g : Signs) (src : List ℕ) (p : Spot) (r : Coded) : Type 0 where
+  pub code : r .code ≡ getD (charsLeft g src p) 0 pad
+  pub rest : charsLeft g src (r .next) ≡ drop 1 (charsLeft g src p)
+  pub mode : r .next .mode ≡ quoted
+  pub to : r .next .at ≤ length src
+
+-- ## The whole item
+
+-- The area has place for its record, and behind that for its weights, which are equally many whatever their ranks are.
+pub record ItemRoom (g : Signs) (src w : List ℕ) (mark levels : ℕ) (area : List ℕ) (from at : ℕ) : Type 0 where
+  pub before : from + 6 + levels ≤ at
+  pub by : Subject → ℕ
+  pub room : at + countAll (itemRanks g src w mark levels by) ≤ length area
+
+-- Its record stands in the area, and its weights; `start` is where those start among all.
+pub record ItemPut (g : Signs) (src w : List ℕ) (mark levels start : ℕ) (area : List ℕ) (from at : ℕ) (after : List ℕ) (next : ℕ) : Type 0 where
+  pub is : (n : ℕ) (ds : List Decl) → Holds (keyAt g src) (length src) w n ds
+      → after ≡ sets (sets area from (padded (itemChars g src w mark) (start ∷ 0 ∷ counts (itemRanks g src w mark levels (rankIn w ds))))) at
+      (flatten (itemRanks g src w mark levels (rankIn w ds)))
+  pub to : (n : ℕ) (ds : List Decl) → Holds (keyAt g src) (length src) w n ds → next ≡ at + countAll (itemRanks g src w mark levels (rankIn w ds))

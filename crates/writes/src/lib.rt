@@ -1,0 +1,255 @@
+// One item of a table, written from its order line: its characters, the counts of its weights, and the weights, read again from the source.
+ghost use mathlib.Core.Path.{_≡_};
+ghost use mathlib.Core.List.{[], _∷_};
+ghost use Prim.Native.Nat.{_+_, _*_, _/_, _≤_, _<_};
+ghost use lib.ListN.{length};
+ghost use lib.Seq.{sets};
+ghost use Rattle.rules.specs.Lines.{quoted};
+ghost use Rattle.rules.specs.Table.{padded};
+ghost use Rattle.subjects.specs.Keys.{charsLeft, keyAt};
+ghost use Rattle.store.specs.Store.{Sound};
+ghost use Rattle.ranks.specs.Reading.{quoteRanks, InQuotes, partRanks, PartFits, Readable, RowReady};
+ghost use Rattle.writes.specs.Writing.{Puts, RanksPut, quoteSize, partSize, LevelPut, LineRoom, LinePut, CodeIs, itemChars, CharsReady, ItemRoom, ItemPut};
+use lines::Signs;
+use lines::Spot;
+use ranks::NextRank;
+use ranks::Part;
+use ranks::first_part;
+use ranks::next_part;
+use ranks::next_rank;
+use ranks::rank_at;
+use rows::told;
+use subjects::NextChar;
+use subjects::char_at;
+use subjects::next_char;
+use units::Rank;
+
+// The next of an item's characters, 110000 hex where none is left, and the spot after it.
+struct Coded {
+    code: u32,
+    next: Spot,
+}
+
+// A weight; the place behind it.
+fn put_rank(area: &mut [u32], at: usize, r: Rank) -> usize
+    requires { ⌜ at < length (now area) ⌝ }
+    ensures { λ r′. ⌜ Puts (now (area .entry)) at (r .0 ∷ []) (now (area .exit)) r′ ⌝ }
+{
+    area[at] = r.0;
+    at + 1
+}
+
+// The ranks of the names in quotes; the place behind them.
+fn write_quotes(src: &[u8], g: Signs, work: &[u32], p: Spot, area: &mut [u32], at: usize) -> usize
+    requires { ⌜ InQuotes g (now src) p ⌝ }
+    requires { ⌜ Sound (keyAt g (now src)) (length (now src)) (now work) ⌝ }
+    requires { ⌜ at + quoteSize g (now src) p ≤ length (now area) ⌝ }
+    ensures { λ r. ⌜ RanksPut g (now (src .entry)) (now (work .entry)) (quoteRanks g (now (src .entry)) p) (now (area .entry)) at (now (area .exit)) r ⌝ }
+{
+    let mut q = p;
+    let mut next = at;
+    loop {
+        let s = next_rank(src, g, work, q);
+        match s {
+            NextRank::One(r, e) => {
+                next = put_rank(area, next, r);
+                q = e;
+            }
+            NextRank::End => return next,
+        }
+    }
+}
+
+// The weights of one operand; the place behind them.
+fn write_part(
+    src: &[u8],
+    g: Signs,
+    work: &[u32],
+    part: Part,
+    own: Rank,
+    area: &mut [u32],
+    at: usize,
+) -> usize
+    requires { ⌜ PartFits g (now src) part ⌝ }
+    requires { ⌜ Sound (keyAt g (now src)) (length (now src)) (now work) ⌝ }
+    requires { ⌜ at + partSize g (now src) part ≤ length (now area) ⌝ }
+    ensures { λ r. ⌜ RanksPut g (now (src .entry)) (now (work .entry)) (partRanks g (now (src .entry)) (own .0) part) (now (area .entry)) at (now (area .exit)) r ⌝ }
+{
+    match part {
+        Part::Own => return put_rank(area, at, own),
+        Part::None => return at,
+        Part::One(p) => {
+            let r = rank_at(src, g, work, p);
+            return put_rank(area, at, r);
+        }
+        Part::Quotes(p) => return write_quotes(src, g, work, p, area, at),
+    }
+}
+
+fn narrow(n: usize) -> u32
+    requires { ⌜ n < 4294967296 ⌝ }
+    ensures { λ r. ⌜ r ≡ n ⌝ }
+{
+    n as u32
+}
+
+// The weights of one operand, and how many they are at a place of its own; the place behind the weights.
+fn write_level(
+    src: &[u8],
+    g: Signs,
+    work: &[u32],
+    part: Part,
+    own: Rank,
+    area: &mut [u32],
+    slot: usize,
+    at: usize,
+) -> usize
+    requires { ⌜ PartFits g (now src) part ⌝ }
+    requires { ⌜ Sound (keyAt g (now src)) (length (now src)) (now work) ⌝ }
+    requires { ⌜ (slot < length (now area)) × (at + partSize g (now src) part ≤ length (now area)) ⌝ }
+    ensures { λ r. ⌜ LevelPut g (now (src .entry)) (now (work .entry)) (own .0) part (now (area .entry)) slot at (now (area .exit)) r ⌝ }
+{
+    let end = write_part(src, g, work, part, own, area, at);
+    area[slot] = narrow(end - at);
+    end
+}
+
+// The weights of an order line, from the place after its subject on, with their counts at places of their own, level by level; own is the
+// line's own rank. The place behind the weights.
+pub fn write_line(
+    src: &[u8],
+    g: Signs,
+    work: &[u32],
+    place: usize,
+    levels: usize,
+    own: Rank,
+    area: &mut [u32],
+    counts: usize,
+    at: usize,
+) -> usize
+    requires { ⌜ Readable g (now src) place levels ⌝ }
+    requires { ⌜ Sound (keyAt g (now src)) (length (now src)) (now work) ⌝ }
+    requires { ⌜ LineRoom g (now src) place levels (own .0) (now area) counts at ⌝ }
+    ensures { λ r. ⌜ LinePut g (now (src .entry)) (now (work .entry)) place levels (own .0) (now (area .entry)) counts at (now (area .exit)) r ⌝ }
+{
+    let mut c = first_part(src, g, place);
+    let mut left = levels;
+    let mut slot = counts;
+    let mut next = at;
+    while 0 < left {
+        let t = next_part(src, g, c);
+        let part = t.part;
+        let after = t.next;
+        next = write_level(src, g, work, part, own, area, slot, next);
+        slot += 1;
+        left -= 1;
+        c = after;
+    }
+    next
+}
+
+// The next of an item's characters, from a spot in the quotes outside names.
+fn next_code(src: &[u8], g: Signs, p: Spot) -> Coded
+    requires { ⌜ (p .at ≤ length (now src)) × (p .mode ≡ quoted) ⌝ }
+    ensures { λ r. ⌜ CodeIs g (now (src .entry)) p r ⌝ }
+{
+    let s = next_char(src, g, p);
+    match s {
+        NextChar::Char(c, q) => {
+            return Coded { code: c, next: q };
+        }
+        NextChar::End => {
+            return Coded {
+                code: 0x110000,
+                next: p,
+            };
+        }
+    }
+}
+
+fn put_four(area: &mut [u32], at: usize, a: u32, b: u32, c: u32, d: u32)
+    requires { ⌜ at + 4 ≤ length (now area) ⌝ }
+    ensures { λ _. ⌜ now (area .exit) ≡ sets (now (area .entry)) at (a ∷ b ∷ c ∷ d ∷ []) ⌝ }
+{
+    area[at] = a;
+    area[at + 1] = b;
+    area[at + 2] = c;
+    area[at + 3] = d;
+}
+
+// The first four characters in quotes, filled up with 110000 hex.
+fn write_quoted(src: &[u8], g: Signs, p: Spot, area: &mut [u32], at: usize)
+    requires { ⌜ (p .at ≤ length (now src)) × (p .mode ≡ quoted) ⌝ }
+    requires { ⌜ at + 4 ≤ length (now area) ⌝ }
+    ensures { λ _. ⌜ now (area .exit) ≡ sets (now (area .entry)) at (padded (charsLeft g (now (src .entry)) p) []) ⌝ }
+{
+    let a = next_code(src, g, p);
+    let p1 = a.next;
+    let b = next_code(src, g, p1);
+    let p2 = b.next;
+    let c = next_code(src, g, p2);
+    let p3 = c.next;
+    let d = next_code(src, g, p3);
+    put_four(area, at, a.code, b.code, c.code, d.code);
+}
+
+fn wide(x: u32) -> usize
+    ensures { λ r. ⌜ r ≡ x ⌝ }
+{
+    x as usize
+}
+
+// The four numbers of an item's characters, of the order line of a mark.
+pub fn write_chars(src: &[u8], g: Signs, work: &[u32], mark: usize, area: &mut [u32], at: usize)
+    requires { ⌜ CharsReady (length (now src)) (now work) mark ⌝ }
+    requires { ⌜ at + 4 ≤ length (now area) ⌝ }
+    ensures { λ _. ⌜ now (area .exit) ≡ sets (now (area .entry)) at (padded (itemChars g (now (src .entry)) (now (work .entry)) mark) []) ⌝ }
+{
+    if mark >= 16 * (src.len() / 8 + 1) {
+        put_four(area, at, 0x110000, 0x110000, 0x110000, 0x110000);
+        return;
+    }
+    let q = wide(told(work, mark, 0));
+    if q == 0 {
+        let p = Spot {
+            at: mark / 2,
+            mode: 1,
+            fresh: false,
+        };
+        let c = char_at(src, g, p);
+        put_four(area, at, c, 0x110000, 0x110000, 0x110000);
+        return;
+    }
+    let p = Spot {
+        at: q / 2,
+        mode: 2,
+        fresh: false,
+    };
+    write_quoted(src, g, p, area, at);
+}
+
+// The record of an item, of the order line of a mark: its characters, where its weights start among all, a 0 for the place of the permutation,
+// and the counts; and its weights. The place behind those.
+pub fn write_item(
+    src: &[u8],
+    g: Signs,
+    work: &[u32],
+    mark: usize,
+    levels: usize,
+    start: u32,
+    area: &mut [u32],
+    from: usize,
+    at: usize,
+) -> usize
+    requires { ⌜ CharsReady (length (now src)) (now work) mark × RowReady g (now src) (now work) mark levels ⌝ }
+    requires { ⌜ Sound (keyAt g (now src)) (length (now src)) (now work) ⌝ }
+    requires { ⌜ ItemRoom g (now src) (now work) mark levels (now area) from at ⌝ }
+    ensures { λ r. ⌜ ItemPut g (now (src .entry)) (now (work .entry)) mark levels start (now (area .entry)) from at (now (area .exit)) r ⌝ }
+{
+    let place = wide(told(work, mark, 2));
+    let own = Rank(told(work, mark, 4));
+    write_chars(src, g, work, mark, area, from);
+    area[from + 4] = start;
+    area[from + 5] = 0;
+    write_line(src, g, work, place, levels, own, area, from + 6, at)
+}
