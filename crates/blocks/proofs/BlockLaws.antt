@@ -21,6 +21,7 @@ use Rattle.steps.specs.Steps.{LineAt}
 use Rattle.blocks.specs.declared.Chained.{Chained}
 use Rattle.blocks.specs.declared.Chained.the-variants as chained
 use Rattle.blocks.specs.Blocks.{SomeUsed, Starts, Reached, GoesOn, BranchRead, ClosedRead, RefusedRead, ChainBegins, ChainNext, ChainRefused, ChainedIs}
+use Rattle.blocks.proofs.CharsLaws.{chars-kept}
 
 -- ## One line of a run
 
@@ -52,7 +53,7 @@ going-start g src w sh at number depth o b = record {
   reached = record { from = omega arith; to = b .inside; few = b .few };
   long = refl;
   some = o;
-  runs = λ cs t h d u. record { after = t; run = refl; held = h };
+  runs = λ cs t h d u. record { after = t; run = refl; held = h; chars = refl };
 }
 
 module _ {g : Signs} {src w₀ : List ℕ} {sh : Sheet} {at number depth : ℕ} {w : List ℕ} {s : Sheet} {i n : ℕ} (v : Going g src w₀ sh at number depth w s i n) where
@@ -81,7 +82,12 @@ module _ {g : Signs} {src w₀ : List ℕ} {sh : Sheet} {at number depth : ℕ} 
           long = long ∙ v .long;
           some = some-next w′ x next (λ cs t o d u. let l = y .leaves cs t o d u in (l .after, l .held));
           runs = λ cs t o d u. let a = v .runs cs t o d u in let l = y .leaves cs (a .after) (a .held) d u in
-              record { after = l .after; run = a .run ∙ run-moved g src w s cs i n next k (a .after) (l .after) (a .held) m (l .outcome); held = l .held };
+              record {
+                after = l .after;
+                run = a .run ∙ run-moved g src w s cs i n next k (a .after) (l .after) (a .held) m (l .outcome);
+                held = l .held;
+                chars = chars-kept (a .after) (a .held .inside) n (marksLeft g src (lineStart i)) (l .after) (l .outcome) ∙ a .chars;
+              };
         }
 
     pub next-fits : {x : Sheet} {next k : ℕ} → t ≡ step.Next x next k → length src * 1 < 2 ^ 63 → n + k < 2 ^ 64
@@ -119,7 +125,7 @@ module _ {g : Signs} {src w₀ : List ℕ} {sh : Sheet} {at number depth : ℕ} 
           inside = h;
           own = y .line;
           runs = λ cs t o d u. let a = v .runs cs t o d u in
-              record { after = a .after; run = a .run; held = subst (λ (z : List ℕ). Open g src z s cs i (a .after)) (sym (y .same)) (a .held) };
+              record { after = a .after; run = a .run; held = subst (λ (z : List ℕ). Open g src z s cs i (a .after)) (sym (y .same)) (a .held); chars = a .chars };
         }
 
     pub going-closes : {next k : ℕ} → t ≡ step.Closes next k → ClosedRead g src w₀ sh at number depth w′ s next (n + k)
@@ -137,6 +143,7 @@ module _ {g : Signs} {src w₀ : List ℕ} {sh : Sheet} {at number depth : ℕ} 
                 place = i;
                 run = a .run ∙ run-moved g src w s cs i n next k (a .after) (toPhase (a .after) betweenCategories) (a .held) m (l .outcome);
                 held = subst (λ (z : List ℕ). Open g src z s cs i (a .after)) (sym (y .same)) (a .held);
+                chars = a .chars;
               };
         }
 
@@ -176,6 +183,7 @@ module _ {g : Signs} {src w₀ : List ℕ} {sh : Sheet} {at number depth : ℕ} 
                     after = h .after;
                     run = a .run ∙ run-moved g src w s cs i n next k (a .after) (l .after) (a .held) (opens .moves) (l .outcome) ∙ h .run;
                     held = h .held;
+                    chars = h .chars ∙ chars-kept (a .after) (a .held .inside) n (marksLeft g src (lineStart i)) (l .after) (l .outcome) ∙ a .chars;
                   };
             }
 

@@ -1,8 +1,8 @@
 -- The end of a branch of a chain: of one that is read, and of one that is passed over.
-use mathlib.Core.Path.{_≡_, _∙_, subst}
+use mathlib.Core.Path.{_≡_, refl, _∙_, subst}
 use mathlib.Core.Bool.{Bool, true, false, _||_}
 use mathlib.Core.List.{List, _∷_}
-use Prim.Native.Nat.{ℕ, _+_, _-_, _≤_, _<_}
+use Prim.Native.Nat.{ℕ, _+_, _≤_, _<_}
 use native.Mathlib.Omega.{arith}
 use lib.ListN.{length}
 use lib.Dec.{eqb}
@@ -97,6 +97,6 @@ module _ {g : Signs} {src w : List ℕ} {sh : Sheet} {at number depth : ℕ} {us
           reached = record { from = y .from; to = omega (arith, i); few = y .few };
           inside = y .inside;
           own = passed-turn (y .word);
-          runs = λ t k cs s o d. record { after = s; run = y .run s (unused at t k cs s u o d); held = open-on g src w sh (chain t used k ∷ cs) at s o h j f };
+          runs = λ t k cs s o d. record { after = s; run = y .run s (unused at t k cs s u o d); held = open-on g src w sh (chain t used k ∷ cs) at s o h j f; chars = refl };
           whole = λ t k cs s o d n. y .own s (unused j t k cs s u o d) n;
         }

@@ -8,6 +8,7 @@ use lib.ListN.{length}
 use Rattle.rules.specs.State.{Chain, State, Outcome}
 use Rattle.rules.specs.Conditionals.{chain}
 use Rattle.lines.specs.declared.Signs.{Signs}
+use Rattle.lines.specs.Stream.{lineStart, marksLeft}
 use Rattle.skips.proofs.LineRuns.{collate-signs, run-refuses, refuses-from}
 use Rattle.sheet.specs.declared.Sheet.{Sheet}
 use Rattle.sheet.specs.Sheets.{Open}
@@ -18,6 +19,7 @@ use Rattle.turning.specs.declared.Turn.the-variants as turn
 use Rattle.turning.specs.Turns.{MayTurn, GoesIs, EndsIs, TurnRefused, TurnIs}
 use Rattle.blocks.specs.Blocks.{Reached, GoesOn, EveryIn, InBranch, EndedAt, EndRefused, EndedIs, ChainBegins, ChainNext, ChainRefused}
 use Rattle.blocks.proofs.BlockLaws.{run-moved}
+use Rattle.blocks.proofs.CharsLaws.{chars-kept}
 
 -- From the first line of the chain the run has come to the first line of a branch.
 pub record Chaining (g : Signs) (src w₀ : List ℕ) (sh : Sheet) (at number depth : ℕ) (holds : Bool) (w : List ℕ) (s : Sheet) (i n : ℕ) (taken used closed : Bool) : Type 0 where
@@ -42,7 +44,7 @@ chaining-start g src w sh at number depth holds b = record {
   deep = b .deep;
   shallow = b .shallow;
   short = b .short;
-  runs = λ cs t o d. record { after = t; run = refl; held = o };
+  runs = λ cs t o d. record { after = t; run = refl; held = o; chars = refl };
 }
 
 module _ {g : Signs} {src w₀ : List ℕ} {sh : Sheet} {at number depth : ℕ} {holds : Bool} {w : List ℕ} {s : Sheet} {i n : ℕ} {taken used closed : Bool}
@@ -92,7 +94,7 @@ module _ {g : Signs} {src w₀ : List ℕ} {sh : Sheet} {at number depth : ℕ} 
       to-line cs t o d =
           let a = v .runs cs t o d in
           let b = there .runs taken closed cs (a .after) (a .held) d in
-          record { after = b .after; run = a .run ∙ b .run; held = b .held }
+          record { after = b .after; run = a .run ∙ b .run; held = b .held; chars = b .chars ∙ a .chars }
 
       module _ (w″ : List ℕ) (t : Turn) (z : TurnIs g src w′ x j m taken closed w″ t) where
         pub turn-refused : {r : ℕ} → t ≡ turn.Refused r → ChainRefused g src w₀ sh at number depth holds r m
@@ -122,6 +124,8 @@ module _ {g : Signs} {src w₀ : List ℕ} {sh : Sheet} {at number depth : ℕ} 
                     run = a .run ∙ run-moved g src w′ x (chain taken used closed ∷ cs) j m next k (a .after) (l .after) (a .held) c
                         (there .whole taken closed cs (a .after) (a .held) d m ∙ l .outcome);
                     held = l .held;
+                    chars = chars-kept (a .after) (a .held .inside) m (marksLeft g src (lineStart j)) (l .after)
+                        (there .whole taken closed cs (a .after) (a .held) d m ∙ l .outcome) ∙ a .chars;
                   };
             }
 
@@ -156,6 +160,8 @@ module _ {g : Signs} {src w₀ : List ℕ} {sh : Sheet} {at number depth : ℕ} 
                       run = a .run ∙ run-moved g src w′ x (chain taken used closed ∷ cs) j m next k (a .after) (l .after) (a .held) c
                           (there .whole taken closed cs (a .after) (a .held) d m ∙ l .outcome);
                       held = l .held;
+                      chars = chars-kept (a .after) (a .held .inside) m (marksLeft g src (lineStart j)) (l .after)
+                          (there .whole taken closed cs (a .after) (a .held) d m ∙ l .outcome) ∙ a .chars;
                     };
               }
 

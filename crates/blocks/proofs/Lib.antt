@@ -1,3 +1,4 @@
+pub mod CharsLaws
 pub mod BlockLaws
 pub mod BranchLaws
 pub mod ChainLaws

@@ -5,7 +5,6 @@ use mathlib.Core.List.{List, _∷_}
 use Prim.Native.Nat.{ℕ, _+_, _≤_, _<_}
 use lib.ListN.{length, drop}
 use lib.Dec.{eqb}
-use Rattle.rules.specs.Text.{is}
 use Rattle.rules.specs.State.{beforeOrder, betweenCategories, Chain, State, toPhase}
 use Rattle.rules.specs.Conditionals.{chain}
 use Rattle.rules.specs.Source.{wholeLine, lineOutcome, linesFrom}
@@ -33,11 +32,12 @@ pub record Reached (src : List ℕ) (at next n : ℕ) : Type 0 where
   pub to : next ≤ length src
   pub few : n ≤ next + 1
 
--- The run of the paper goes on there, with the state that is held.
+-- The run of the paper goes on there, with the state that is held; the two characters stay.
 pub record GoesOn (g : Signs) (src : List ℕ) (at number : ℕ) (s : State) (w′ : List ℕ) (sh′ : Sheet) (cs′ : List Chain) (next n : ℕ) : Type 0 where
   pub after : State
   pub run : linesFrom s number 0 (drop at src) ≡ linesFrom after n 0 (drop next src)
   pub held : Open g src w′ sh′ cs′ next after
+  pub chars : after .chars ≡ s .chars
 
 -- The same behind END LC_COLLATE, which stands at some place.
 pub record GoesOut (g : Signs) (src : List ℕ) (at number : ℕ) (s : State) (w′ : List ℕ) (sh′ : Sheet) (cs′ : List Chain) (next n : ℕ) : Type 0 where
@@ -45,6 +45,7 @@ pub record GoesOut (g : Signs) (src : List ℕ) (at number : ℕ) (s : State) (w
   pub place : ℕ
   pub run : linesFrom s number 0 (drop at src) ≡ linesFrom (toPhase after betweenCategories) n 0 (drop next src)
   pub held : Open g src w′ sh′ cs′ place after
+  pub chars : after .chars ≡ s .chars
 
 -- Some state is held, with so many chains open and the present branch used.
 pub record SomeUsed (g : Signs) (src w : List ℕ) (sh : Sheet) (at depth : ℕ) : Type 0 where

@@ -1,13 +1,12 @@
 -- Lines that are no entries: whether a token is left, whether the line is END CHARMAP, and what the line does.
 use mathlib.Core.Path.{_≡_, refl, sym, ap, _∙_, subst}
-use mathlib.Core.Bool.{Bool, true, false, not, _&&_, and-false, and-assoc}
+use mathlib.Core.Bool.{Bool, true, false, _&&_, and-false, and-assoc}
 use mathlib.Core.List.{List, [], _∷_}
 use Prim.Native.Nat.{ℕ, suc, _≤_, _<_}
 use native.Mathlib.Omega.{arith}
 use lib.ListN.{length, drop}
 use lib.Dec.{eqb, leb}
 use borrow.Author.Tests.{leb-true}
-use Rattle.lists.proofs.Bools.{by}
 use Rattle.rules.specs.Text.{bytes, every, same, is, _unless_, lower}
 use Rattle.rules.specs.Names.{isBlank}
 use Rattle.rules.specs.Tokens.{isText, gap, broken, word, Token, token, tokenAt, single, noPart, tokensFrom, tokensOf, withoutGaps, withoutOpeningGaps, operands, tokensRefusal, isEntry}

@@ -4,7 +4,6 @@ use mathlib.Core.Bool.{Bool, true, false}
 use mathlib.Core.List.{List, []}
 use Prim.Native.Nat.{ℕ, _+_, _≤_, _<_}
 use lib.ListN.{length, drop}
-use Rattle.rules.specs.Text.{every}
 use Rattle.rules.specs.Lines as paper
 use Rattle.rules.specs.Lines.{Scan, lineOf}
 use Rattle.rules.specs.Charmap.{Given, Mapping, MapOutcome, leaves, bodyLine, mapSigns}

@@ -4,7 +4,6 @@ ghost use mathlib.Core.Bool.{false, _&&_};
 ghost use Prim.Native.Nat.{_≤_, _<_};
 ghost use lib.ListN.{length};
 ghost use lib.Dec.{eqb, ltb};
-ghost use Rattle.rules.specs.Text.{lower};
 ghost use Rattle.rules.specs.Lines.{outside};
 ghost use Rattle.rules.specs.Tokens.{withoutGaps, tokensOf, isEntry};
 ghost use Rattle.lines.specs.Stream.{marksLeft, lineStart};
@@ -22,12 +21,13 @@ use giving::give_range;
 use lines::Signs;
 use lines::Spot;
 use lines::Step;
-use lines::line_end;
 use lines::next_mark;
 use names::Code;
 use names::name_char;
+use reader::line_at;
 use tokens::Next;
 use tokens::end_of_word;
+use tokens::lower_of;
 use tokens::next_token;
 use tokens::skip_gaps;
 use tokens::word_is;
@@ -63,22 +63,6 @@ pub enum PlainLine {
 pub enum BodyLine {
     Line(bool, usize, usize),
     Refused(u8),
-}
-
-// The lower of two refusals, 0 being none.
-fn lower_of(a: u8, b: u8) -> u8
-    ensures { λ r. ⌜ r ≡ lower a b ⌝ }
-{
-    if a == 0 {
-        return b;
-    }
-    if b == 0 {
-        return a;
-    }
-    if a < b {
-        return a;
-    }
-    b
 }
 
 // The code of a name that is a character's.
@@ -295,7 +279,7 @@ pub fn plain_line(src: &[u8], g: Signs, at: usize) -> PlainLine
         mode: 0,
         fresh: true,
     };
-    let e = line_end(src, g, p);
+    let e = line_at(src, g, at);
     let k = line_kind(src, g, p);
     match k {
         Kind::Blank => return PlainLine::Blank(e.next, e.feeds),

@@ -20,15 +20,15 @@ use Rattle.lines.specs.declared.Signs.{Signs}
 use Rattle.lines.specs.declared.Spot.{Spot}
 use Rattle.lines.specs.Stream.{marksLeft}
 use Rattle.tokens.specs.Left.{namesIn}
-use Rattle.tokens.proofs.RefusalLaws.{refusal-later}
+use Rattle.tokens.proofs.RefusalLaws.{Late, late-lowest, late-unless, refusal-later}
 use Rattle.operands.specs.Operand.{operandsLeft}
 use Rattle.names.specs.Named.{nameLeft}
 use Rattle.subjects.specs.Keys.{item, chars, keyAt}
-use Rattle.store.specs.Store.{Decl, Sound}
+use Rattle.store.specs.Store.{Decl, knownIn, Sound}
 use Rattle.symbols.specs.declared.Head.{Head}
 use Rattle.symbols.specs.declared.Head.the-variants as head
-use Rattle.symbols.specs.Symbols.{knownIn, isNewIn, operandsAfter, Unfit, Gives, NameFirst, HeadIs}
-use Rattle.symbols.proofs.LateLaws.{Late, late-lowest, late-unless, unfit-three, unfit-other}
+use Rattle.symbols.specs.Symbols.{isNewIn, operandsAfter, Unfit, Gives, NameFirst, HeadIs}
+use Rattle.symbols.proofs.LateLaws.{unfit-three, unfit-other}
 use Rattle.symbols.proofs.NewLaws.{new-shape, key-named}
 use Rattle.symbols.proofs.SymbolLaws.{name-some, head-within, head-inside}
 use Rattle.compounds.specs.declared.Tail.{Tail}

@@ -20,8 +20,8 @@ use Rattle.subjects.proofs.CharsLaws.{charsOf-names}
 use Rattle.subjects.proofs.SpotLaws.{keyAt-quoted}
 use Rattle.store.specs.declared.Found.{Found}
 use Rattle.store.specs.declared.Found.the-variants.{At, Nothing}
-use Rattle.store.specs.Store.{Decl, Holds, Finds}
-use Rattle.symbols.specs.Symbols.{isFound, knownIn, isNewIn, NewIs}
+use Rattle.store.specs.Store.{Decl, isFound, knownIn, Holds, Finds}
+use Rattle.symbols.specs.Symbols.{isNewIn, NewIs}
 use Rattle.symbols.proofs.NewLaws.{known-is}
 use Rattle.compounds.specs.Compounds.{elementFault, FaultIs}
 

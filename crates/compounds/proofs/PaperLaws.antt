@@ -1,23 +1,22 @@
 -- For callers: the line's refusal is the paper's, where what is declared in the area is what the paper has declared
 -- (Rattle.symbols.proofs.PaperLaws).
-use mathlib.Core.Path.{_≡_, refl, sym, ap, _∙_}
+use mathlib.Core.Path.{_≡_, refl}
 use mathlib.Core.Logic.{inr}
 use mathlib.Core.Bool.{true, false, not, _&&_}
 use mathlib.Core.List.{List, [], _∷_, map}
-use Prim.Native.Nat.{ℕ}
 use native.Mathlib.Omega.{arith}
 use lib.ListN.{length}
 use Rattle.rules.specs.Text.{within, every, oneOf, _unless_, lower, lowest}
 use Rattle.rules.specs.Names.{codeOf, isCharName}
 use Rattle.rules.specs.Tokens.{Token, tokenAt, theName, tokensRefusal}
-use Rattle.rules.specs.State.{beforeOrder, element, State, withDeclared, inPhase, gives}
+use Rattle.rules.specs.State.{beforeOrder, State, inPhase}
 use Rattle.rules.specs.Declarations.{declaresChars, isNew, elementLine}
-use Rattle.rules.proofs.TextLaws.{lower-none}
+use Rattle.tokens.proofs.RefusalLaws.{late-lowest, late-unless}
 use Rattle.store.specs.Store.{Decl}
 use Rattle.symbols.specs.Symbols.{Alike}
-use Rattle.symbols.proofs.LateLaws.{late-lowest, late-unless, unfit-three}
+use Rattle.symbols.proofs.LateLaws.{unfit-three}
 use Rattle.symbols.proofs.PaperLaws.{new-paper}
-use Rattle.compounds.specs.Compounds.{elementRefusal, charsIn}
+use Rattle.compounds.specs.Compounds.{elementRefusal}
 
 module _ (s : State) (os : List Token) where
   -- before order_start
@@ -39,11 +38,3 @@ module _ (s : State) (os : List Token) where
       (unfit-three os false (lowest (5 unless a ∷ 6 unless b ∷ 7 unless c ∷ []))
       (late-lowest (5 unless a ∷ 6 unless b ∷ 7 unless c ∷ []) (late-unless 5 a (omega arith), (late-unless 6 b (omega arith), (late-unless 7 c (omega arith), tt))))
       (inr refl))
-
-  -- a line that is not refused
-  pub element-accepted : (ds : List Decl) → Alike ds (s .declared) → inPhase beforeOrder s ≡ true → elementRefusal ds os ≡ 0
-      → (tokensRefusal os ≡ 0) × (elementLine s os ≡ gives 0 (withDeclared s (element (theName (tokenAt os 0)) (charsIn os) ∷ s .declared)))
-  unfolding elementLine
-  element-accepted ds h p e =
-      let z = lower-none (tokensRefusal os) (elementLine s os .refusal) (sym (element-paper ds h p) ∙ e) in
-      (z .0, ap (λ (r : ℕ). gives r (withDeclared s (element (theName (tokenAt os 0)) (charsIn os) ∷ s .declared))) (z .1))

@@ -20,9 +20,9 @@ use Rattle.operands.specs.Operand.{operandsLeft}
 use Rattle.names.specs.Named.{nameLeft}
 use Rattle.rows.specs.Cells.{cell}
 use Rattle.subjects.specs.Keys.{Key, chars, keyAt}
-use Rattle.store.specs.Store.{Decl, fresh, headsOf, Holds}
+use Rattle.store.specs.Store.{Decl, knownIn, fresh, headsOf, Holds}
 use Rattle.listed.specs.Listed.{charsNumber}
-use Rattle.symbols.specs.Symbols.{knownIn, isNewIn, operandsAfter, Unfit, Gives, Reaches, NameMark}
+use Rattle.symbols.specs.Symbols.{isNewIn, operandsAfter, Unfit, Gives, Reaches, NameMark}
 use Rattle.compounds.specs.declared.Tail.{Tail}
 use Rattle.compounds.specs.declared.Tail.the-variants as tail
 use Rattle.compounds.specs.declared.Element.{Element}

@@ -21,7 +21,7 @@ use Rattle.lines.specs.declared.Spot.{Spot}
 use Rattle.lines.specs.declared.LineEnd.{LineEnd}
 use Rattle.tokens.specs.Left.{tokensLeft}
 use Rattle.subjects.specs.Keys.{Key, item, chars, keyAt, sameKey}
-use Rattle.store.specs.Store.{Decl, first, isPlace, fresh, Holds, Sound}
+use Rattle.store.specs.Store.{Decl, first, knownIn, isPlace, fresh, Holds, Sound}
 use Rattle.store.specs.declared.Found.the-variants.{Nothing}
 use Rattle.store.proofs.ListLaws.{first-fresh-other, isPlace-older, place-new}
 use Rattle.rows.specs.Cells.{cell}
@@ -30,7 +30,7 @@ use Rattle.listed.specs.Listed.{charsNumber}
 use Rattle.known.specs.Known.{declaredAt, Says, elements, another, Known}
 use Rattle.known.proofs.GrownLaws.{known-grown}
 use Rattle.known.proofs.NewLaws.{says-on}
-use Rattle.symbols.specs.Symbols.{knownIn, isNewIn}
+use Rattle.symbols.specs.Symbols.{isNewIn}
 use Rattle.compounds.specs.declared.Element.{Element}
 use Rattle.compounds.specs.declared.Element.the-variants as answer
 use Rattle.compounds.specs.Compounds.{elementRefusal, charsIn, DeclaresBoth, ElementAt, ElementNot, ElementIs}

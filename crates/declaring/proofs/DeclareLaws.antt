@@ -1,6 +1,6 @@
 -- collating-symbol: what it does before the order, and its refusal; and what both lines that declare share.
 use mathlib.Core.Path.{_≡_, refl, sym, ap, _∙_, subst}
-use mathlib.Core.Bool.{true, false, not, or-true, false≢true}
+use mathlib.Core.Bool.{true, false, or-true, false≢true}
 use mathlib.Core.List.{List, [], _∷_}
 use Prim.Native.Nat.{ℕ, _+_, _/_, _≤_, _<_}
 use Prim.Native.String.{String}
@@ -22,14 +22,14 @@ use Rattle.lines.specs.declared.LineEnd.{LineEnd}
 use Rattle.tokens.specs.Left.{tokensLeft}
 use Rattle.opening.proofs.OpenLaws.{left-some}
 use Rattle.subjects.specs.Keys.{Key, item, chars, keyAt}
-use Rattle.store.specs.Store.{Decl, first, Holds, Sound, Declares}
+use Rattle.store.specs.Store.{Decl, first, isFound, knownIn, Holds, Sound, Declares}
 use Rattle.store.specs.declared.Found.{Found}
 use Rattle.store.specs.declared.Found.the-variants.{At, Nothing}
 use Rattle.known.specs.Known.{declaredAt, Says, none, symbols, elements, characters}
 use Rattle.known.proofs.NewLaws.{known-symbol-new}
 use Rattle.symbols.specs.declared.Symbol.{Symbol}
 use Rattle.symbols.specs.declared.Symbol.the-variants as answer
-use Rattle.symbols.specs.Symbols.{isFound, knownIn, isNewIn, Alike, symbolRefusal, Reaches, SymbolAt, SymbolNot, SymbolIs}
+use Rattle.symbols.specs.Symbols.{isNewIn, Alike, symbolRefusal, Reaches, SymbolAt, SymbolNot, SymbolIs}
 use Rattle.symbols.proofs.PaperLaws.{alike-none, alike-symbol, alike-element, alike-character, symbol-paper, symbol-misplaced}
 use Rattle.keywords.proofs.KeywordLaws.{at-symbol}
 use Rattle.sheet.specs.declared.Sheet.{Sheet}
@@ -47,7 +47,7 @@ pub says-alike : {w : List ℕ} {ds : List Decl} {cs : List Declaration} → Say
 says-alike none = alike-none
 says-alike (symbols {n = n} {v = v} z s) = alike-symbol (declaredAt (item (named n)) v) (says-alike s) refl
 says-alike (elements {n = n} {xs = xs} {v = v} {q = q} z l s) = alike-element (declaredAt (item (named n)) v) (says-alike s) (declaredAt (chars xs) q) refl refl
-says-alike (characters {c = c} {v = v} s) = alike-character (declaredAt (item (character c)) v) (says-alike s) refl
+says-alike (characters {c = c} {v = v} z s) = alike-character (declaredAt (item (character c)) v) (says-alike s) refl
 
 not-found : (f : Found) → isFound f ≡ false → f ≡ Nothing
 not-found (At v) e = absurd (false≢true (sym e))

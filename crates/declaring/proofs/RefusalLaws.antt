@@ -21,8 +21,8 @@ use Rattle.tokens.proofs.RefusalLaws.{lower-none-left}
 use Rattle.levels.specs.Levels.{startRefusal}
 use Rattle.opening.proofs.OpenLaws.{with-late}
 use Rattle.subjects.specs.Keys.{chars}
-use Rattle.store.specs.Store.{Decl}
-use Rattle.symbols.specs.Symbols.{knownIn, isNewIn, symbolRefusal}
+use Rattle.store.specs.Store.{Decl, knownIn}
+use Rattle.symbols.specs.Symbols.{isNewIn, symbolRefusal}
 use Rattle.compounds.specs.Compounds.{elementRefusal}
 
 -- ## None, or 3 to 7

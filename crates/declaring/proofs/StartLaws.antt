@@ -19,24 +19,17 @@ use Rattle.tokens.specs.Left.{tokensLeft}
 use Rattle.keywords.proofs.KeywordLaws.{at-order-start}
 use Rattle.levels.specs.declared.Levels.{Levels}
 use Rattle.levels.specs.declared.Levels.the-variants as levels
-use Rattle.levels.specs.Levels.{LevelsAre, LevelsRefused, LevelsIs}
+use Rattle.levels.specs.Levels.{startRefusal, LevelsAre, LevelsRefused, LevelsIs}
 use Rattle.levels.proofs.LevelLaws.{start-line, start-elsewhere, start-state}
 use Rattle.known.specs.Known.{behind}
 use Rattle.sheet.specs.declared.Sheet.{Sheet}
 use Rattle.sheet.specs.declared.Step.the-variants.{Next, Refused}
 use Rattle.sheet.specs.Sheets.{rulesAt}
+use Rattle.sheet.proofs.SheetLaws.{spot-behind}
 use Rattle.sheet.proofs.OrderLaws.{open-ordered}
 use Rattle.declaring.specs.Worded.{Opened, Still}
 use Rattle.declaring.proofs.RefusalLaws.{Fair, bounded, bounded-three, fair-start}
 use Rattle.declaring.proofs.OpenedLaws.{line-moves, line-accepted, line-refused, line-foul}
-
--- a spot of its parts
-abbrev spotOf : ℕ → ℕ → Bool → Spot
-spotOf at mode fresh = record { at = at; mode = mode; fresh = fresh }
-
--- the spot after a word
-pub spot-behind : (p : Spot) → p .mode ≡ outside → p .fresh ≡ false → p ≡ behind (p .at)
-spot-behind p m f = ap (λ (x : ℕ). spotOf (p .at) x (p .fresh)) m ∙ ap (λ (x : Bool). spotOf (p .at) outside x) f
 
 module _ {g : Signs} {src : List ℕ} {at : ℕ} {p : Spot} {e : LineEnd} (l : Opened g src at p e "order_start") where
   abbrev left : List Token
@@ -50,6 +43,10 @@ module _ {g : Signs} {src : List ℕ} {at : ℕ} {p : Spot} {e : LineEnd} (l : O
   rules-there : map ruleOf (ruleCodes left) ≡ rulesAt g src (p .at)
   unfolding rulesAt
   rules-there = ap (λ (q : Spot). map ruleOf (ruleCodes (operands (tokensLeft g src q)))) (spot-behind p (l .first .plain) (l .first .edge))
+
+  -- and accepted again
+  started-there : startRefusal left ≡ 0 → startRefusal (operands (tokensLeft g src (behind (p .at)))) ≡ 0
+  started-there a = subst (λ (q : Spot). startRefusal (operands (tokensLeft g src q)) ≡ 0) (spot-behind p (l .first .plain) (l .first .edge)) a
 
   -- the line is longer than a row
   longer : e .next < length src → at + 12 ≤ e .next
@@ -105,7 +102,7 @@ module _ {g : Signs} {src : List ℕ} {at : ℕ} {p : Spot} {e : LineEnd} (l : O
                     after = withOrdered (toPhase s inOrder) (record { rules = map ruleOf (ruleCodes left); lines = [] });
                     outcome = line-accepted l w sh number o u x (fine s number (o .phase))
                         (ap (λ (r : Outcome). r .state) (at-order-start s number (bytes "order_start") left refl) ∙ start-state s left);
-                    held = open-ordered g src w sh cs at s o (l .first .inside) (e .next) (p .at) n (map ruleOf (ruleCodes left)) f rules-there (l .first .to)
+                    held = open-ordered g src w sh cs at s o (l .first .inside) (e .next) (p .at) n (map ruleOf (ruleCodes left)) f rules-there (started-there (are .accepted)) (l .first .to)
                         (length-map (ruleCodes left) ruleOf ∙ sym (are .many)) longer;
                   };
                 };

@@ -6,7 +6,7 @@ use mathlib.Core.List.{List}
 use Prim.Native.Nat.{ℕ}
 use Prim.Native.String.{String}
 use Rattle.rules.specs.Text.{bytes, is}
-use Rattle.rules.specs.Tokens.{word, Token, tokenAt, single, operands, tokensRefusal}
+use Rattle.rules.specs.Tokens.{word, Token, tokenAt, single, tokensRefusal}
 use Rattle.lines.specs.declared.Signs.{Signs}
 use Rattle.lines.specs.declared.Spot.{Spot}
 use Rattle.lines.specs.declared.LineEnd.{LineEnd}

@@ -8,7 +8,7 @@ use lib.ListN.{length}
 use borrow.Author.Tests.{ne-eqb}
 use Rattle.lists.proofs.Bools.{by, and-intro}
 use Rattle.rules.specs.Text.{every}
-use Rattle.rules.specs.Names.{isBlank, isAnyHex, digit, hexValue}
+use Rattle.rules.specs.Names.{isBlank, isAnyHex, hexValue}
 use Rattle.rules.specs.Tokens.{gap, broken, Token, token, tokenAt, noPart, tokensFrom, withoutBlanks, withoutOpeningGaps}
 use Rattle.rules.specs.Lines.{outside, after}
 use Rattle.lines.specs.declared.Signs.{Signs}

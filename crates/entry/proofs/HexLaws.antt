@@ -3,7 +3,6 @@ use mathlib.Core.Path.{_≡_}
 use Prim.Native.Nat.{ℕ, _-_, _≤_, _<_}
 use native.Mathlib.Omega.{arith}
 use borrow.Author.Tests.{le-leb, lt-leb}
-use Rattle.lists.proofs.Bools.{by}
 use Rattle.entry.specs.Entered.{hexOf}
 
 module _ (m : ℕ) where

@@ -1,8 +1,8 @@
 -- Escape `x` and two hex digits as marks, and what their tokens are.
 use mathlib.Core.Path.{_≡_, refl, ap, _∙_}
-use mathlib.Core.Bool.{true, false, not, and-false}
+use mathlib.Core.Bool.{true, false, and-false}
 use mathlib.Core.List.{List, [], _∷_}
-use Prim.Native.Nat.{ℕ, _-_, _≤_, _<_}
+use Prim.Native.Nat.{ℕ, _≤_, _<_}
 use native.Mathlib.Omega.{arith}
 use lib.ListN.{length}
 use lib.Dec.{eqb}
@@ -10,7 +10,7 @@ use borrow.Author.Tests.{ne-eqb, le-leb, lt-leb, eqb-true}
 use Rattle.lists.proofs.Bools.{by, clash, and-left, and-right, and-intro}
 use Rattle.rules.specs.Text.{every, same, within}
 use Rattle.rules.specs.Names.{isBlank, isAnyHex, digit}
-use Rattle.rules.specs.Tokens.{gap, broken, word, Token, token, tokenAt, noPart, inWord, tokensFrom}
+use Rattle.rules.specs.Tokens.{broken, word, Token, token, tokenAt, noPart, inWord, tokensFrom}
 use Rattle.rules.proofs.TextLaws.{every-head, every-tail, within-low, within-high}
 use Rattle.tokens.specs.Left.{wordIn, afterWord}
 use Rattle.tokens.proofs.TokenLaws.{tokensFrom-none, first-dead, first-word, word-whole}

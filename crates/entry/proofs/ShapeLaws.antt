@@ -9,7 +9,7 @@ use borrow.Author.Tests.{ne-eqb, eqb-true}
 use Rattle.lists.proofs.Bools.{by, clash, and-left, and-right, and-intro}
 use Rattle.rules.specs.Text.{every, same}
 use Rattle.rules.specs.Names.{isAnyHex}
-use Rattle.rules.specs.Tokens.{gap, broken, word, name, Token, token, tokenAt, withoutOpeningGaps, isByte, isRange, isEntry}
+use Rattle.rules.specs.Tokens.{gap, broken, word, name, Token, tokenAt, withoutOpeningGaps, isByte, isRange, isEntry}
 use Rattle.rules.proofs.TextLaws.{every-head, every-tail}
 use Rattle.entry.specs.Entered.{byteBy, entryBy, isEscaped, isDigits, opensPair, opensEntry}
 

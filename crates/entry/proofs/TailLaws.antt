@@ -2,7 +2,7 @@
 use mathlib.Core.Path.{_≡_, refl, sym, ap, _∙_}
 use mathlib.Core.Bool.{Bool, true, false}
 use mathlib.Core.List.{List, [], _∷_}
-use Prim.Native.Nat.{ℕ, suc, _+_, _-_, _≤_, _<_}
+use Prim.Native.Nat.{ℕ, suc, _+_, _≤_, _<_}
 use native.Mathlib.Nat.{add-zero}
 use native.Mathlib.Numerals.{add-one}
 use native.Mathlib.Omega.{arith}
@@ -16,7 +16,7 @@ use Rattle.rules.specs.Lines.{outside, after, Scan, dropped, takesAsIs, opensCo
 use Rattle.lines.specs.declared.Signs.{Signs}
 use Rattle.lines.specs.Stream.{plainSigns, stateIn, lineLeft, marksLeft}
 use Rattle.lines.proofs.LineLaws.{onto, lineFrom-onto, lineFrom-rest, plain-as-is, line-step, blank-escaped}
-use Rattle.entry.specs.Entered.{bodySigns, plainAt, stops, Passed, Closing, Glued}
+use Rattle.entry.specs.Entered.{bodySigns, plainAt, Passed, Closing, Glued}
 use Rattle.entry.proofs.BodyLaws.{body-as-is}
 
 -- ## What a line reads in plain mode right after a mark that is no blank

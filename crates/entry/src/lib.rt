@@ -1,7 +1,7 @@
 // A line between CHARMAP and END CHARMAP, from its first place on: whether it is an entry, and its parts.
 ghost use mathlib.Core.Path.{_≡_};
 ghost use mathlib.Core.Bool.{_&&_};
-ghost use Rattle.rules.specs.Text.{every, lower};
+ghost use Rattle.rules.specs.Text.{every};
 ghost use Rattle.rules.specs.Tokens.{isText};
 ghost use Prim.Native.Nat.{_≤_};
 ghost use lib.ListN.{length};
@@ -18,6 +18,7 @@ use lines::next_mark;
 use tokens::Closing;
 use tokens::NameStep;
 use tokens::end_of_name;
+use tokens::lower_of;
 use tokens::name_byte;
 use tokens::skip_gaps;
 
@@ -74,22 +75,6 @@ pub struct Head {
 pub enum Heads {
     Found(Head),
     No,
-}
-
-// The lower of two refusals, 0 being none.
-fn lower_of(a: u8, b: u8) -> u8
-    ensures { λ r. ⌜ r ≡ lower a b ⌝ }
-{
-    if a == 0 {
-        return b;
-    }
-    if b == 0 {
-        return a;
-    }
-    if a < b {
-        return a;
-    }
-    b
 }
 
 // A hex digit's value, 16 for a mark that is none.

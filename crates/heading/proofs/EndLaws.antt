@@ -62,13 +62,13 @@ two e = record { refusal = e; some = λ z. omega arith }
 
 -- ## A plain line
 
--- the line's end, whatever its two characters and its first spot are called
-line-here : {src : List ℕ} {f g : Signs} {p q : Spot} {e : LineEnd} → g ≡ f → p ≡ q → LineIs g src p e → LineIs f src q e
-line-here {src} {f} {g} {p} {q} {e} a b w = subst (λ (x : Spot). LineIs f src x e) b (subst (λ (x : Signs). LineIs x src p e) a w)
+-- the line's end, whatever its two characters are called
+line-here : {src : List ℕ} {f g : Signs} {p : Spot} {e : LineEnd} → g ≡ f → LineIs g src p e → LineIs f src p e
+line-here {src} {f} {g} {p} {e} a w = subst (λ (x : Signs). LineIs x src p e) a w
 
 module _ {src : List ℕ} {h : Chars} {at : ℕ} (v : Plain src h at) where
-  plain-start : {p : Spot} → p ≡ lineStart at → p .at ≤ length src
-  plain-start e = let i = v .inside in rw e (omega arith)
+  plain-start : at ≤ length src
+  plain-start = let i = v .inside in omega arith
 
   -- what it leaves is what its plain marks leave
   plain-outcome : outcomeAt src h at ≡ headerLine (headWith h false) (plainMarksAt src h at)
@@ -91,22 +91,22 @@ module _ {src : List ℕ} {h : Chars} {at : ℕ} (v : Plain src h at) where
 -- ### Passed over
 
 module _ {src : List ℕ} {h : Chars} {at : ℕ} (v : PassedOver src h at) where
-  pub passed-start : {p : Spot} → p ≡ lineStart at → p .at ≤ length src
-  passed-start e = plain-start (v .plain) e
+  pub passed-start : at ≤ length src
+  passed-start = plain-start (v .plain)
 
-  pub passed-line : {g : Signs} {p : Spot} {e : LineEnd} → g ≡ signsOf h → p ≡ lineStart at → LineIs g src p e → Leaves src h at h false (e .next) (e .feeds)
-  passed-line a b w = plain-leaves (v .plain) (line-here a b w) (v .outcome)
+  pub passed-line : {g : Signs} {e : LineEnd} → g ≡ signsOf h → LineIs g src (lineStart at) e → Leaves src h at h false (e .next) (e .feeds)
+  passed-line a w = plain-leaves (v .plain) (line-here a w) (v .outcome)
 
 -- ### Malformed
 
 module _ {src : List ℕ} {h : Chars} {at : ℕ} (v : Malformed src h at) where
-  pub malformed-start : {p : Spot} → p ≡ lineStart at → p .at ≤ length src
-  malformed-start e = plain-start (v .plain) e
+  pub malformed-start : at ≤ length src
+  malformed-start = plain-start (v .plain)
 
-  module _ {g : Signs} {p : Spot} {e : LineEnd} (a : g ≡ signsOf h) (b : p ≡ lineStart at) (w : LineIs g src p e) where
+  module _ {g : Signs} {e : LineEnd} (a : g ≡ signsOf h) (w : LineIs g src (lineStart at) e) where
     refused : {t : Bool} → e .text ≡ t → outcomeAt src h at .refusal ≡ lower (2 unless t) 3
     refused k =
-        ap (λ (x : MapOutcome). x .refusal) (plain-outcome (v .plain)) ∙ v .refusal ∙ ap (λ (x : Bool). lower (2 unless x) 3) (line-here a b w .text ∙ k)
+        ap (λ (x : MapOutcome). x .refusal) (plain-outcome (v .plain)) ∙ v .refusal ∙ ap (λ (x : Bool). lower (2 unless x) 3) (line-here a w .text ∙ k)
 
     pub malformed-form : e .text ≡ true → Stops src h at 3
     malformed-form k = three (refused k ∙ none-first 3)
@@ -117,18 +117,18 @@ module _ {src : List ℕ} {h : Chars} {at : ℕ} (v : Malformed src h at) where
 -- ### CHARMAP
 
 module _ {src : List ℕ} {h : Chars} {at : ℕ} {q : Spot} (v : Opening src h at q) where
-  pub opening-start : {p : Spot} → p ≡ lineStart at → p .at ≤ length src
-  opening-start e = plain-start (v .plain) e
+  pub opening-start : at ≤ length src
+  opening-start = plain-start (v .plain)
 
   tokens : tokensOf (plainMarksAt src h at) ≡ tokensLeft (signsOf h) src q
   tokens = tokensOf-left (v .skips)
 
-  module _ {g : Signs} {p : Spot} {e : LineEnd} (a : g ≡ signsOf h) (b : p ≡ lineStart at) (w : LineIs g src p e) where
+  module _ {g : Signs} {e : LineEnd} (a : g ≡ signsOf h) (w : LineIs g src (lineStart at) e) where
     word-outcome : {t u : Bool} → e .text ≡ t → isOpening (tokensLeft (signsOf h) src q) ≡ u
         → headerLine (headWith h false) (plainMarksAt src h at) ≡ leaves (lower (2 unless t) (3 unless u)) (headWith h true)
     word-outcome k o =
         outcome-word (headWith h false) (plainMarksAt src h at) (λ z. v .some (sym (ap (λ (ts : List Token). length ts) tokens) ∙ z)) (v .no-name)
-        ∙ rw (tokens, o, line-here a b w .text, k)
+        ∙ rw (tokens, o, line-here a w .text, k)
 
     pub opening-bytes : e .text ≡ false → Stops src h at 2
     opening-bytes k =
@@ -142,7 +142,7 @@ module _ {src : List ℕ} {h : Chars} {at : ℕ} {q : Spot} (v : Opening src h a
       opening-form i = three (ap (λ (x : MapOutcome). x .refusal) (plain-outcome (v .plain) ∙ word-outcome k (opens ∙ i)) ∙ none-first 3)
 
       pub opening-good : u ≡ true → Leaves src h at h true (e .next) (e .feeds)
-      opening-good i = plain-leaves (v .plain) (line-here a b w) (word-outcome k (opens ∙ i) ∙ ap (λ (r : ℕ). leaves r (headWith h true)) (none-first 0))
+      opening-good i = plain-leaves (v .plain) (line-here a w) (word-outcome k (opens ∙ i) ∙ ap (λ (r : ℕ). leaves r (headWith h true)) (none-first 0))
 
 -- ## A byte that is taken as it stands
 

@@ -1,6 +1,6 @@
 -- Header lines that begin with `<`: the name, the blank after it, and the byte after blanks.
 use mathlib.Core.Path.{_≡_, refl, sym, ap, _∙_, subst}
-use mathlib.Core.Bool.{Bool, true, false, not, _&&_, _||_, and-false, false≢true}
+use mathlib.Core.Bool.{Bool, true, false, _&&_, _||_, and-false, false≢true}
 use mathlib.Core.List.{List, [], _∷_, _++_, append-assoc, append-nil, append-cancel-right}
 use Prim.Native.Nat.{ℕ, _+_, _-_, _%_, _≤_, _<_, _^_}
 use native.Mathlib.Omega.{arith}
@@ -338,8 +338,8 @@ module _ {src : List ℕ} {h : Chars} {at : ℕ} {x : Spot} {comment : Bool} (v 
   pub opened-to : x .at ≤ length src
   opened-to = v .to
 
-  pub opened-start : {p : Spot} → p ≡ lineStart at → p .at ≤ length src
-  opened-start e = let i = v .inside in rw e (omega arith)
+  pub opened-start : at ≤ length src
+  opened-start = let i = v .inside in omega arith
 
   reached : Reached (headerSigns (signsOf h)) (signsOf h) src at (v .marks ++ v .last ∷ []) x
   reached =
@@ -355,9 +355,9 @@ module _ {src : List ℕ} {h : Chars} {at : ℕ} {x : Spot} {comment : Bool} (v 
         fresh = v .fresh;
       }
 
-  pub opened-less : {f g : Signs} {p : Spot} {a d : LineEnd} → f ≡ signsOf h → p ≡ lineStart at → LineIs f src p a → g ≡ signsOf h → LineIs g src x d → d .feeds ≤ a .feeds
-  opened-less {p = p} {a} {d} i j w k l =
-      reached-less reached (subst (λ (y : Spot). LineIs (signsOf h) src y a) j (subst (λ (y : Signs). LineIs y src p a) i w)) (subst (λ (y : Signs). LineIs y src x d) k l)
+  pub opened-less : {f g : Signs} {a d : LineEnd} → f ≡ signsOf h → LineIs f src (lineStart at) a → g ≡ signsOf h → LineIs g src x d → d .feeds ≤ a .feeds
+  opened-less {a = a} {d} i w k l =
+      reached-less reached (subst (λ (y : Signs). LineIs y src (lineStart at) a) i w) (subst (λ (y : Signs). LineIs y src x d) k l)
 
   module _ {f : Found} (w : FoundIs src (x .at) f) where
     pub opened-nothing : f ≡ found.Nothing → Malformed src h at
@@ -388,13 +388,13 @@ module _ {src : List ℕ} {h : Chars} {at : ℕ} {x : Spot} {comment : Bool} (v 
       unfolding takesAsIs
       takes f z = rw (there .solid, named-here)
 
-      pub opened-byte : {f g : Signs} {p : Spot} {a d : LineEnd} → f ≡ signsOf h → p ≡ lineStart at → LineIs f src p a → g ≡ signsOf h → LineIs g src x d
+      pub opened-byte : {f g : Signs} {a d : LineEnd} → f ≡ signsOf h → LineIs f src (lineStart at) a → g ≡ signsOf h → LineIs g src x d
           → SetBy src h at comment b (a .feeds - d .feeds) (record { at = i + 1; mode = 0; fresh = false })
-      opened-byte {p = p} {a} {d} j k l m n =
+      opened-byte {a = a} {d} j l m n =
           let g = signsOf h in
           let bs = there .before .blanks in
           let past = sign-past g ((v .marks ++ v .last ∷ []) ++ bs) (256 + b) named-here (blank-escaped (256 + b) (omega arith)) in
-          let t = reached-byte reached there takes past (subst (λ (y : Spot). LineIs g src y a) k (subst (λ (y : Signs). LineIs y src p a) j l)) (subst (λ (y : Signs). LineIs y src x d) m n) in
+          let t = reached-byte reached there takes past (subst (λ (y : Signs). LineIs y src (lineStart at) a) j l) (subst (λ (y : Signs). LineIs y src x d) m n) in
           record {
             visible = v .visible;
             marks = v .marks;

@@ -1,12 +1,11 @@
 -- What a header line leaves (Rattle.rules.specs.Charmap), by its tokens.
 use mathlib.Core.Path.{_≡_, sym, ap, _∙_}
-use mathlib.Core.Bool.{Bool, true, false, not, _&&_}
+use mathlib.Core.Bool.{Bool, true, false, _&&_}
 use mathlib.Core.List.{List, [], _∷_, _++_, append-assoc, append-nil}
 use Prim.Native.Nat.{ℕ, _+_, _-_, _<_}
 use native.Mathlib.Omega.{arith}
 use lib.ListN.{length}
 use borrow.Author.Tests.{ne-eqb}
-use Rattle.lists.proofs.Bools.{by}
 use Rattle.rules.specs.Text.{bytes, every, is, same, _unless_, lower}
 use Rattle.rules.specs.Names.{isBlank}
 use Rattle.rules.specs.Tokens as kind
@@ -18,7 +17,6 @@ use Rattle.rules.proofs.TextLaws.{every-head, every-tail, every-append, every-b
 use Rattle.tokens.proofs.TokenLaws.{first-gap, first-as-is, tokensFrom-none}
 use Rattle.taken.specs.Signed.{keyword}
 use Rattle.taken.proofs.LineTokenLaws.{gaps, blank-text}
-use Rattle.signs.specs.Force.{operand}
 use Rattle.heading.specs.Head.{isOpening, Named}
 use Rattle.heading.proofs.FirstLaws.{first-token, some}
 

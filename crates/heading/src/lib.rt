@@ -18,6 +18,7 @@ use lines::is_text;
 use lines::line_end;
 use lines::next_mark;
 use names::name_is;
+use reader::line_at;
 use signs::Chars;
 use signs::may_set;
 use signs::with_set;
@@ -94,7 +95,7 @@ fn passed_over(src: &[u8], h: Chars, at: usize) -> Heading
     requires { ⌜ PassedOver (now src) h at ⌝ }
     ensures { λ r. ⌜ HeadingIs (now (src .entry)) h at r ⌝ }
 {
-    let e = line_end(src, signs_of(h), start_of(at));
+    let e = line_at(src, signs_of(h), at);
     Heading::Line(h, false, e.next, e.feeds)
 }
 
@@ -103,7 +104,7 @@ fn malformed(src: &[u8], h: Chars, at: usize) -> Heading
     requires { ⌜ Malformed (now src) h at ⌝ }
     ensures { λ r. ⌜ HeadingIs (now (src .entry)) h at r ⌝ }
 {
-    let e = line_end(src, signs_of(h), start_of(at));
+    let e = line_at(src, signs_of(h), at);
     if e.text {
         return Heading::Refused(3);
     }
@@ -115,7 +116,7 @@ fn opening_line(src: &[u8], h: Chars, at: usize, q: Spot) -> Heading
     requires { ⌜ Opening (now src) h at q ⌝ }
     ensures { λ r. ⌜ HeadingIs (now (src .entry)) h at r ⌝ }
 {
-    let e = line_end(src, signs_of(h), start_of(at));
+    let e = line_at(src, signs_of(h), at);
     if e.text {
         if is_opening(src, signs_of(h), q) {
             return Heading::Line(h, true, e.next, e.feeds);
@@ -162,7 +163,7 @@ fn byte_line(src: &[u8], h: Chars, at: usize, x: Spot, comment: bool) -> Heading
     match f {
         Found::Nothing => return malformed(src, h, at),
         Found::Byte(b, i) => {
-            let a = line_end(src, signs_of(h), start_of(at));
+            let a = line_at(src, signs_of(h), at);
             let d = line_end(src, signs_of(h), x);
             let rest = Spot {
                 at: i + 1,

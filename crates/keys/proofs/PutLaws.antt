@@ -1,11 +1,12 @@
 -- Bytes stored in a room from a place on: the stores of put_two and put_three, and a list of bytes written part by part.
 use mathlib.Core.Path.{_≡_, refl, sym, ap, _∙_}
-use mathlib.Core.List.{List, [], _∷_, _++_}
-use Prim.Native.Nat.{ℕ, suc, _+_, _/_, _%_, _≤_}
+use mathlib.Core.List.{List, [], _++_}
+use Prim.Native.Nat.{ℕ, _+_, _/_, _%_, _≤_}
 use native.Mathlib.Numerals.{add-one, add-two}
 use native.Mathlib.Omega.{arith}
 use lib.ListN.{length, set, length-append}
 use lib.Seq.{sets, length-sets}
+use Rattle.lists.proofs.Lists.{sets-append}
 use Rattle.rules.specs.Order.{two, three}
 use Rattle.keys.specs.Writing.{Puts}
 
@@ -19,13 +20,6 @@ module _ (room : List ℕ) (at n : ℕ) where
   three-stored = record { is = rw (add-one at, add-two at); to = refl }
 
 -- ## Part by part
-
--- stored together, or one behind the other
-sets-append : (room : List ℕ) (at : ℕ) (a b : List ℕ) → sets room at (a ++ b) ≡ sets (sets room at a) (at + length a) b
-sets-append room at [] b = let e : at + 0 ≡ at = omega arith in rw e
-sets-append room at (x ∷ a) b =
-    let e : suc at + length a ≡ at + suc (length a) = omega arith in
-    sets-append (set room at x) (suc at) a b ∙ ap (λ (k : ℕ). sets (sets (set room at x) (suc at) a) k b) e
 
 -- one part behind the other
 pub puts-then : {room a first b second : List ℕ} {at next behind : ℕ} → Puts room at a first next → Puts first next b second behind

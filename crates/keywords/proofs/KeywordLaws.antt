@@ -6,10 +6,10 @@ use Prim.Native.Nat.{ℕ}
 use Prim.Native.String.{String}
 use Rattle.rules.specs.Text.{bytes, same, is}
 use Rattle.rules.specs.Tokens.{Token}
-use Rattle.rules.specs.State.{State, gives, undefined}
+use Rattle.rules.specs.State.{State, gives}
 use Rattle.rules.specs.Conditionals.{defineLine, ifLine, elifLine, elseLine, endifLine}
 use Rattle.rules.specs.Declarations.{symbolLine, elementLine}
-use Rattle.rules.specs.OrderLines.{orderStartLine, orderLine}
+use Rattle.rules.specs.OrderLines.{orderStartLine}
 use Rattle.rules.specs.Source.{orderEndLine, endLine, collateLine}
 use Rattle.keywords.specs.declared.Keyword.{Keyword}
 use Rattle.keywords.specs.declared.Keyword.the-variants as key
@@ -86,10 +86,6 @@ module _ (s : State) (number : ℕ) (w : List ℕ) (ts : List Token) where
   pub at-order-end : KeywordIs w key.OrderEnd → collateLine s number w ts ≡ orderEndLine s ts
   unfolding collateLine is same bytes
   at-order-end e = rw e
-
-  pub at-undefined : KeywordIs w key.Undefined → collateLine s number w ts ≡ orderLine s number undefined ts
-  unfolding collateLine is same bytes
-  at-undefined e = rw e
 
   pub at-end : KeywordIs w key.End → collateLine s number w ts ≡ endLine s ts
   unfolding collateLine is same bytes

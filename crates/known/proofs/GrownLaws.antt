@@ -10,18 +10,21 @@ use borrow.Author.Tests.{eqb-true}
 use Rattle.lists.proofs.Bools.{by}
 use Rattle.lists.proofs.Lists.{All}
 use Rattle.rules.specs.Text.{oneOf}
+use Rattle.rules.specs.Tokens.{operands}
 use Rattle.rules.specs.Meaning.{Rule}
 use Rattle.rules.specs.State.{Declaration, OrderLine}
 use Rattle.lines.specs.declared.Signs.{Signs}
+use Rattle.tokens.specs.Left.{tokensLeft}
 use Rattle.rows.specs.Cells.{cellAt, cell}
 use Rattle.subjects.specs.Keys.{keyAt}
-use Rattle.store.specs.Store.{Decl, first, isPlace, more, Roomy, Holds}
+use Rattle.store.specs.Store.{Decl, first, isPlace, Roomy, Holds, undefinedMark}
 use Rattle.store.proofs.AreaLaws.{zeros, holds-none}
 use Rattle.store.proofs.ListLaws.{isPlace-none, place-within}
 use Rattle.listed.specs.declared.Order.{Order}
 use Rattle.listed.specs.Listed.{charsNumber, lineNumber, placeNumber, nextNumber, rankNumber, Linked, ends, goes, Spread, lastOf}
 use Rattle.listed.proofs.ListLaws.{row-kept}
-use Rattle.known.specs.Known.{Says, none, Once, nothing, undefinedMark, lineAt, isRow, IsListed, Known}
+use Rattle.known.specs.Known.{Says, none, Once, nothing, behind, lineAt, isRow, Accepted, IsListed, Known}
+use Rattle.known.proofs.MarkLaws.{row-in}
 
 -- ## Before the first line
 
@@ -64,13 +67,6 @@ pub record KnownAs (g : Signs) (src w : List ℕ) (o : Order) (rs : List Rule) (
 module _ (g : Signs) (src w : List ℕ) (o : Order) (rs : List Rule) (n : ℕ) (cs : List Declaration) (ls : List OrderLine) (k : Known g src w o rs n cs ls)
     (w′ : List ℕ) (n′ : ℕ) (ds′ : List Decl) (cs′ : List Declaration) (h : Holds (keyAt g src) (length src) w′ n′ ds′) (s : Says w′ ds′ cs′) (c : Once ds′)
     (v : Grown (length src) w w′ n n′ (k .ds) ds′) where
-  -- a row stands in the source, or behind it
-  row-in : (u : ℕ) → isRow (length src) (k .ds) u ≡ true → u / 16 ≤ length src / 8 + 1
-  row-in u r =
-      by (isPlace u (k .ds))
-      (λ t. let i = place-within (k .holds) u t in omega (arith, i))
-      (λ t. let z = eqb-true u (undefinedMark (length src)) (rw t at r) in omega (arith, z))
-
   row-older : (u : ℕ) → isRow (length src) (k .ds) u ≡ true → isRow (length src) ds′ u ≡ true
   row-older u r =
       by (isPlace u (k .ds))
@@ -92,29 +88,32 @@ module _ (g : Signs) (src w : List ℕ) (o : Order) (rs : List Rule) (n : ℕ) (
       or-none true e = refl
       or-none false e = e
 
-  linked-grown : (p : ℕ) (us : List ℕ) → All (IsListed (length src) w (k .ds)) us → Linked w p us → Linked w′ p us
+  linked-grown : (p : ℕ) (us : List ℕ) → All (IsListed g src w (k .ds)) us → Linked w p us → Linked w′ p us
   linked-grown p [] a ends = ends
   linked-grown p (u ∷ us) a (goes r m) =
       goes (row-kept w w′ u (v .long) r)
-      (subst (λ (q : ℕ). Linked w′ q us) (sym (v .four u nextNumber (row-in u (a .0 .row)) (omega arith) (omega arith))) (linked-grown (cell w u nextNumber) us (a .1) m))
+      (subst (λ (q : ℕ). Linked w′ q us) (sym (v .four u nextNumber (row-in (k .holds) u (a .0 .row)) (omega arith) (omega arith))) (linked-grown (cell w u nextNumber) us (a .1) m))
 
-  lines-grown : (us : List ℕ) → All (IsListed (length src) w (k .ds)) us → map (lineAt g src rs w) us ≡ map (lineAt g src rs w′) us
+  lines-grown : (us : List ℕ) → All (IsListed g src w (k .ds)) us → map (lineAt g src rs w) us ≡ map (lineAt g src rs w′) us
   unfolding lineAt
   lines-grown [] a = refl
   lines-grown (u ∷ us) a =
-      let i = row-in u (a .0 .row) in
+      let i = row-in (k .holds) u (a .0 .row) in
       rw (v .four u lineNumber i (omega arith) (omega arith), v .four u placeNumber i (omega arith) (omega arith), lines-grown us (a .1))
 
-  listed-grown : (us : List ℕ) → All (IsListed (length src) w (k .ds)) us → All (IsListed (length src) w′ ds′) us
+  listed-grown : (us : List ℕ) → All (IsListed g src w (k .ds)) us → All (IsListed g src w′ ds′) us
   listed-grown [] a = tt
-  listed-grown (u ∷ us) a = (
-    record {
-      row = row-older u (a .0 .row);
-      even = a .0 .even;
-      some = let e = v .four u placeNumber (row-in u (a .0 .row)) (omega arith) (omega arith) in let l = a .0 .some in omega (arith, e, l);
-    },
-    listed-grown us (a .1),
-  )
+  listed-grown (u ∷ us) a =
+      let e = v .four u placeNumber (row-in (k .holds) u (a .0 .row)) (omega arith) (omega arith) in (
+        record {
+          row = row-older u (a .0 .row);
+          even = a .0 .even;
+          some = let l = a .0 .some in omega (arith, e, l);
+          within = let l = a .0 .within in omega (arith, e, l);
+          accepted = subst (λ (q : ℕ). Accepted (operands (tokensLeft g src (behind q)))) (sym e) (a .0 .accepted);
+        },
+        listed-grown us (a .1),
+      )
 
   pub known-as : KnownAs g src w′ o rs n′ cs′ ls ds′
   known-as = record {
@@ -129,17 +128,17 @@ module _ (g : Signs) (src w : List ℕ) (o : Order) (rs : List Rule) (n : ℕ) (
       are = k .are ∙ lines-grown (k .marks) (k .listed);
       listed = listed-grown (k .marks) (k .listed);
       all = λ u r l. row-newer u (oneOf (eqb u) (k .marks) ≡ true) r
-          (λ q. let e = v .four u placeNumber (row-in u q) (omega arith) (omega arith) in k .all u q (omega (arith, e, l)))
+          (λ q. let e = v .four u placeNumber (row-in (k .holds) u q) (omega arith) (omega arith) in k .all u q (omega (arith, e, l)))
           (λ a b. absurd (let e = v .four u placeNumber (omega (arith, b)) (omega arith) (omega arith) in let z = k .free u placeNumber a b (omega arith) in omega (arith, e, l, z)));
       free = λ u j a b i. let r = v .rows in
           by (eqb j 0)
           (λ t. subst (λ (x : ℕ). cell w′ u x ≡ 0) (sym (eqb-true j 0 t)) (v .rest u a b ∙ k .free u charsNumber (omega (arith, r, a)) b (omega arith)))
           (λ t. v .four u j (omega (arith, b)) (positive j t) i ∙ k .free u j (omega (arith, r, a)) b i);
       alone = λ u r z. row-newer u (cell w′ u nextNumber ≡ 0) r
-          (λ q. let i = row-in u q in v .four u nextNumber i (omega arith) (omega arith) ∙ k .alone u q (sym (v .four u placeNumber i (omega arith) (omega arith)) ∙ z))
+          (λ q. let i = row-in (k .holds) u q in v .four u nextNumber i (omega arith) (omega arith) ∙ k .alone u q (sym (v .four u placeNumber i (omega arith) (omega arith)) ∙ z))
           (λ a b. v .four u nextNumber (omega (arith, b)) (omega arith) (omega arith) ∙ k .free u nextNumber a b (omega arith));
       unranked = λ u r. row-newer u (cell w′ u rankNumber ≡ 0) r
-          (λ q. v .four u rankNumber (row-in u q) (omega arith) (omega arith) ∙ k .unranked u q)
+          (λ q. v .four u rankNumber (row-in (k .holds) u q) (omega arith) (omega arith) ∙ k .unranked u q)
           (λ a b. v .four u rankNumber (omega (arith, b)) (omega arith) (omega arith) ∙ k .free u rankNumber a b (omega arith));
     };
     same = refl;

@@ -4,3 +4,4 @@ pub mod RankLaws
 pub mod LineLaws
 pub mod GrownLaws
 pub mod NewLaws
+pub mod FewLaws

@@ -20,13 +20,13 @@ use Rattle.tokens.specs.Left.{tokensLeft}
 use Rattle.rows.specs.Cells.{cellAt, cell}
 use Rattle.rows.proofs.CellLaws.{Apart, cell-told, cell-other, cell-apart}
 use Rattle.subjects.specs.Keys.{keyAt}
-use Rattle.store.specs.Store.{Decl, isPlace, Holds}
+use Rattle.store.specs.Store.{Decl, isPlace, Holds, undefinedMark}
 use Rattle.store.proofs.AreaLaws.{holds-told}
 use Rattle.store.proofs.ListLaws.{place-below}
 use Rattle.listed.specs.declared.Order.{Order}
 use Rattle.listed.specs.Listed.{charsNumber, lineNumber, placeNumber, nextNumber, rankNumber, Row, lastOf, linkedTo, withLine, longer}
 use Rattle.listed.proofs.ListLaws.{lines-more, link-length}
-use Rattle.known.specs.Known.{Says, none, symbols, elements, characters, undefinedMark, behind, subjectAt, lineAt, isRow, IsListed, Known}
+use Rattle.known.specs.Known.{Says, none, symbols, elements, characters, behind, subjectAt, lineAt, isRow, Accepted, IsListed, Known}
 use Rattle.known.proofs.MarkLaws.{rows-apart}
 
 -- ## What a line more leaves of the area
@@ -92,7 +92,7 @@ pub says-kept : (w w′ : List ℕ) (ds : List Decl) (cs : List Declaration) →
 says-kept w w′ ds cs e none = none
 says-kept w w′ ds cs e (symbols {v = v} {ds = es} {cs = fs} z s) = symbols (e v ∙ z) (says-kept w w′ es fs e s)
 says-kept w w′ ds cs e (elements {v = v} {ds = es} {cs = fs} z l s) = elements (e v ∙ z) l (says-kept w w′ es fs e s)
-says-kept w w′ ds cs e (characters {ds = es} {cs = fs} s) = characters (says-kept w w′ es fs e s)
+says-kept w w′ ds cs e (characters {v = v} {ds = es} {cs = fs} z s) = characters (e v ∙ z) (says-kept w w′ es fs e s)
 
 -- the last of a list has what all of it have
 pub last-has : (P : ℕ → Type 0) (vs : List ℕ) → All P vs → (lastOf vs ≡ 0 → ⊥) → P (lastOf vs)
@@ -117,8 +117,14 @@ pub record Unlisted (len : ℕ) (w : List ℕ) (ds : List Decl) (v : ℕ) : Type
   pub even : v % 2 ≡ 0
   pub none : cell w v placeNumber ≡ 0
 
+-- A place right after the subject of an order line that was accepted.
+pub record Follows (g : Signs) (src : List ℕ) (place : ℕ) : Type 0 where
+  pub some : 1 ≤ place
+  pub within : place ≤ length src
+  pub accepted : Accepted (operands (tokensLeft g src (behind place)))
+
 module _ (g : Signs) (src w : List ℕ) (o : Order) (rs : List Rule) (n : ℕ) (cs : List Declaration) (ls : List OrderLine) (k : Known g src w o rs n cs ls)
-    (v number place : ℕ) (u : Unlisted (length src) w (k .ds) v) (r : Row w v) (p : 1 ≤ place) where
+    (v number place : ℕ) (u : Unlisted (length src) w (k .ds) v) (r : Row w v) (p : Follows g src place) where
   abbrev ds : List Decl
   ds = k .ds
 
@@ -129,24 +135,38 @@ module _ (g : Signs) (src w : List ℕ) (o : Order) (rs : List Rule) (n : ℕ) (
   after = withLine w o v number place
 
   -- a listed mark is another one
-  other : (x : ℕ) → IsListed len w ds x → Apart v x
+  other : (x : ℕ) → IsListed g src w ds x → Apart v x
   other x a = rows-apart g src w n ds (k .holds) (k .once) v x (u .row) (a .row) (λ e. let s = a .some in let z = u .none in let y = ap (λ (q : ℕ). cell w q placeNumber) e in omega (arith, s, z, y))
 
-  others : (vs : List ℕ) → All (IsListed len w ds) vs → All (Apart v) vs
+  others : (vs : List ℕ) → All (IsListed g src w ds) vs → All (Apart v) vs
   others [] a = tt
   others (x ∷ xs) a = (other x (a .0), others xs (a .1))
 
-  listed-kept : (vs : List ℕ) → All (IsListed len w ds) vs → All (IsListed len after ds) (vs ++ v ∷ [])
-  listed-kept [] a = (
-    record { row = u .row; even = u .even; some = let e = line-place w o v number place (r .inside) in omega (arith, e, p) },
-    tt,
-  )
-  listed-kept (x ∷ xs) a = (
-    record { row = a .0 .row; even = a .0 .even; some = let s = a .0 .some in let e = line-apart w o v number place x placeNumber (omega arith) (λ e. omega (arith, e)) (other x (a .0)) in omega (arith, s, e) },
-    listed-kept xs (a .1),
-  )
+  listed-kept : (vs : List ℕ) → All (IsListed g src w ds) vs → All (IsListed g src after ds) (vs ++ v ∷ [])
+  listed-kept [] a =
+      let e = line-place w o v number place (r .inside) in (
+        record {
+          row = u .row;
+          even = u .even;
+          some = let s = p .some in omega (arith, e, s);
+          within = let s = p .within in omega (arith, e, s);
+          accepted = subst (λ (q : ℕ). Accepted (operands (tokensLeft g src (behind q)))) (sym e) (p .accepted);
+        },
+        tt,
+      )
+  listed-kept (x ∷ xs) a =
+      let e = line-apart w o v number place x placeNumber (omega arith) (λ e. omega (arith, e)) (other x (a .0)) in (
+        record {
+          row = a .0 .row;
+          even = a .0 .even;
+          some = let s = a .0 .some in omega (arith, s, e);
+          within = let s = a .0 .within in omega (arith, s, e);
+          accepted = subst (λ (q : ℕ). Accepted (operands (tokensLeft g src (behind q)))) (sym e) (a .0 .accepted);
+        },
+        listed-kept xs (a .1),
+      )
 
-  lines-kept : (vs : List ℕ) → All (IsListed len w ds) vs → map (lineAt g src rs w) vs ≡ map (lineAt g src rs after) vs
+  lines-kept : (vs : List ℕ) → All (IsListed g src w ds) vs → map (lineAt g src rs w) vs ≡ map (lineAt g src rs after) vs
   unfolding lineAt
   lines-kept [] a = refl
   lines-kept (x ∷ xs) a =
@@ -159,8 +179,8 @@ module _ (g : Signs) (src w : List ℕ) (o : Order) (rs : List Rule) (n : ℕ) (
   line-new = rw (line-number w o v number place (r .inside), line-place w o v number place (r .inside))
 
   -- the last mark of the list so far
-  last-listed : (o .last ≡ 0 → ⊥) → IsListed len w ds (o .last)
-  last-listed z = subst (IsListed len w ds) (sym (k .lines .last)) (last-has (IsListed len w ds) (k .marks) (k .listed) (λ e. z (k .lines .last ∙ e)))
+  last-listed : (o .last ≡ 0 → ⊥) → IsListed g src w ds (o .last)
+  last-listed z = subst (IsListed g src w ds) (sym (k .lines .last)) (last-has (IsListed g src w ds) (k .marks) (k .listed) (λ e. z (k .lines .last ∙ e)))
 
   -- a row's place among those of the source
   row-below : (x y : ℕ) → isRow len ds x ≡ true → n ≤ y / 16 → y / 16 ≤ len / 8 → Apart x y
@@ -180,7 +200,7 @@ module _ (g : Signs) (src w : List ℕ) (o : Order) (rs : List Rule) (n : ℕ) (
 
   alone-kept : (x : ℕ) → isRow len ds x ≡ true → cell after x placeNumber ≡ 0 → cell after x nextNumber ≡ 0
   alone-kept x h z =
-      let d : x ≡ v → ⊥ = λ e. let y = ap (λ (q : ℕ). cell after q placeNumber) e in let f = line-place w o v number place (r .inside) in omega (arith, y, f, z, p) in
+      let d : x ≡ v → ⊥ = λ e. let y = ap (λ (q : ℕ). cell after q placeNumber) e in let f = line-place w o v number place (r .inside) in let s = p .some in omega (arith, y, f, z, s) in
       let a = rows-apart g src w n ds (k .holds) (k .once) v x (u .row) h (λ e. d (sym e)) in
       let e = line-apart w o v number place x placeNumber (omega arith) (λ e. omega (arith, e)) a in
       let y : cell w x placeNumber ≡ 0 = sym e ∙ z in

@@ -2,7 +2,7 @@
 use mathlib.Core.Path.{_≡_, refl, sym, ap, _∙_, subst}
 use mathlib.Core.Bool.{Bool, true, false, false≢true, or-true}
 use mathlib.Core.List.{List, [], _∷_}
-use Prim.Native.Nat.{ℕ, _/_, _%_, _≤_, _<_}
+use Prim.Native.Nat.{ℕ, _+_, _/_, _%_, _≤_, _<_}
 use native.Mathlib.Omega.{arith}
 use lib.ListN.{length}
 use lib.Dec.{eqb}
@@ -18,11 +18,11 @@ use Rattle.names.specs.Named.{nameLeft}
 use Rattle.rows.proofs.CellLaws.{Apart}
 use Rattle.subjects.specs.Keys.{nameSpot, subjectLeft, Key, item, chars, keyAt, sameKey}
 use Rattle.subjects.proofs.KeyLaws.{sameKey-true, sameKey-equal, keyAt-name, keyAt-quotes}
-use Rattle.store.specs.Store.{Decl, first, isPlace, Nodes, none, more, Holds}
+use Rattle.store.specs.Store.{Decl, first, isPlace, Nodes, none, more, Holds, undefinedMark}
 use Rattle.store.specs.declared.Found.{Found}
 use Rattle.store.specs.declared.Found.the-variants.{At, Nothing}
 use Rattle.store.proofs.ListLaws.{found-key, found-place, place-within, place-row}
-use Rattle.known.specs.Known.{Once, another, undefinedMark, subjectAt, isRow, markOf}
+use Rattle.known.specs.Known.{Once, another, subjectAt, isRow, markOf}
 
 -- ## What is declared
 
@@ -59,25 +59,32 @@ pub isAt-same : (u : ℕ) (f : Found) → f ≡ At u → isAt u f ≡ true
 isAt-same u f e = ap (isAt u) e ∙ eq-eqb u u refl
 
 -- the mark of a name's subject is found in the store
-mark-name : (len : ℕ) (ds : List Decl) (n : List ℕ) → markOf len ds (subjectOf n) ≡ first (item (subjectOf n)) ds
+pub mark-name : (len : ℕ) (ds : List Decl) (n : List ℕ) → markOf len ds (subjectOf n) ≡ first (item (subjectOf n)) ds
 unfolding markOf subjectOf
 mark-name len ds n = by (charShaped n) (λ t. rw t) (λ t. rw t)
 
-mark-undefined : (len : ℕ) (ds : List Decl) → markOf len ds undefined ≡ At (undefinedMark len)
+pub mark-undefined : (len : ℕ) (ds : List Decl) → markOf len ds undefined ≡ At (undefinedMark len)
 unfolding markOf
 mark-undefined len ds = refl
 
 -- every mark of the source is below that of UNDEFINED
-below-undefined : (len v : ℕ) → v / 2 ≤ len → v < undefinedMark len
+pub below-undefined : (len v : ℕ) → v / 2 ≤ len → v < undefinedMark len
 below-undefined len v h = omega (arith, h)
 
-at-undefined : (g : Signs) (src : List ℕ) → subjectAt g src (undefinedMark (length src)) ≡ undefined
+pub at-undefined : (g : Signs) (src : List ℕ) → subjectAt g src (undefinedMark (length src)) ≡ undefined
 unfolding subjectAt
 at-undefined g src = rw (le-leb (undefinedMark (length src)) (undefinedMark (length src)) (omega arith))
 
-at-source : (g : Signs) (src : List ℕ) (v : ℕ) → v / 2 ≤ length src → subjectAt g src v ≡ subjectLeft g src (nameSpot (v / 2))
+pub at-source : (g : Signs) (src : List ℕ) (v : ℕ) → v / 2 ≤ length src → subjectAt g src v ≡ subjectLeft g src (nameSpot (v / 2))
 unfolding subjectAt
 at-source g src v h = rw (lt-leb (undefinedMark (length src)) v (below-undefined (length src) v h))
+
+-- a row stands in the source, or right behind it
+pub row-in : {key : ℕ → Key} {len : ℕ} {w : List ℕ} {n : ℕ} {ds : List Decl} → Holds key len w n ds → (u : ℕ) → isRow len ds u ≡ true → u / 16 ≤ len / 8 + 1
+row-in {len = len} {ds = ds} h u r =
+    by (isPlace u ds)
+    (λ t. let i = place-within h u t in omega (arith, i))
+    (λ t. let z = eqb-true u (undefinedMark len) (rw t at r) in omega (arith, z))
 
 module _ (g : Signs) (src w : List ℕ) (n : ℕ) (ds : List Decl) (h : Holds (keyAt g src) (length src) w n ds) (o : Once ds) where
   -- a row's subject has its mark

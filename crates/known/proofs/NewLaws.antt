@@ -10,7 +10,7 @@ use borrow.Author.Tests.{eq-eqb, eqb-true}
 use Rattle.lists.proofs.Bools.{by}
 use Rattle.lists.proofs.Lists.{length-zero}
 use Rattle.rules.specs.Meaning.{Rule}
-use Rattle.rules.specs.State.{Declaration, symbol, element, character, named, OrderLine}
+use Rattle.rules.specs.State.{Declaration, symbol, character, named, OrderLine}
 use Rattle.lines.specs.declared.Signs.{Signs}
 use Rattle.rows.specs.Cells.{cellAt, cell}
 use Rattle.subjects.specs.Keys.{Key, item, chars, keyAt}
@@ -46,8 +46,11 @@ says-on w w′ ds cs e (elements {n = m} {xs = xs} {v = v} {q = q} {ds = es} {cs
   where
     here : (v : ℕ) (es : List Decl) → isPlace v (declaredAt (item (named m)) v ∷ es) ≡ true
     here v es = rw (eq-eqb v v refl)
-says-on w w′ ds cs e (characters {c = c} {v = v} {ds = es} {cs = fs} s) =
-    characters (says-on w w′ es fs (λ u p. e u (isPlace-older (λ (x : ℕ). item (character c)) v es u p)) s)
+says-on w w′ ds cs e (characters {c = c} {v = v} {ds = es} {cs = fs} z s) =
+    characters (e v (here v es) ∙ z) (says-on w w′ es fs (λ u p. e u (isPlace-older (λ (x : ℕ). item (character c)) v es u p)) s)
+  where
+    here : (v : ℕ) (es : List Decl) → isPlace v (declaredAt (item (character c)) v ∷ es) ≡ true
+    here v es = rw (eq-eqb v v refl)
 
 -- ## One declaration more
 
@@ -104,7 +107,10 @@ module _ (g : Signs) (src w : List ℕ) (o : Order) (rs : List Rule) (n : ℕ) (
         (symbols (d .five v charsNumber (omega arith) ∙ k .free v charsNumber room (omega (arith, inside)) (omega arith)) says-before)) .known
 
     pub known-character-new : (c : ℕ) → keyAt g src v ≡ item (character c) → KnownAs g src w′ o rs (v / 16 + 1) cs ls (fresh key v ∷ k .ds)
-    known-character-new c e = with-more cs (subst (λ (x : Key). Says w′ (declaredAt x v ∷ k .ds) cs) (sym e) (characters says-before))
+    known-character-new c e =
+        with-more cs
+        (subst (λ (x : Key). Says w′ (declaredAt x v ∷ k .ds) cs) (sym e)
+        (characters (d .five v charsNumber (omega arith) ∙ k .free v charsNumber room (omega (arith, inside)) (omega arith)) says-before))
 
 -- ## Before the order
 

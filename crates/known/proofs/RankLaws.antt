@@ -22,19 +22,19 @@ use Rattle.store.specs.Store.{Decl, Holds}
 use Rattle.store.specs.declared.Found.{Found}
 use Rattle.store.specs.declared.Found.the-variants.{At, Nothing}
 use Rattle.listed.specs.declared.Order.{Order}
-use Rattle.listed.specs.Listed.{placeNumber, rankNumber, Row, Linked, ends, goes, Spread, none, more, ranked}
+use Rattle.listed.specs.Listed.{placeNumber, rankNumber, Row, Linked, ends, goes, Spread, more, ranked}
 use Rattle.known.specs.Known.{Once, lineAt, isRow, markOf, IsListed, Known}
 use Rattle.known.proofs.MarkLaws.{isAt, subject-mark, mark-row, rows-apart}
 
 -- ## Marks in the list
 
 -- a mark with no place after its subject is not in the list
-unlisted : (len : ℕ) (w : List ℕ) (ds : List Decl) (v : ℕ) (us : List ℕ) → All (IsListed len w ds) us → cell w v placeNumber ≡ 0 → oneOf (eqb v) us ≡ false
+unlisted : (g : Signs) (src w : List ℕ) (ds : List Decl) (v : ℕ) (us : List ℕ) → All (IsListed g src w ds) us → cell w v placeNumber ≡ 0 → oneOf (eqb v) us ≡ false
 unfolding oneOf
-unlisted len w ds v [] a z = refl
-unlisted len w ds v (u ∷ us) a z =
+unlisted g src w ds v [] a z = refl
+unlisted g src w ds v (u ∷ us) a z =
     let n : eqb v u ≡ false = ne-eqb v u (λ e. let s = a .0 .some in let y = rw e at z in omega (arith, s, y)) in
-    rw n (unlisted len w ds v us (a .1) z)
+    rw n (unlisted g src w ds v us (a .1) z)
 
 pub linked-rows : (w : List ℕ) (p : ℕ) (vs : List ℕ) → Linked w p vs → All (Row w) vs
 linked-rows w p [] ends = tt
@@ -71,7 +71,7 @@ rows-kept w w′ (v ∷ vs) l a = (let i = a .0 .inside in record { some = a .0 
 
 module _ (g : Signs) (src : List ℕ) (rs : List Rule) (n : ℕ) (ds : List Decl) (w₀ : List ℕ) (h : Holds (keyAt g src) (length src) w₀ n ds) (o : Once ds) where
   -- the lines of a subject
-  line-marks : (x : Subject) (us : List ℕ) → All (IsListed (length src) w₀ ds) us
+  line-marks : (x : Subject) (us : List ℕ) → All (IsListed g src w₀ ds) us
       → oneOf (isLineOf x) (map (lineAt g src rs w₀) us) ≡ oneOf (λ (u : ℕ). isAt u (markOf (length src) ds x)) us
   unfolding oneOf isLineOf lineAt
   line-marks x [] a = refl
@@ -80,7 +80,7 @@ module _ (g : Signs) (src : List ℕ) (rs : List Rule) (n : ℕ) (ds : List Decl
 
   -- the rank of a subject whose row is v
   rank-cell : (x : Subject) (v : ℕ) → markOf (length src) ds x ≡ At v → isRow (length src) ds v ≡ true → (w : List ℕ) (k : ℕ) (us : List ℕ)
-      → All (IsListed (length src) w₀ ds) us → Spread us → All (Row w) us → cell w v rankNumber ≡ 0
+      → All (IsListed g src w₀ ds) us → Spread us → All (Row w) us → cell w v rankNumber ≡ 0
       → cell (ranked w k us) v rankNumber ≡ rankFrom k x (map (lineAt g src rs w₀) us)
   unfolding ranked rankFrom lineAt
   rank-cell x v m r w k [] a s b z = z
@@ -129,7 +129,7 @@ module _ (g : Signs) (src w : List ℕ) (o : Order) (rs : List Rule) (n : ℕ) (
       go Nothing m = none-of (k .marks)
       go (At v) m =
           by (eqb (cell w v placeNumber) 0)
-          (λ t. rw t (unlisted (length src) w (k .ds) v (k .marks) (k .listed) (eqb-true (cell w v placeNumber) 0 t)))
+          (λ t. rw t (unlisted g src w (k .ds) v (k .marks) (k .listed) (eqb-true (cell w v placeNumber) 0 t)))
           (λ t. let z = eqb-false (cell w v placeNumber) 0 t in
           rw t (k .all v (mark-row g src w n (k .ds) (k .holds) (k .once) v x m) (positive (cell w v placeNumber) z)))
 

@@ -8,17 +8,17 @@ use lib.ListN.{length}
 use lib.Dec.{leb, eqb}
 use Rattle.lists.proofs.Lists.{All}
 use Rattle.rules.specs.Text.{if_then_else_, oneOf}
-use Rattle.rules.specs.Tokens.{operands}
+use Rattle.rules.specs.Tokens.{Token, operands, tokensRefusal}
 use Rattle.rules.specs.Lines.{outside}
 use Rattle.rules.specs.Meaning.{Rule}
 use Rattle.rules.specs.State.{Declaration, symbol, element, Subject, character, named, undefined, OrderLine}
-use Rattle.rules.specs.OrderLines.{operandList, weightsOf}
+use Rattle.rules.specs.OrderLines.{weightsRefusal, operandList, weightsOf}
 use Rattle.lines.specs.declared.Signs.{Signs}
 use Rattle.lines.specs.declared.Spot.{Spot}
 use Rattle.tokens.specs.Left.{tokensLeft}
 use Rattle.rows.specs.Cells.{cell}
 use Rattle.subjects.specs.Keys.{nameSpot, subjectLeft, Key, item, chars, keyAt}
-use Rattle.store.specs.Store.{Decl, first, isPlace, Holds}
+use Rattle.store.specs.Store.{Decl, first, isPlace, undefinedMark, Holds}
 use Rattle.store.specs.declared.Found.{Found}
 use Rattle.store.specs.declared.Found.the-variants.{At, Nothing}
 use Rattle.listed.specs.declared.Order.{Order}
@@ -36,7 +36,8 @@ pub data Says (w : List ℕ) : List Decl → List Declaration → Type 0 where
       → Says w (declaredAt (item (named n)) v ∷ ds) (symbol n ∷ cs)
   elements : {n xs : List ℕ} {v q : ℕ} {ds : List Decl} {cs : List Declaration} → cell w v charsNumber ≡ q → 1 ≤ q → Says w ds cs
       → Says w (declaredAt (chars xs) q ∷ declaredAt (item (named n)) v ∷ ds) (element n xs ∷ cs)
-  characters : {c v : ℕ} {ds : List Decl} {cs : List Declaration} → Says w ds cs → Says w (declaredAt (item (character c)) v ∷ ds) cs
+  characters : {c v : ℕ} {ds : List Decl} {cs : List Declaration} → cell w v charsNumber ≡ 0 → Says w ds cs
+      → Says w (declaredAt (item (character c)) v ∷ ds) cs
 
 -- No key is declared twice.
 pub data Once : List Decl → Type 0 where
@@ -44,10 +45,6 @@ pub data Once : List Decl → Type 0 where
   another : {d : Decl} {ds : List Decl} → first (d .key) ds ≡ Nothing → Once ds → Once (d ∷ ds)
 
 -- ## Order lines
-
--- the mark of UNDEFINED: its row stands behind those of the source
-abbrev pub undefinedMark : ℕ → ℕ
-undefinedMark len = 16 * (len / 8 + 1)
 
 -- what an order line's mark names
 unfoldable pub subjectAt : Signs → List ℕ → ℕ → Subject
@@ -75,11 +72,19 @@ markOf len ds (character c) = first (item (character c)) ds
 markOf len ds (named n) = first (item (named n)) ds
 markOf len ds undefined = At (undefinedMark len)
 
--- A mark in the list.
-pub record IsListed (len : ℕ) (w : List ℕ) (ds : List Decl) (v : ℕ) : Type 0 where
-  pub row : isRow len ds v ≡ true
+-- The operands of an order line that was accepted, whatever was declared before it.
+pub record Accepted (os : List Token) : Type 0 where
+  pub whole : tokensRefusal os ≡ 0
+  pub ds : List Declaration
+  pub each : weightsRefusal ds (operandList os) ≡ 0
+
+-- A mark in the list: the operands of its line can be read again.
+pub record IsListed (g : Signs) (src w : List ℕ) (ds : List Decl) (v : ℕ) : Type 0 where
+  pub row : isRow (length src) ds v ≡ true
   pub even : v % 2 ≡ 0
   pub some : 1 ≤ cell w v placeNumber
+  pub within : cell w v placeNumber ≤ length src
+  pub accepted : Accepted (operands (tokensLeft g src (behind (cell w v placeNumber))))
 
 -- ## All of it
 
@@ -93,7 +98,7 @@ pub record Known (g : Signs) (src w : List ℕ) (o : Order) (rs : List Rule) (n 
   pub marks : List ℕ
   pub lines : Lines w o marks
   pub are : ls ≡ map (lineAt g src rs w) marks
-  pub listed : All (IsListed (length src) w ds) marks
+  pub listed : All (IsListed g src w ds) marks
   pub all : (v : ℕ) → isRow (length src) ds v ≡ true → 1 ≤ cell w v placeNumber → oneOf (eqb v) marks ≡ true
   pub free : (v k : ℕ) → n ≤ v / 16 → v / 16 ≤ length src / 8 → k < 5 → cell w v k ≡ 0
   pub alone : (v : ℕ) → isRow (length src) ds v ≡ true → cell w v placeNumber ≡ 0 → cell w v nextNumber ≡ 0

@@ -138,10 +138,6 @@ module _ (t : List ℕ) (h : accepted t ≡ true) where
   unfolding storedForm
   table-items = ap (λ (x : List ℕ). getD x 1 0) whole
 
-  pub table-count : getD t 2 0 ≡ weightCount (meaningIn t .items)
-  unfolding storedForm
-  table-count = ap (λ (x : List ℕ). getD x 2 0) whole
-
   -- all its parts are in the area
   pub table-long : recordAt (length (meaningIn t .rules)) (length (meaningIn t .items)) + weightCount (meaningIn t .items) ≤ length t
   unfolding recordAt sizeOf

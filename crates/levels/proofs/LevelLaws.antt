@@ -7,7 +7,6 @@ use native.Mathlib.Omega.{arith}
 use lib.ListN.{length}
 use lib.Dec.{eqb, leb}
 use borrow.Author.Tests.{eqb-true, leb-true}
-use Rattle.lists.proofs.Bools.{by}
 use Rattle.lists.proofs.Lists.{length-zero}
 use Rattle.rules.specs.Text.{every, _unless_, lower, lowest}
 use Rattle.rules.specs.Tokens.{broken, Token, token, operands, tokensRefusal}

@@ -93,10 +93,6 @@ tokens-by P c n f b p t =
 
 -- what one, two, three tokens come to
 module _ (P : ℕ → Type 0) (none : P 7) where
-  one-by : P 1 → P 2 → P 4 → (t : Token) → P (joinedTo 0 (symbolOf t))
-  unfolding joinedTo
-  one-by f b p = tokens-by (λ c a x. P (joinedTo 0 x)) none none f b p
-
   two-by : P 9 → P 10 → P 12 → (t u : Token) → P (joinedTo (joinedTo 0 (symbolOf t)) (symbolOf u))
   unfolding joinedTo
   two-by f b p t u =

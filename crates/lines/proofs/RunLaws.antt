@@ -1,5 +1,5 @@
 -- Runs of marks from spot to spot: none, and one after the other.
-use mathlib.Core.Path.{_≡_, refl, sym, ap, _∙_}
+use mathlib.Core.Path.{_≡_, refl, sym, _∙_}
 use mathlib.Core.Bool.{Bool}
 use mathlib.Core.List.{List, [], _∷_, _++_, append-nil, append-assoc}
 use Prim.Native.Nat.{ℕ, _+_}
@@ -8,10 +8,10 @@ use native.Mathlib.Omega.{arith}
 use lib.ListN.{length-append}
 use Rattle.rules.specs.Names.{isBlank}
 use Rattle.rules.specs.Lines as paper
-use Rattle.rules.specs.Lines.{after, lineFrom}
+use Rattle.rules.specs.Lines.{after}
 use Rattle.lines.specs.declared.Signs.{Signs}
 use Rattle.lines.specs.declared.Spot.{Spot}
-use Rattle.lines.specs.Stream.{stateAt, Quiet, modeThrough, freshThrough, Run, Walk, MarkIs}
+use Rattle.lines.specs.Stream.{Quiet, modeThrough, freshThrough, Run, Walk, MarkIs}
 
 -- ## Marks one after the other
 

@@ -3,7 +3,7 @@ use native.Mathlib.Nat.{add-zero, add-assoc}
 use borrow.Author.Tests.{ltb-true, ltb-false}
 use lib.Dec.{ltb}
 use mathlib.Core.Bool.{Bool, true, false, _&&_, and-true}
-use mathlib.Core.Path.{_≡_, refl, _∙_, subst, sym, ap}
+use mathlib.Core.Path.{_≡_, refl, _∙_, subst, ap}
 use mathlib.Core.List.{List, [], _∷_, _++_}
 use Prim.Native.Nat.{ℕ, _-_, _≤_, _<_, _+_, _^_}
 use native.Mathlib.Omega.{arith}
@@ -17,7 +17,6 @@ use Rattle.lines.specs.Stream.{marksLeft, Passes, Marks, Ends, ItemIs, M
 use Rattle.lists.proofs.Bools.{by}
 use Rattle.rules.specs.Text.{every}
 use Rattle.rules.specs.Tokens.{isText}
-use Rattle.lines.specs.declared.LineEnd.{LineEnd}
 
 -- ## The next mark
 

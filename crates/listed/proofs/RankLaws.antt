@@ -22,7 +22,7 @@ pub record Ranking (w₀ : List ℕ) (o : Order) (w : List ℕ) (v rank : ℕ) :
   pub area : (vs : List ℕ) → Lines w₀ o vs → ranked w₀ 1 vs ≡ ranked w (suc rank) left
 
 -- a list is determined by where it begins and how long it is
-linked-one : (w : List ℕ) (p : ℕ) (us vs : List ℕ) → Linked w p us → Linked w p vs → us ≡ vs
+pub linked-one : (w : List ℕ) (p : ℕ) (us vs : List ℕ) → Linked w p us → Linked w p vs → us ≡ vs
 linked-one w p [] [] h k = refl
 linked-one w p [] (v ∷ vs) ends (goes r n) = absurd (let s = r .some in omega (arith, s))
 linked-one w p (u ∷ us) [] (goes r n) ends = absurd (let s = r .some in omega (arith, s))

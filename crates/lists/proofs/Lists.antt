@@ -1,9 +1,10 @@
 -- Laws of lists that the kit's lib.ListN, lib.Seq and mathlib.Core.List do not have.
-use mathlib.Core.Path.{_≡_, refl}
-use mathlib.Core.List.{List, [], _∷_, map, reverse, reverseAux}
-use Prim.Native.Nat.{ℕ, zero, suc, pred, _≤_, _<_}
+use mathlib.Core.Path.{_≡_, refl, ap, _∙_}
+use mathlib.Core.List.{List, [], _∷_, _++_, map, reverse, reverseAux}
+use Prim.Native.Nat.{ℕ, zero, suc, pred, _+_, _≤_, _<_}
 use native.Mathlib.Omega.{arith}
-use lib.ListN.{length, getD, drop}
+use lib.ListN.{length, getD, set, drop}
+use lib.Seq.{sets}
 
 -- P holds of each
 abbrev pub All : {A : Type 0} → (A → Type 0) → List A → Type 0
@@ -42,3 +43,10 @@ drop-pred (suc k) x xs h = refl
 pub length-zero : {A : Type 0} (xs : List A) → length xs ≡ 0 → xs ≡ []
 length-zero [] h = refl
 length-zero (x ∷ xs) h = absurd (omega arith)
+
+-- stored together, or one behind the other
+pub sets-append : (area : List ℕ) (at : ℕ) (a b : List ℕ) → sets area at (a ++ b) ≡ sets (sets area at a) (at + length a) b
+sets-append area at [] b = let e : at + 0 ≡ at = omega arith in rw e
+sets-append area at (x ∷ a) b =
+    let e : suc at + length a ≡ at + suc (length a) = omega arith in
+    sets-append (set area at x) (suc at) a b ∙ ap (λ (k : ℕ). sets (sets (set area at x) (suc at) a) k b) e

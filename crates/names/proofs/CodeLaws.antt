@@ -1,16 +1,16 @@
 -- The characters by their codes: hex digits, the turns of the loop over them, and names shaped as characters.
-use mathlib.Core.Path.{_≡_, refl, sym, ap, _∙_, subst}
-use mathlib.Core.Bool.{Bool, true, false, _&&_, _||_, and-true, and-false}
+use mathlib.Core.Path.{_≡_, refl, sym, _∙_}
+use mathlib.Core.Bool.{true, false, and-false}
 use mathlib.Core.List.{List, [], _∷_}
 use Prim.Native.Nat.{ℕ, suc, _+_, _-_, _*_, _^_, _≤_, _<_}
 use native.Mathlib.Nat.{pow-suc, pow-le-pow-right}
 use native.Mathlib.Numerals.{add-one}
 use native.Mathlib.Omega.{arith}
 use lib.ListN.{length}
-use lib.Dec.{eqb, leb}
+use lib.Dec.{leb}
 use mir.Syntax.{w32}
 use mir.Val.{Fits}
-use borrow.Author.Tests.{eq-eqb, ne-eqb, le-leb, lt-leb, leb-true}
+use borrow.Author.Tests.{ne-eqb, le-leb, lt-leb, leb-true}
 use Rattle.lists.proofs.Bools.{by, and-left, and-right}
 use Rattle.rules.specs.Text.{within, every}
 use Rattle.rules.specs.Names.{isHex, digit, hexValue, charShaped, codeOf}
@@ -21,7 +21,7 @@ use Rattle.tokens.specs.declared.NameStep.the-variants.{Byte, Close, Open}
 use Rattle.tokens.specs.Left.{NameByte, NameStepIs}
 use Rattle.names.specs.declared.Code.{Code}
 use Rattle.names.specs.declared.Code.the-variants.{Char, Other}
-use Rattle.names.specs.Named.{nameLeft, hexOf, isMany, areDigits, MadeIs, Digits, DigitsAre, CharIs, CodeIs}
+use Rattle.names.specs.Named.{nameLeft, hexOf, isMany, areDigits, MadeIs, DigitsAre, CodeIs}
 use Rattle.names.proofs.CompareLaws.{step-byte, step-close, step-open}
 
 -- ## Hex digits

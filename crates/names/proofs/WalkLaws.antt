@@ -1,14 +1,13 @@
 -- A name as a number, a name beside another, and the names in quotes: the turns of the loops.
-use mathlib.Core.Path.{_≡_, refl, sym, ap, _∙_, subst}
-use mathlib.Core.Bool.{Bool, true, false, not}
-use mathlib.Core.List.{List, [], _∷_}
+use mathlib.Core.Path.{_≡_, refl, sym, _∙_, subst}
+use mathlib.Core.Bool.{Bool, true, false}
+use mathlib.Core.List.{List, []}
 use Prim.Native.Nat.{ℕ, _+_, _-_, _*_, _%_, _≤_, _<_}
 use native.Mathlib.Omega.{arith}
 use lib.ListN.{length}
-use lib.Dec.{eqb}
 use borrow.Author.Tests.{eq-eqb, ne-eqb}
 use Rattle.rules.specs.Text.{same}
-use Rattle.rules.specs.Lines.{quoted, quotedName, after}
+use Rattle.rules.specs.Lines.{quoted, after}
 use Rattle.lines.specs.declared.Signs.{Signs}
 use Rattle.lines.specs.declared.Spot.{Spot}
 use Rattle.lines.specs.declared.Step.{Step}
@@ -16,7 +15,7 @@ use Rattle.lines.specs.declared.Step.the-variants as step
 use Rattle.lines.specs.Stream.{marksLeft, MarkIs, StepIs}
 use Rattle.tokens.specs.declared.NameStep.{NameStep}
 use Rattle.tokens.specs.declared.NameStep.the-variants.{Byte, Close, Open}
-use Rattle.tokens.specs.Left.{nameIn, afterName, namesFrom, namesIn, NameByte, NameStepIs}
+use Rattle.tokens.specs.Left.{namesFrom, namesIn, NameByte, NameStepIs}
 use Rattle.tokens.proofs.TokenLaws.{namesIn-close, namesIn-name}
 use Rattle.names.specs.Named.{nameLeft, hashFrom, hashOf, NameAt}
 use Rattle.names.proofs.CompareLaws.{step-byte, step-close, step-open}

@@ -8,7 +8,7 @@ use lib.ListN.{length}
 use lib.Dec.{leb}
 use Rattle.lists.proofs.Bools.{by}
 use Rattle.rules.specs.Text.{every, lower, lowest}
-use Rattle.rules.specs.Tokens.{word, Token, tokenAt, single, operands, tokensRefusal}
+use Rattle.rules.specs.Tokens.{Token, tokenAt, operands, tokensRefusal}
 use Rattle.rules.specs.State.{State, Toggle}
 use Rattle.rules.specs.Conditionals.{isToggleByte, isOn, turned, toggleRefusal}
 use Rattle.lines.specs.declared.Signs.{Signs}

@@ -45,11 +45,6 @@ pub with-late : (t : Bool) (r : ℕ) → Late r → lower (2 unless t) r ≡ (if
 with-late true r h = lower-none-left r
 with-late false r h = two-first r h
 
-pub with-three : (t : Bool) → lower (2 unless t) 3 ≡ (if t then 3 else 2)
-unfolding lower
-with-three true = refl
-with-three false = refl
-
 module _ (t : Bool) (r : ℕ) where
   pub with-text : t ≡ true → r ≡ lower (2 unless t) r
   with-text h = rw h (sym (lower-none-left r))

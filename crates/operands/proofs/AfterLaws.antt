@@ -8,7 +8,7 @@ use lib.ListN.{length}
 use lib.Dec.{eqb, leb}
 use borrow.Author.Tests.{eqb-false}
 use Rattle.rules.specs.Lines.{outside}
-use Rattle.rules.specs.Tokens.{gap, broken, word, name, Token, token, single, tokenAt, noPart, tokensFrom, withoutBlanks, operands, tokensRefusal}
+use Rattle.rules.specs.Tokens.{gap, broken, word, Token, token, single, tokenAt, noPart, tokensFrom, withoutBlanks, operands, tokensRefusal}
 use Rattle.lines.specs.declared.Signs.{Signs}
 use Rattle.lines.specs.declared.Spot.{Spot}
 use Rattle.lines.specs.Stream.{marksLeft, blankFirst}
@@ -23,8 +23,7 @@ use Rattle.operands.specs.declared.Operand.the-variants as operand
 use Rattle.operands.specs.declared.After.{After}
 use Rattle.operands.specs.declared.After.the-variants as after
 use Rattle.operands.specs.declared.One.{One}
-use Rattle.operands.specs.declared.OneName.{OneName}
-use Rattle.operands.specs.Operand.{operandsLeft, OperandAt, OperandIs, OperandsFrom, AfterIs, OneIs, OneNameIs}
+use Rattle.operands.specs.Operand.{operandsLeft, OperandAt, OperandIs, OperandsFrom, AfterIs, OneIs}
 use Rattle.operands.proofs.ListLaws.{blankless, opening-kind, operands-solid, operands-blank, operands-none, none-refused, some, none-broken}
 use Rattle.operands.proofs.BlankLaws.{skips-past}
 use Rattle.operands.proofs.NextLaws.{past-free}
@@ -97,9 +96,6 @@ module _ (g : Signs) (src : List ℕ) (p : Spot) {a : After} (v : AfterIs g src 
     pub word-malformed : single word (operands (tokensLeft g src p)) ≡ false
     word-malformed = rw malformed
 
-    pub name-malformed : single name (operands (tokensLeft g src p)) ≡ false
-    name-malformed = rw malformed
-
   module _ {x : Spot} (e : a ≡ after.Operands x) where
     from : OperandsFrom g src p x
     from = subst (AfterIs g src p) e v
@@ -118,9 +114,6 @@ module _ (g : Signs) (src : List ℕ) (p : Spot) {a : After} (v : AfterIs g src 
 
     pub word-from : (r : One) → OneIs g src (operandsLeft g src false x) r → OneIs g src (operands (tokensLeft g src p)) r
     word-from r h = subst (λ (ts : List Token). OneIs g src ts r) (sym (from .operands)) h
-
-    pub name-from : (r : OneName) → OneNameIs g src (operandsLeft g src false x) r → OneNameIs g src (operands (tokensLeft g src p)) r
-    name-from r h = subst (λ (ts : List Token). OneNameIs g src ts r) (sym (from .operands)) h
 
 -- ## What the next operand says
 

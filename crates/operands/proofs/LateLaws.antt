@@ -1,5 +1,5 @@
 -- Refusals of 3 and above, as every line gives them but for bytes that are no text: 2 comes before them, and 3 is the lowest.
-use mathlib.Core.Path.{_≡_, refl, sym, ap, _∙_}
+use mathlib.Core.Path.{_≡_, refl, _∙_}
 use mathlib.Core.Bool.{Bool, true, false}
 use mathlib.Core.List.{List, [], _∷_}
 use Prim.Native.Nat.{ℕ, _≤_}
@@ -9,8 +9,9 @@ use borrow.Author.Tests.{ne-eqb, le-ltb, ltb-false}
 use Rattle.lists.proofs.Bools.{by}
 use Rattle.lists.proofs.Lists.{All}
 use Rattle.rules.specs.Text.{_unless_, lower, lowest}
-use Rattle.rules.specs.Tokens.{broken, Token, token, tokensRefusal}
-use Rattle.tokens.proofs.RefusalLaws.{lower-none-left, lower-assoc, tokensRefusal-cons, refusal-broken, refusal-later}
+use Rattle.rules.specs.Tokens.{Token, tokensRefusal}
+use Rattle.tokens.proofs.RefusalLaws.{lower-assoc, three-right}
+use Rattle.tokens.proofs.RefusalLaws as tokens
 
 -- none, or not below 3
 unfoldable pub Late : ℕ → Type 0
@@ -44,13 +45,8 @@ late-unless true = refl
 late-unless false = refl
 
 pub late-tokens : (ts : List Token) → Late (tokensRefusal ts)
-unfolding Late tokensRefusal
-late-tokens [] = lower-none-left 3
-late-tokens (t ∷ ts) =
-    let b = token broken [] [] in
-    let one : lower (tokensRefusal (t ∷ [])) 3 ≡ 3 =
-    ap (lower (tokensRefusal (t ∷ []))) (sym (refusal-broken b [] refl)) ∙ sym (tokensRefusal-cons t (b ∷ [])) ∙ refusal-later t (b ∷ []) (refusal-broken b [] refl) in
-    ap (λ (r : ℕ). lower r 3) (tokensRefusal-cons t ts) ∙ late-lower (tokensRefusal (t ∷ [])) (tokensRefusal ts) one (late-tokens ts)
+unfolding Late
+late-tokens ts = three-right (tokensRefusal ts) (tokens.late-tokens ts)
 
 -- 2 comes before them
 pub two-first : (r : ℕ) → Late r → lower 2 r ≡ 2

@@ -11,17 +11,17 @@ use Rattle.lists.proofs.Lists.{All}
 use Rattle.rules.specs.Text.{every, lower, lowest, _unless_}
 use Rattle.rules.specs.Names.{isVisible, nameRefusal, namesRefusal}
 use Rattle.rules.specs.Lines.{outside}
-use Rattle.rules.specs.Tokens.{broken, word, name, quote, Token, token, tokenAt, theName, single, tokensOf, isSolid, operands, tokensRefusal}
+use Rattle.rules.specs.Tokens.{broken, word, quote, Token, tokenAt, single, tokensOf, operands, tokensRefusal}
 use Rattle.lines.specs.declared.Signs.{Signs}
 use Rattle.lines.specs.declared.Spot.{Spot}
 use Rattle.lines.specs.Stream.{marksLeft, lineStart}
 use Rattle.tokens.specs.declared.Tok.{Tok}
-use Rattle.tokens.specs.Left.{tokensLeft, tokenThere, wordIn, nameIn, TokenIs, Skips}
+use Rattle.tokens.specs.Left.{tokensLeft, tokenThere, wordIn, TokenIs, Skips}
 use Rattle.tokens.proofs.GapLaws.{tokensOf-left}
-use Rattle.tokens.proofs.RefusalLaws.{tokensRefusal-cons, refusal-name}
-use Rattle.operands.specs.Operand.{operandsLeft, WordAlone, NameAlone}
+use Rattle.tokens.proofs.RefusalLaws.{tokensRefusal-cons}
+use Rattle.operands.specs.Operand.{WordAlone}
 use Rattle.operands.proofs.TidyLaws.{tidy}
-use Rattle.operands.proofs.ListLaws.{nothing, gaps-tidy, line-refusal}
+use Rattle.operands.proofs.ListLaws.{nothing, line-refusal}
 use Rattle.operands.proofs.NextLaws.{left-tidy}
 
 -- ## The first token and what follows it
@@ -55,18 +55,10 @@ pub line-lowest : (g : Signs) (src : List ℕ) (q : Spot) {t : Tok} (os : List T
     → tokensRefusal (tokenThere g src q ∷ os) ≡ lower (t .refusal) (tokensRefusal os)
 line-lowest g src q os w = tokensRefusal-cons (tokenThere g src q) os ∙ ap (λ (r : ℕ). lower r (tokensRefusal os)) (w .refusal)
 
--- whether the next operand is glued to this one, if no blank follows
-pub solid-kind : (g : Signs) (src : List ℕ) (q : Spot) {t : Tok} → TokenIs g src q t → isSolid (tokenThere g src q) ≡ leb 3 (t .kind)
-solid-kind g src q w = rw (w .kind)
-
 -- a spot where a comment may open, outside names and quotes, is that of a line's start
 pub spot-start : (q : Spot) → q .mode ≡ outside → q .fresh ≡ true → q ≡ lineStart (q .at)
 spot-start q m f =
     ap (λ (x : ℕ). spotOf (q .at) x (q .fresh)) m ∙ ap (λ (x : Bool). spotOf (q .at) outside x) f
-
-pub operands-tidy : (g : Signs) (src : List ℕ) (glued : Bool) (p : Spot) → every tidy (operandsLeft g src glued p) ≡ true
-unfolding operandsLeft
-operands-tidy g src glued p = gaps-tidy glued (tokensLeft g src p) (left-tidy g src p)
 
 -- ## One operand
 
@@ -80,15 +72,6 @@ module _ {g : Signs} {src : List ℕ} {os : List Token} {q : Spot} where
   pub word-unrefused : WordAlone g src os q → tokensRefusal os ≡ 0
   unfolding tokensRefusal namesRefusal lowest lower
   word-unrefused v = rw (v .alone)
-
-  pub name-single : NameAlone g src os q → single name os ≡ true
-  name-single v = rw (v .alone)
-
-  pub name-text : NameAlone g src os q → theName (tokenAt os 0) ≡ nameIn (marksLeft g src q)
-  name-text v = rw (v .alone)
-
-  pub name-refused : NameAlone g src os q → tokensRefusal os ≡ nameRefusal (nameIn (marksLeft g src q))
-  name-refused v = ap tokensRefusal (v .alone) ∙ refusal-name (nameIn (marksLeft g src q))
 
 -- ## Which refusals tokens give
 

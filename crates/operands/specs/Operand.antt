@@ -5,21 +5,19 @@ use mathlib.Core.List.{List, [], _∷_}
 use Prim.Native.Nat.{ℕ, _≤_}
 use lib.ListN.{length}
 use lib.Dec.{leb}
-use Rattle.rules.specs.Lines.{outside, inName}
-use Rattle.rules.specs.Tokens.{broken, word, name, Token, token, single, withoutGaps, operands, tokensRefusal}
+use Rattle.rules.specs.Lines.{outside}
+use Rattle.rules.specs.Tokens.{broken, word, Token, token, single, withoutGaps, operands, tokensRefusal}
 use Rattle.lines.specs.declared.Signs.{Signs}
 use Rattle.lines.specs.declared.Spot.{Spot}
 use Rattle.lines.specs.Stream.{marksLeft, Walk}
 use Rattle.tokens.specs.declared.Tok.{Tok}
-use Rattle.tokens.specs.Left.{tokensLeft, tokenThere, wordIn, nameIn, TokenIs}
+use Rattle.tokens.specs.Left.{tokensLeft, tokenThere, wordIn, TokenIs}
 use Rattle.operands.specs.declared.Operand.{Operand}
 use Rattle.operands.specs.declared.Operand.the-variants as operand
 use Rattle.operands.specs.declared.After.{After}
 use Rattle.operands.specs.declared.After.the-variants as after
 use Rattle.operands.specs.declared.One.{One}
 use Rattle.operands.specs.declared.One.the-variants as one
-use Rattle.operands.specs.declared.OneName.{OneName}
-use Rattle.operands.specs.declared.OneName.the-variants as oneName
 
 -- ## Operands from a spot on
 
@@ -77,13 +75,3 @@ pub record WordAlone (g : Signs) (src : List ℕ) (os : List Token) (q : Spot) :
 abbrev pub OneIs : Signs → List ℕ → List Token → One → Type 0
 OneIs g src os (one.Word q) = WordAlone g src os q
 OneIs g src os one.Other = single word os ≡ false
-
--- The operands are one name, read from the spot after its `<` on.
-pub record NameAlone (g : Signs) (src : List ℕ) (os : List Token) (inside : Spot) : Type 0 where
-  pub alone : os ≡ token name [] (nameIn (marksLeft g src inside) ∷ []) ∷ []
-  pub mode : inside .mode ≡ inName
-  pub to : inside .at ≤ length src
-
-abbrev pub OneNameIs : Signs → List ℕ → List Token → OneName → Type 0
-OneNameIs g src os (oneName.Name inside) = NameAlone g src os inside
-OneNameIs g src os oneName.Other = single name os ≡ false

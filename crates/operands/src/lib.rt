@@ -8,15 +8,13 @@ ghost use Rattle.rules.specs.Lines.{outside};
 ghost use Rattle.rules.specs.Tokens.{operands, tokensRefusal};
 ghost use Rattle.lines.specs.Stream.{marksLeft, blankFirst};
 ghost use Rattle.tokens.specs.Left.{tokensLeft};
-ghost use Rattle.operands.specs.Operand.{operandsLeft, OperandIs, AfterIs, OneIs, OneNameIs};
+ghost use Rattle.operands.specs.Operand.{operandsLeft, OperandIs, AfterIs, OneIs};
 use lines::Signs;
 use lines::Spot;
 use lines::Step;
 use lines::next_mark;
-use tokens::Closing;
 use tokens::Next;
 use tokens::Tok;
-use tokens::end_of_name;
 use tokens::lower_of;
 use tokens::next_token;
 use tokens::skip_gaps;
@@ -38,12 +36,6 @@ pub enum After {
 // One operand that is a word, with the spot where it begins; or anything else.
 pub enum One {
     Word(Spot),
-    Other,
-}
-
-// One operand that is a name, with the spot after its `<`; or anything else.
-pub enum OneName {
-    Name(Spot),
     Other,
 }
 
@@ -201,45 +193,5 @@ pub fn single_word(src: &[u8], g: Signs, p: Spot) -> One
         After::None => return One::Other,
         After::Broken => return One::Other,
         After::Operands(x) => return word_left(src, g, x),
-    }
-}
-
-// Whether one name is still to come.
-fn name_left(src: &[u8], g: Signs, p: Spot) -> OneName
-    requires { ⌜ (p .at ≤ length (now src)) × (p .mode ≡ outside) ⌝ }
-    ensures { λ r. ⌜ OneNameIs g (now (src .entry)) (operandsLeft g (now (src .entry)) false p) r ⌝ }
-{
-    let q = skip_gaps(src, g, p);
-    let s = next_mark(src, g, q);
-    match s {
-        Step::End => return OneName::Other,
-        Step::Mark(m, r) => {
-            if m == 60 {
-                let c = end_of_name(src, g, r);
-                match c {
-                    Closing::Open => return OneName::Other,
-                    Closing::Closed(_, e) => {
-                        if none_left(src, g, e, true) {
-                            return OneName::Name(r);
-                        }
-                        return OneName::Other;
-                    }
-                }
-            }
-            return OneName::Other;
-        }
-    }
-}
-
-// Whether a line's operands are one name, from the spot after its first token on.
-pub fn single_name(src: &[u8], g: Signs, p: Spot) -> OneName
-    requires { ⌜ (p .at ≤ length (now src)) × (p .mode ≡ outside) ⌝ }
-    ensures { λ r. ⌜ OneNameIs g (now (src .entry)) (operands (tokensLeft g (now (src .entry)) p)) r ⌝ }
-{
-    let a = after_first(src, g, p);
-    match a {
-        After::None => return OneName::Other,
-        After::Broken => return OneName::Other,
-        After::Operands(x) => return name_left(src, g, x),
     }
 }

@@ -22,14 +22,13 @@ use Rattle.subjects.specs.Keys.{Key, item, keyAt, subjectLeft}
 use Rattle.subjects.proofs.SpotLaws.{keyAt-inside}
 use Rattle.store.specs.declared.Found.{Found}
 use Rattle.store.specs.declared.Found.the-variants.{At, Nothing}
-use Rattle.store.specs.Store.{Decl, first, Sound, Finds}
+use Rattle.store.specs.Store.{Decl, first, isFound, knownIn, undefinedMark, Sound, Finds}
 use Rattle.store.proofs.ListLaws.{found-within}
 use Rattle.listed.specs.declared.Order.{Order}
 use Rattle.listed.specs.Listed.{charsNumber, placeNumber}
 use Rattle.standing.specs.Standing.{standsIn, Stands}
-use Rattle.standing.specs.Standing as standing
-use Rattle.known.specs.Known.{Says, undefinedMark, markOf, Known}
-use Rattle.known.proofs.DeclaredLaws.{isFound, known-declared, none-later, known-symbol}
+use Rattle.known.specs.Known.{Says, markOf, Known}
+use Rattle.known.proofs.DeclaredLaws.{known-declared, none-later, known-symbol}
 use Rattle.known.proofs.RankLaws.{isOrdered, rank-none}
 use Rattle.ordering.specs.declared.Facts.{Facts}
 use Rattle.ordering.specs.Facts.{Rowed, isBare, FactsOf, undefinedFacts, SomeKnown}
@@ -73,19 +72,15 @@ known-sound g src w s = record { n = s .n; ds = s .known .ds; holds = s .known .
 
 -- what stands is what the lines have declared
 pub stands-known : (w : List ℕ) (ds : List Decl) (cs : List Declaration) → Says w ds cs → (x : Subject) → standsIn ds x ≡ stands cs x
-unfolding standsIn stands
+unfolding standsIn stands knownIn
 stands-known w ds cs s (character c) = refl
-stands-known w ds cs s (named n) = found-same (first (item (named n)) ds) ∙ known-declared w n ds cs s
-  where
-    found-same : (f : Found) → standing.isFound f ≡ isFound f
-    found-same (At v) = refl
-    found-same Nothing = refl
+stands-known w ds cs s (named n) = known-declared w n ds cs s
 stands-known w ds cs s undefined = refl
 
 -- a found name is a symbol where its row has no characters
 pub symbol-known : (g : Signs) (src w : List ℕ) (o : Order) (rs : List Rule) (n : ℕ) (cs : List Declaration) (ls : List OrderLine) (k : Known g src w o rs n cs ls)
     (m : List ℕ) (f : Found) → first (item (named m)) (k .ds) ≡ f → isSymbol cs (named m) ≡ isBare w f
-unfolding isSymbol
+unfolding isSymbol knownIn
 symbol-known g src w o rs n cs ls k m (At v) e = known-symbol w m v (k .ds) cs (k .says) (k .once) e
 symbol-known g src w o rs n cs ls k m Nothing e = none-later m cs (sym (known-declared w m (k .ds) cs (k .says)) ∙ ap isFound e)
 

@@ -5,4 +5,3 @@ pub mod RangeLaws
 pub mod StepLaws
 pub mod NameLaws
 pub mod UndefinedLaws
-pub mod OpenedLaws

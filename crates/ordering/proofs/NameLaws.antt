@@ -1,6 +1,6 @@
 -- A line that opens with a name, as an order line: what it is read as, and the row that it is given.
 use mathlib.Core.Path.{_≡_, refl, sym, ap, _∙_, subst}
-use mathlib.Core.Bool.{true, false, false≢true}
+use mathlib.Core.Bool.{true, false≢true}
 use mathlib.Core.List.{List, [], _∷_}
 use Prim.Native.Nat.{ℕ, _+_, _*_, _/_, _%_, _≤_, _<_}
 use native.Mathlib.Omega.{arith}
@@ -27,10 +27,10 @@ use Rattle.subjects.proofs.KeyLaws.{keyAt-quotes}
 use Rattle.subjects.proofs.SpotLaws.{keyAt-inside}
 use Rattle.store.specs.declared.Found.{Found}
 use Rattle.store.specs.declared.Found.the-variants.{At, Nothing}
-use Rattle.store.specs.Store.{Decl, first, Holds, Finds}
+use Rattle.store.specs.Store.{Decl, first, isFound, knownIn, Holds, Finds}
 use Rattle.store.proofs.ListLaws.{first-fresh, found-key, found-place}
 use Rattle.known.specs.Known.{Says}
-use Rattle.known.proofs.DeclaredLaws.{isFound, known-declared}
+use Rattle.known.proofs.DeclaredLaws.{known-declared}
 use Rattle.known.proofs.NewLaws.{known-character-new}
 use Rattle.sheet.specs.declared.Sheet.{Sheet}
 use Rattle.sheet.specs.declared.Step.{Step}
@@ -40,9 +40,10 @@ use Rattle.sheet.proofs.SheetLaws.{read-whole}
 use Rattle.ordering.specs.declared.Facts.{Facts}
 use Rattle.ordering.specs.Facts.{FactsOf, OwnRefused, RowIs, Ready, Lists}
 use Rattle.ordering.specs.Lines.{Reads}
+use Rattle.sheet.proofs.SheetLaws.{spot-behind}
 use Rattle.ordering.proofs.FactLaws.{mark-found, mark-is}
-use Rattle.ordering.proofs.RangeLaws.{Ranged, ranged-low, ranged-high, ranged-lower, ranged-unless, ranged-tokens, ranged-order, lower-right-zero, Taken}
-use Rattle.ordering.proofs.StepLaws.{spot-behind, line-taken, line-listed, Placed, placed-is, placed-lines, placed-small}
+use Rattle.ordering.proofs.RangeLaws.{Ranged, ranged-low, ranged-high, ranged-lower, ranged-unless, ranged-tokens, ranged-order, lower-left-zero, lower-right-zero, Taken}
+use Rattle.ordering.proofs.StepLaws.{line-taken, line-listed, Placed, placed-is, placed-lines, placed-small}
 
 -- ## Names
 
@@ -65,7 +66,7 @@ record Shaped (m : List ℕ) : Type 0 where
 -- what stands and is not declared is a character
 stands-alone : (w : List ℕ) (ds : List Decl) (cs : List Declaration) → Says w ds cs → (m : List ℕ) → stands cs (subjectOf m) ≡ true
     → first (item (subjectOf m)) ds ≡ Nothing → Shaped m
-unfolding subjectOf stands
+unfolding subjectOf stands knownIn
 stands-alone w ds cs s m h e =
     by (charShaped m)
     (λ t. record { code = codeOf m; is = rw t; shaped = t })
@@ -144,6 +145,10 @@ module _ (g : Signs) (src : List ℕ) (at : ℕ) (q : Spot) (t : Tok) (e : LineE
             let c = orderLine s number (subjectIn g src t) (operandsFrom g src (t .next)) .refusal in
             let d = tokensRefusal (operandsFrom g src (t .next)) in
             lower-right-zero d c (lower-right-zero (t .refusal) (lower d c) (lower-right-zero (2 unless e .text) (lower (t .refusal) (lower d c)) (refusal-is cs s o ∙ z)));
+        tokens = λ z.
+            let c = orderLine (so .state) number (subjectIn g src t) (operandsFrom g src (t .next)) .refusal in
+            let d = tokensRefusal (operandsFrom g src (t .next)) in
+            lower-left-zero d c (lower-right-zero (t .refusal) (lower d c) (lower-right-zero (2 unless e .text) (lower (t .refusal) (lower d c)) (refusal-is (so .chains) (so .state) (so .held) ∙ z)));
         low = ranged-low y (ranged so);
         high = ranged-high y (ranged so);
       }
@@ -221,4 +226,4 @@ module _ (g : Signs) (src : List ℕ) (at : ℕ) (q : Spot) (t : Tok) (e : LineE
     pub name-listed : (w″ : List ℕ) (st : Step) → Lists w′ sh m number (t .next .at) e w″ st → StepIs g src w sh at number depth w″ st
     name-listed w″ st a =
         line-listed v z (l .line) (l .inside) there depth (t .next .at) w″ st
-        (spot-behind (t .next) name-plain (l .token .edge (let k = l .name in omega (arith, k)))) name-some a
+        (spot-behind (t .next) name-plain (l .token .edge (let k = l .name in omega (arith, k)))) name-some name-next a

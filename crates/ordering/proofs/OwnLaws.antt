@@ -16,8 +16,8 @@ use Rattle.rules.specs.OrderLines.{operandList, stands, weightsRefusal, orderLi
 use Rattle.lines.specs.declared.Signs.{Signs}
 use Rattle.lines.specs.declared.Spot.{Spot}
 use Rattle.tokens.specs.Left.{tokensLeft}
-use Rattle.tokens.proofs.RefusalLaws.{lower-assoc, lower-none-left}
-use Rattle.weights.proofs.LateLaws.{Late, late-lower, late-unless, late-tokens, late-weights, three-left, three-right}
+use Rattle.tokens.proofs.RefusalLaws.{lower-assoc, lower-none-left, Late, late-lower, late-unless, late-tokens, three-left, three-right}
+use Rattle.weights.proofs.LateLaws.{late-weights}
 use Rattle.weights.proofs.ByLaws.{weights-paper}
 use Rattle.standing.specs.declared.Counted.{Counted}
 use Rattle.standing.specs.Refusing.{Counts}

@@ -116,6 +116,7 @@ module _ (s : State) (number : ℕ) (x : Subject) (os : List Token) where
     pub rank : eqb (rankOf (s .ordered .lines) x) 0 ≡ true
     pub stood : stands (s .declared) x ≡ true
     pub room : ltb (length (s .ordered .lines)) 32767 ≡ true
+    pub weights : weightsRefusal (s .declared) (operandList os) ≡ 0
 
   pub taken : orderLine s number x os .refusal ≡ 0 → Taken
   unfolding orderLine lowest
@@ -136,4 +137,5 @@ module _ (s : State) (number : ℕ) (x : Subject) (os : List Token) where
         rank = unless-zero 5 (eqb (rankOf (s .ordered .lines) x) 0) (omega arith) (lower-left-zero (5 unless eqb (rankOf (s .ordered .lines) x) 0) c6 h2);
         stood = unless-zero 6 (stands (s .declared) x) (omega arith) (lower-left-zero (6 unless stands (s .declared) x) c7 h3);
         room = and-right (leb (length ws) (length (s .ordered .rules))) _ (unless-zero 7 d (omega arith) (lower-left-zero (7 unless d) 0 h4));
+        weights = lower-left-zero (weightsRefusal (s .declared) ws) c5 h1;
       }

@@ -7,8 +7,8 @@ use native.Mathlib.Omega.{arith}
 use lib.ListN.{length, getD, set, length-set}
 use lib.Dec.{eqb}
 use borrow.Author.Tests.{eqb-true, ltb-true}
-use Rattle.lists.proofs.Bools.{by}
 use Rattle.rules.specs.Lines.{outside}
+use Rattle.rules.specs.Tokens.{tokensRefusal}
 use Rattle.rules.specs.State.{Subject, Chain, State, Outcome, gives, withOrdered}
 use Rattle.rules.specs.OrderLines.{operandList, weightsOf, rankOf, orderLine}
 use Rattle.lines.specs.declared.Signs.{Signs}
@@ -16,16 +16,14 @@ use Rattle.lines.specs.declared.Spot.{Spot}
 use Rattle.lines.specs.declared.LineEnd.{LineEnd}
 use Rattle.lines.specs.Stream.{lineStart, LineIs}
 use Rattle.store.specs.declared.Found.the-variants.{At}
-use Rattle.store.specs.Store.{isPlace}
-use Rattle.store.proofs.ListLaws.{place-within}
 use Rattle.rows.specs.Cells.{cellAt, cell}
 use Rattle.listed.specs.declared.Order.{Order}
 use Rattle.listed.specs.Listed.{lineNumber, placeNumber, Row, SomeLines, linkedTo, longer, withLine}
 use Rattle.listed.proofs.ListLaws.{link-length}
-use Rattle.known.specs.Known.{undefinedMark, behind, isRow, markOf, IsListed, Known}
-use Rattle.known.proofs.MarkLaws.{marked-subject, mark-row}
+use Rattle.known.specs.Known.{behind, isRow, markOf, IsListed, Known}
+use Rattle.known.proofs.MarkLaws.{row-in, marked-subject, mark-row}
 use Rattle.known.proofs.RankLaws.{rank-none}
-use Rattle.known.proofs.LineLaws.{last-has, newLine, Unlisted, known-line}
+use Rattle.known.proofs.LineLaws.{last-has, newLine, Unlisted, Follows, known-line}
 use Rattle.sheet.specs.declared.Sheet.{Sheet}
 use Rattle.sheet.specs.declared.Step.{Step}
 use Rattle.sheet.specs.declared.Step.the-variants.{Refused}
@@ -46,11 +44,6 @@ some-known g src w sh at depth o = record {
   ordered = o .state .ordered .lines;
   known = o .held .known;
 }
-
--- right after an order line's subject
-pub spot-behind : (p : Spot) → p .mode ≡ outside → p .fresh ≡ false → p ≡ behind (p .at)
-spot-behind p m f =
-    ap (λ (y : ℕ). record { at = p .at; mode = y; fresh = p .fresh }) m ∙ ap (λ (y : Bool). record { at = p .at; mode = outside; fresh = y }) f
 
 -- ## What a line is read as
 
@@ -89,16 +82,9 @@ module _ {g : Signs} {src w : List ℕ} {sh : Sheet} {x : Subject} {next : ℕ} 
   placed-row : isRow (length src) (k .known .ds) m ≡ true
   placed-row = mark-row g src w′ (k .n) (k .known .ds) (k .known .holds) (k .known .once) m x (k .mark)
 
-  -- a row stands in the source, or right behind it
-  row-in : (u : ℕ) → isRow (length src) (k .known .ds) u ≡ true → u / 16 ≤ length src / 8 + 1
-  row-in u r =
-      by (isPlace u (k .known .ds))
-      (λ t. let i = place-within (k .known .holds) u t in omega (arith, i))
-      (λ t. let z = eqb-true u (undefinedMark (length src)) (rw t at r) in omega (arith, z))
-
   pub placed-is : Row w′ m
   placed-is =
-      let i = row-in m placed-row in
+      let i = row-in (k .known .holds) m placed-row in
       let r = k .known .holds .roomy .room in
       record { some = k .some; inside = omega (arith, i, r) }
 
@@ -106,7 +92,7 @@ module _ {g : Signs} {src w : List ℕ} {sh : Sheet} {x : Subject} {next : ℕ} 
   placed-lines = record { marks = k .known .marks; lines = k .known .lines }
 
   pub placed-small : m < 4294967296
-  placed-small = let i = row-in m placed-row in let r = k .known .holds .roomy .few in omega (arith, i, r)
+  placed-small = let i = row-in (k .known .holds) m placed-row in let r = k .known .holds .roomy .few in omega (arith, i, r)
 
   -- it has no order line yet
   placed-unlisted : eqb (rankOf (s .ordered .lines) x) 0 ≡ true → Unlisted (length src) w′ (k .known .ds) m
@@ -125,9 +111,9 @@ module _ {g : Signs} {src w : List ℕ} {sh : Sheet} {x : Subject} {next : ℕ} 
   last-in : (sh .order .last ≡ 0 → ⊥) → sh .order .last / 16 ≤ length src / 8 + 1
   last-in z =
       let l = k .known .lines .last in
-      row-in (sh .order .last)
+      row-in (k .known .holds) (sh .order .last)
       (subst (λ (u : ℕ). isRow (length src) (k .known .ds) u ≡ true) (sym l)
-      (last-has (IsListed (length src) w′ (k .known .ds)) (k .known .marks) (k .known .listed) (λ e. z (l ∙ e)) .row))
+      (last-has (IsListed g src w′ (k .known .ds)) (k .known .marks) (k .known .listed) (λ e. z (l ∙ e)) .row))
 
   module _ {cs : List Chain} {at : ℕ} (o : Open g src w sh cs at s) (inside : at < length src) (number place : ℕ) (t : Taken s number x (operandsFrom g src (behind place))) where
     -- the paper's order line is the one that the row is given
@@ -141,7 +127,7 @@ module _ {g : Signs} {src w : List ℕ} {sh : Sheet} {x : Subject} {next : ℕ} 
           lines = s .ordered .lines ++ record { number = number; subject = y; weights = weightsOf y (s .ordered .rules) (operandList (operandsFrom g src (behind place))) } ∷ [];
         })) e
 
-    placed-open : 1 ≤ place
+    placed-open : Follows g src place
         → Open g src (withLine w′ (sh .order) m number place) (withOrder sh (longer (sh .order) m)) cs next (orderLine s number x (operandsFrom g src (behind place)) .state)
     placed-open h =
         let q = ltb-true (length (s .ordered .lines)) 32767 (t .room) in
@@ -152,7 +138,7 @@ module _ {g : Signs} {src w : List ℕ} {sh : Sheet} {x : Subject} {next : ℕ} 
         (sym (o .phase) ∙ t .phase)
         (known-line g src w′ (sh .order) (s .ordered .rules) (k .n) (s .declared) (s .ordered .lines) (k .known) m number place (placed-unlisted (t .rank)) placed-is h)
         (line-long w′ (sh .order) m number place ∙ k .long)
-        (λ i a. line-behind (length src) w′ (sh .order) m number place (row-in m placed-row) last-in i a ∙ k .beyond i a)
+        (λ i a. line-behind (length src) w′ (sh .order) m number place (row-in (k .known .holds) m placed-row) last-in i a ∙ k .beyond i a)
         (k .rows)
         (omega (arith, q, c)))
 
@@ -161,9 +147,9 @@ module _ {g : Signs} {src w : List ℕ} {sh : Sheet} {x : Subject} {next : ℕ} 
 module _ {g : Signs} {src w : List ℕ} {sh : Sheet} {at number : ℕ} {x : Subject} {p : Spot} {r : ℕ} (v : Reads g src w sh at number x p r) (z : r ≡ 0)
     {e : LineEnd} (l : LineIs g src (lineStart at) e) (inside : at < length src) {w′ : List ℕ} {m : ℕ}
     (k : (cs : List Chain) (s : State) → Open g src w sh cs at s → Placed g src w sh x (e .next) w′ m s) where
-  pub line-listed : (depth place : ℕ) (w″ : List ℕ) (st : Step) → p ≡ behind place → 1 ≤ place → Lists w′ sh m number place e w″ st
+  pub line-listed : (depth place : ℕ) (w″ : List ℕ) (st : Step) → p ≡ behind place → 1 ≤ place → place ≤ length src → Lists w′ sh m number place e w″ st
       → StepIs g src w sh at number depth w″ st
-  line-listed depth place w″ st b h a =
+  line-listed depth place w″ st b h i a =
       subst (StepIs g src w sh at number depth w″) (sym (a .step)) (record {
         moves = record { end = l .end; feeds = l .feeds; on = l .on inside; to = l .to; few = l .few };
         leaves = λ cs s o d u. record {
@@ -172,7 +158,11 @@ module _ {g : Signs} {src w : List ℕ} {sh : Sheet} {at number : ℕ} {x : Subj
               ∙ ap (λ (y : ℕ). gives y (orderLine s number x (operandsFrom g src p) .state)) z
               ∙ ap (λ (y : Spot). gives 0 (orderLine s number x (operandsFrom g src y) .state)) b;
           held = subst (λ (y : List ℕ). Open g src y (withOrder sh (longer (sh .order) m)) cs (e .next) (orderLine s number x (operandsFrom g src (behind place)) .state)) (sym (a .area))
-              (placed-open (k cs s o) o inside number place
-              (subst (λ (y : Spot). Taken s number x (operandsFrom g src y)) b (line-taken v z cs s o)) h);
+              (let t = subst (λ (y : Spot). Taken s number x (operandsFrom g src y)) b (line-taken v z cs s o) in
+              placed-open (k cs s o) o inside number place t (record {
+                some = h;
+                within = i;
+                accepted = record { whole = ap (λ (y : Spot). tokensRefusal (operandsFrom g src y)) (sym b) ∙ v .tokens z; ds = s .declared; each = t .weights };
+              }));
         };
       })

@@ -14,7 +14,7 @@ use Rattle.lines.specs.declared.Spot.{Spot}
 use Rattle.lines.specs.declared.LineEnd.{LineEnd}
 use Rattle.lines.specs.Stream.{marksLeft, lineStart}
 use Rattle.store.specs.declared.Found.the-variants.{At}
-use Rattle.known.specs.Known.{undefinedMark, markOf}
+use Rattle.known.specs.Known.{markOf}
 use Rattle.sheet.specs.declared.Sheet.{Sheet}
 use Rattle.sheet.specs.declared.Step.{Step}
 use Rattle.sheet.specs.Sheets.{Open, SomeOpen, StepIs}
@@ -24,9 +24,11 @@ use Rattle.ordering.specs.declared.Facts.{Facts}
 use Rattle.ordering.specs.Facts.{Rowed, undefinedFacts, OwnRefused, Ready, Lists}
 use Rattle.sheet.specs.Words.{WordLine}
 use Rattle.ordering.specs.Lines.{Reads}
+use Rattle.sheet.proofs.SheetLaws.{spot-behind}
 use Rattle.ordering.proofs.FactLaws.{undefined-are}
-use Rattle.ordering.proofs.RangeLaws.{Ranged, ranged-low, ranged-high, ranged-lower, ranged-unless, ranged-tokens, ranged-order, lower-right-zero}
-use Rattle.ordering.proofs.StepLaws.{spot-behind, line-taken, line-listed, Placed, placed-is, placed-lines, placed-small}
+use Rattle.ordering.proofs.RangeLaws.{Ranged, ranged-low, ranged-high, ranged-lower, ranged-unless, ranged-tokens, ranged-order, lower-left-zero, lower-right-zero}
+use Rattle.ordering.proofs.StepLaws.{line-taken, line-listed, Placed, placed-is, placed-lines, placed-small}
+use Rattle.store.specs.Store.{undefinedMark}
 
 -- the line of that word is an order line
 undefined-collate : (s : State) (number : ℕ) (os : List Token) → collateLine s number (bytes "UNDEFINED") os ≡ orderLine s number undefined os
@@ -68,6 +70,10 @@ module _ (g : Signs) (src : List ℕ) (at : ℕ) (p : Spot) (e : LineEnd) (l : W
           let c = orderLine s number undefined (operandsFrom g src p) .refusal in
           let d = tokensRefusal (operandsFrom g src p) in
           lower-right-zero d c (lower-right-zero (2 unless e .text) (lower d c) (refusal-is cs s o ∙ z));
+      tokens = λ z.
+          let c = orderLine (so .state) number undefined (operandsFrom g src p) .refusal in
+          let d = tokensRefusal (operandsFrom g src p) in
+          lower-left-zero d c (lower-right-zero (2 unless e .text) (lower d c) (refusal-is (so .chains) (so .state) (so .held) ∙ z));
       low = ranged-low y (ranged so);
       high = ranged-high y (ranged so);
     }
@@ -105,4 +111,4 @@ module _ (g : Signs) (src : List ℕ) (at : ℕ) (p : Spot) (e : LineEnd) (l : W
     undefined-listed w″ st a =
         let c = l .long in
         let n = nine in
-        line-listed v z (l .line) (l .inside) there depth (p .at) w″ st (spot-behind p (l .plain) (l .edge)) (omega (arith, c, n)) a
+        line-listed v z (l .line) (l .inside) there depth (p .at) w″ st (spot-behind p (l .plain) (l .edge)) (omega (arith, c, n)) (l .to) a

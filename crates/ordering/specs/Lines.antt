@@ -3,7 +3,7 @@ use mathlib.Core.Path.{_≡_}
 use mathlib.Core.Bool.{true}
 use mathlib.Core.List.{List}
 use Prim.Native.Nat.{ℕ, _≤_}
-use Rattle.rules.specs.Tokens.{operands}
+use Rattle.rules.specs.Tokens.{tokensRefusal}
 use Rattle.rules.specs.State.{Subject, Chain, State, gives}
 use Rattle.rules.specs.OrderLines.{orderLine}
 use Rattle.lines.specs.declared.Signs.{Signs}
@@ -17,5 +17,6 @@ pub record Reads (g : Signs) (src w : List ℕ) (sh : Sheet) (at number : ℕ) (
   pub outcome : (cs : List Chain) (s : State) → Open g src w sh cs at s → isUsed cs ≡ true
       → outcomeOf g src at s number ≡ gives r (orderLine s number x (operandsFrom g src p) .state)
   pub none : r ≡ 0 → (cs : List Chain) (s : State) → Open g src w sh cs at s → orderLine s number x (operandsFrom g src p) .refusal ≡ 0
+  pub tokens : r ≡ 0 → tokensRefusal (operandsFrom g src p) ≡ 0
   pub low : (r ≡ 0 → ⊥) → 2 ≤ r
   pub high : r ≤ 7

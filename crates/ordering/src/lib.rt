@@ -12,8 +12,7 @@ ghost use Rattle.rules.specs.State.{inOrder, undefined};
 ghost use Rattle.tokens.specs.Left.{tokensLeft, isInside};
 ghost use Rattle.subjects.specs.Keys.{keyAt, subjectLeft};
 ghost use Rattle.store.specs.declared.Found.the-variants.{At};
-ghost use Rattle.store.specs.Store.{Finds, Roomy};
-ghost use Rattle.known.specs.Known.{undefinedMark};
+ghost use Rattle.store.specs.Store.{undefinedMark, Finds, Roomy};
 ghost use Rattle.known.proofs.RankLaws.{isOrdered};
 ghost use Rattle.sheet.specs.Names.{subjectIn, NameLine};
 ghost use Rattle.sheet.specs.Sheets.{SomeOpen, StepIs};
@@ -79,7 +78,7 @@ fn is_listed(work: &[u32], f: Found) -> bool
 }
 
 // What is told of the name at a spot, where f is found for it.
-pub fn name_facts(src: &[u8], g: Signs, work: &[u32], p: Spot, f: Found) -> Facts
+fn name_facts(src: &[u8], g: Signs, work: &[u32], p: Spot, f: Found) -> Facts
     requires { ⌜ (p .at ≤ length (now src)) × (isInside (p .mode) ≡ true) ⌝ }
     requires { ⌜ SomeKnown g (now src) (now work) × Finds (keyAt g (now src)) (length (now src)) (now work) (keyAt g (now src) (2 * p .at)) f ⌝ }
     ensures { λ r. ⌜ FactsOf g (now (src .entry)) (now (work .entry)) (subjectLeft g (now (src .entry)) p) r ⌝ }
@@ -140,7 +139,7 @@ fn late_refusal(k: Facts, operands: usize, levels: usize, count: usize) -> u8
 }
 
 // The refusal of an order line whose subject has these facts, and of its operands, which follow the spot p.
-pub fn own_refusal(src: &[u8], g: Signs, work: &[u32], sh: Sheet, p: Spot, k: Facts) -> u8
+fn own_refusal(src: &[u8], g: Signs, work: &[u32], sh: Sheet, p: Spot, k: Facts) -> u8
     requires { ⌜ (p .at ≤ length (now src)) × (p .mode ≡ outside) ⌝ }
     requires { ⌜ SomeKnown g (now src) (now work) ⌝ }
     ensures { λ r. ⌜ OwnRefused g (now (src .entry)) (now (work .entry)) sh p k r ⌝ }

@@ -1,19 +1,18 @@
 -- Reading a passed-over line byte by byte: the turns of the loops to its next byte, past blanks, and beside a word.
-use mathlib.Core.Path.{_≡_, refl, sym, ap, _∙_, subst}
+use mathlib.Core.Path.{_≡_, refl, sym, _∙_, subst}
 use mathlib.Core.Bool.{Bool, true, false}
-use mathlib.Core.List.{List, [], _∷_}
+use mathlib.Core.List.{List, []}
 use Prim.Native.Nat.{ℕ, _+_, _-_, _≤_, _<_}
 use native.Mathlib.Numerals.{add-one}
 use native.Mathlib.Nat.{le-of-eq}
 use native.Mathlib.Omega.{arith}
 use lib.ListN.{length, getD, drop, drop-of-length-le}
 use lib.Seq.{drop-cons}
-use lib.Dec.{eqb}
 use borrow.Author.Tests.{eq-eqb, ne-eqb, le-leb, lt-leb}
 use Rattle.rules.specs.Text.{same}
 use Rattle.rules.specs.Names.{isBlank}
 use Rattle.rules.specs.Tokens.{withoutBlanks, plainMarks}
-use Rattle.rules.proofs.TextLaws.{same-true, same-refl}
+use Rattle.rules.proofs.TextLaws.{same-true}
 use Rattle.lines.specs.declared.Signs.{Signs}
 use Rattle.lines.specs.declared.Spot.{Spot}
 use Rattle.lines.specs.declared.Step.{Step}

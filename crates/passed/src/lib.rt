@@ -3,16 +3,12 @@ ghost use mathlib.Core.Path.{_≡_};
 ghost use Prim.Native.Nat.{_≤_, _<_};
 ghost use lib.ListN.{length};
 ghost use Rattle.rules.specs.Text.{same};
-ghost use Rattle.lines.specs.Stream.{marksLeft};
-ghost use Rattle.tokens.specs.Left.{wordIn};
 ghost use Rattle.passed.specs.Words.{plainLeft, wordsLeft, firstWord, areTwo, PlainIs, Skips, ComparedIs, onlyBlanks};
 use lines::Signs;
 use lines::Spot;
 use lines::Step;
 use lines::is_blank;
 use lines::next_mark;
-use tokens::WordStep;
-use tokens::word_byte;
 
 // The next byte of a line with no escape before it, and the spot after it.
 pub enum Plain {
@@ -118,44 +114,6 @@ pub fn first_word_is(src: &[u8], g: Signs, p: Spot, w: &[u8]) -> bool
     }
 }
 
-// Whether the run at a spot is the word at another.
-fn run_is_word(src: &[u8], g: Signs, p: Spot, c: Spot) -> Compared
-    requires { ⌜ (p .at ≤ length (now src)) × (c .at ≤ length (now src)) ⌝ }
-    ensures { λ r. ⌜ ComparedIs g (now (src .entry)) (wordIn (marksLeft g (now (src .entry)) c)) p r ⌝ }
-{
-    let mut q = p;
-    let mut d = c;
-    loop {
-        let s = plain_byte(src, g, q);
-        let t = word_byte(src, g, d);
-        match s {
-            Plain::End => match t {
-                WordStep::End => return Compared::Same(q),
-                WordStep::Byte(_, _) => return Compared::Other,
-            },
-            Plain::Byte(m, r) => {
-                if is_blank(m) {
-                    match t {
-                        WordStep::End => return Compared::Same(q),
-                        WordStep::Byte(_, _) => return Compared::Other,
-                    }
-                }
-                match t {
-                    WordStep::End => return Compared::Other,
-                    WordStep::Byte(b, e) => {
-                        if m == b {
-                            q = r;
-                            d = e;
-                        } else {
-                            return Compared::Other;
-                        }
-                    }
-                }
-            }
-        }
-    }
-}
-
 // Whether only blanks are left.
 fn only_blanks(src: &[u8], g: Signs, p: Spot) -> bool
     requires { ⌜ p .at ≤ length (now src) ⌝ }
@@ -181,26 +139,6 @@ pub fn words_are(src: &[u8], g: Signs, p: Spot, a: &[u8], b: &[u8]) -> bool
         Compared::Same(r) => {
             let s = skip_blanks(src, g, r);
             let d = run_is(src, g, s, b);
-            match d {
-                Compared::Other => return false,
-                Compared::Same(t) => return only_blanks(src, g, t),
-            }
-        }
-    }
-}
-
-// Whether the words of the line are a and the word at a spot alone, each of a byte or more.
-pub fn words_are_at(src: &[u8], g: Signs, p: Spot, a: &[u8], w: Spot) -> bool
-    requires { ⌜ (p .at ≤ length (now src)) × (w .at ≤ length (now src)) × (0 < length (now a)) × (0 < length (wordIn (marksLeft g (now src) w))) ⌝ }
-    ensures { λ r. ⌜ r ≡ areTwo (wordsLeft g (now (src .entry)) p) (now (a .entry)) (wordIn (marksLeft g (now (src .entry)) w)) ⌝ }
-{
-    let q = skip_blanks(src, g, p);
-    let c = run_is(src, g, q, a);
-    match c {
-        Compared::Other => return false,
-        Compared::Same(r) => {
-            let s = skip_blanks(src, g, r);
-            let d = run_is_word(src, g, s, w);
             match d {
                 Compared::Other => return false,
                 Compared::Same(t) => return only_blanks(src, g, t),

@@ -175,7 +175,7 @@ unfolding weightNumbers
 weights-append [] x y = refl
 weights-append (i ∷ is) x y = rw (append-assoc (flatten (i .weights)) (weightNumbers is x) y, weights-append is x y)
 
-stored-append : (m : Meaning) (x y : List ℕ) → storedForm m x ++ y ≡ storedForm m (x ++ y)
+pub stored-append : (m : Meaning) (x y : List ℕ) → storedForm m x ++ y ≡ storedForm m (x ++ y)
 unfolding storedForm
 stored-append m x y =
     rw (

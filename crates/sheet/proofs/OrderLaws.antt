@@ -9,15 +9,18 @@ use lib.Seq.{getD-set-other}
 use lib.Dec.{eqb}
 use borrow.Author.Tests.{eqb-false}
 use Rattle.lists.proofs.Bools.{by}
+use Rattle.rules.specs.Tokens.{operands}
 use Rattle.rules.specs.Meaning.{Rule}
 use Rattle.rules.specs.State.{beforeOrder, inOrder, Chain, State, withDeclared, withOrdered, toPhase, Declaration, OrderLine}
 use Rattle.lines.specs.declared.Signs.{Signs}
+use Rattle.tokens.specs.Left.{tokensLeft}
+use Rattle.levels.specs.Levels.{startRefusal}
 use Rattle.toggles.proofs.AreaLaws.{kept-same, toggles-same}
 use Rattle.rows.specs.Cells.{cellAt}
 use Rattle.store.specs.Store.{headsOf}
 use Rattle.listed.specs.declared.Order.{Order}
 use Rattle.listed.specs.Listed.{lineNumber, placeNumber, nextNumber, linkedTo, withLine}
-use Rattle.known.specs.Known.{Known}
+use Rattle.known.specs.Known.{behind, Known}
 use Rattle.known.proofs.NewLaws.{known-rules}
 use Rattle.sheet.specs.declared.Sheet.{Sheet}
 use Rattle.sheet.specs.Sheets.{togglesAt, rulesAt, Open}
@@ -25,11 +28,12 @@ use Rattle.sheet.specs.Sheets.{togglesAt, rulesAt, Open}
 -- ## order_start
 
 module _ (g : Signs) (src w : List ℕ) (sh : Sheet) (cs : List Chain) (at : ℕ) (s : State) (o : Open g src w sh cs at s) (inside : at < length src) (next : ℕ) where
-  pub open-ordered : (place l : ℕ) (rs : List Rule) → sh .phase ≡ beforeOrder → rs ≡ rulesAt g src place → place ≤ length src → length rs ≡ l
+  pub open-ordered : (place l : ℕ) (rs : List Rule) → sh .phase ≡ beforeOrder → rs ≡ rulesAt g src place
+      → startRefusal (operands (tokensLeft g src (behind place))) ≡ 0 → place ≤ length src → length rs ≡ l
       → (next < length src → at + 12 ≤ next)
       → Open g src w (record { phase = 4; toggles = sh .toggles; rules = place; levels = l; order = sh .order }) cs next
       (withOrdered (toPhase s inOrder) (record { rules = rs; lines = [] }))
-  open-ordered place l rs p e i m far = record {
+  open-ordered place l rs p e c i m far = record {
     comment = o .comment;
     escape = o .escape;
     phase = refl;
@@ -44,6 +48,7 @@ module _ (g : Signs) (src w : List ℕ) (sh : Sheet) (cs : List Chain) (at : ℕ
     rows = λ h. let r : o .n ≤ (at + 5) / 8 = rw p at (o .rows inside) in let f = far h in omega (arith, r, f);
     unordered = λ x. absurd (false≢true x);
     rules = λ x. e;
+    started = λ x. c;
     ruled = i;
     levels = m;
     few = o .few;
@@ -69,6 +74,7 @@ module _ (g : Signs) (src w : List ℕ) (sh : Sheet) (cs : List Chain) (at : ℕ
     rows = λ h. rw p (r h);
     unordered = o .unordered;
     rules = o .rules;
+    started = o .started;
     ruled = o .ruled;
     levels = o .levels;
     few = o .few;
@@ -95,6 +101,7 @@ module _ (g : Signs) (src w : List ℕ) (sh : Sheet) (cs : List Chain) (at : ℕ
     rows = λ h. rw p (r h);
     unordered = λ x. absurd (false≢true (sym (ap (λ (y : ℕ). eqb y beforeOrder) p) ∙ x));
     rules = o .rules;
+    started = o .started;
     ruled = o .ruled;
     levels = o .levels;
     few = c;

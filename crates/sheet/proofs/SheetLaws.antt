@@ -1,6 +1,6 @@
 -- The state that the area and the sheet hold: that a line is read whole, and what stays where a line changes one part.
-use mathlib.Core.Path.{_≡_, refl}
-use mathlib.Core.Bool.{true, false, and-false, false≢true}
+use mathlib.Core.Path.{_≡_, refl, ap, _∙_}
+use mathlib.Core.Bool.{Bool, true, false, and-false, false≢true}
 use mathlib.Core.List.{List, [], _∷_}
 use Prim.Native.Nat.{ℕ, _+_, _/_, _≤_, _<_}
 use native.Mathlib.Omega.{arith}
@@ -8,11 +8,14 @@ use lib.ListN.{length, getD}
 use lib.Dec.{eqb, ltb}
 use borrow.Author.Tests.{ne-eqb, leb-true}
 use Rattle.lists.proofs.Bools.{by}
+use Rattle.rules.specs.Lines.{outside}
 use Rattle.rules.specs.State.{inOtherCategory, beforeOrder, inOrder, afterOrder, Chain, State, withBlocks, inPhase, toPhase}
 use Rattle.rules.specs.Conditionals.{blocks, isUnused}
 use Rattle.rules.specs.Source.{lineOutcome, wholeLine}
 use Rattle.lines.specs.declared.Signs.{Signs}
+use Rattle.lines.specs.declared.Spot.{Spot}
 use Rattle.toggles.specs.Kept.{togglesIn, Kept}
+use Rattle.known.specs.Known.{behind}
 use Rattle.known.proofs.NewLaws.{known-behind}
 use Rattle.sheet.specs.declared.Sheet.{Sheet}
 use Rattle.sheet.specs.Sheets.{togglesAt, rowsBefore, Open, isUsed}
@@ -44,6 +47,13 @@ rows-rise phase at next n h r =
 pub rows-ordered : (at next n : ℕ) → at + 12 ≤ next → n ≤ rowsBefore beforeOrder at → n ≤ rowsBefore inOrder next
 rows-ordered at next n h r = omega (arith, h, r)
 
+-- ## Spots
+
+-- the spot after a line's first token
+pub spot-behind : (p : Spot) → p .mode ≡ outside → p .fresh ≡ false → p ≡ behind (p .at)
+spot-behind p m f =
+    ap (λ (y : ℕ). record { at = p .at; mode = y; fresh = p .fresh }) m ∙ ap (λ (y : Bool). record { at = p .at; mode = outside; fresh = y }) f
+
 -- ## What stays
 
 module _ (g : Signs) (src w : List ℕ) (sh : Sheet) (cs : List Chain) (at : ℕ) (s : State) (o : Open g src w sh cs at s) (inside : at < length src) (next : ℕ) (on : at ≤ next) where
@@ -64,6 +74,7 @@ module _ (g : Signs) (src w : List ℕ) (sh : Sheet) (cs : List Chain) (at : ℕ
     rows = λ h. rows-rise (sh .phase) at next (o .n) on (o .rows inside);
     unordered = o .unordered;
     rules = o .rules;
+    started = o .started;
     ruled = o .ruled;
     levels = o .levels;
     few = o .few;
@@ -89,6 +100,7 @@ module _ (g : Signs) (src w : List ℕ) (sh : Sheet) (cs : List Chain) (at : ℕ
     rows = λ h. rows-rise (sh .phase) at next (o .n) on (o .rows inside);
     unordered = o .unordered;
     rules = o .rules;
+    started = o .started;
     ruled = o .ruled;
     levels = o .levels;
     few = o .few;
@@ -112,6 +124,7 @@ module _ (g : Signs) (src w : List ℕ) (sh : Sheet) (cs : List Chain) (at : ℕ
     rows = λ h. rows-rise afterOrder at next (o .n) on (let r = o .rows inside in rw p at r);
     unordered = λ e. absurd (false≢true e);
     rules = λ e. o .rules (rw p);
+    started = λ e. o .started (rw p);
     ruled = o .ruled;
     levels = o .levels;
     few = o .few;

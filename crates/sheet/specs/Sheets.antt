@@ -15,6 +15,7 @@ use Rattle.rules.specs.Source.{lineOutcome}
 use Rattle.lines.specs.declared.Signs.{Signs}
 use Rattle.lines.specs.Stream.{lineLeft, marksLeft, lineStart}
 use Rattle.tokens.specs.Left.{tokensLeft}
+use Rattle.levels.specs.Levels.{startRefusal}
 use Rattle.toggles.specs.Kept.{togglesIn, Kept}
 use Rattle.known.specs.Known.{behind, Known}
 use Rattle.sheet.specs.declared.Sheet.{Sheet}
@@ -53,6 +54,7 @@ pub record Open (g : Signs) (src w : List ℕ) (sh : Sheet) (cs : List Chain) (a
   pub rows : at < length src → n ≤ rowsBefore (sh .phase) at
   pub unordered : eqb (sh .phase) beforeOrder ≡ true → sh .order .count ≡ 0
   pub rules : eqb (sh .phase) beforeOrder ≡ false → s .ordered .rules ≡ rulesAt g src (sh .rules)
+  pub started : eqb (sh .phase) beforeOrder ≡ false → startRefusal (operands (tokensLeft g src (behind (sh .rules)))) ≡ 0
   pub ruled : sh .rules ≤ length src
   pub levels : length (s .ordered .rules) ≡ sh .levels
   pub few : sh .order .count ≤ 32767

@@ -1,8 +1,6 @@
 // The comment and the escape character of a source: which bytes may be one, and the two in force. For both readers of sources.
 ghost use mathlib.Core.Path.{_≡_};
-ghost use mathlib.Core.Bool.{not, _&&_, _||_};
-ghost use mathlib.Core.List.{[], _∷_};
-ghost use lib.Dec.{eqb};
+ghost use mathlib.Core.Bool.{_||_};
 ghost use Rattle.rules.specs.Text.{within, _unless_};
 ghost use Rattle.rules.specs.Lines.{isSign, defaults, signRefusal, signSet};
 ghost use Rattle.signs.specs.Force.{isFree, isLater, charsAs, operand};

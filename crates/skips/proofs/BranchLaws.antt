@@ -1,19 +1,18 @@
 -- The lines of an unused branch: what each kind of line does there, and the turns of the loop over them.
 use mathlib.Core.Path.{_≡_, refl, sym, ap, _∙_, subst}
-use mathlib.Core.Bool.{Bool, true, false, _||_, and-false, or-true}
+use mathlib.Core.Bool.{Bool, true, false, and-false, or-true}
 use mathlib.Core.List.{List, [], _∷_}
 use Prim.Native.Nat.{ℕ, suc, pred, _+_, _-_, _≤_, _<_}
 use native.Mathlib.Omega.{arith}
 use lib.ListN.{length, getD, drop}
 use lib.Dec.{eqb, ltb}
-use borrow.Author.Tests.{leb-true, lt-ltb, le-ltb, eq-eqb, eqb-true, ne-eqb}
-use Rattle.lists.proofs.Bools.{cond-true, cond-false, by, clash, or-false-intro}
+use borrow.Author.Tests.{leb-true, lt-ltb, le-ltb, eq-eqb, ne-eqb}
+use Rattle.lists.proofs.Bools.{cond-true, cond-false}
 use Rattle.rules.specs.Text.{if_then_else_, is, _unless_}
 use Rattle.rules.specs.Tokens.{plainMarks, wordsOf}
 use Rattle.rules.specs.State.{beforeOrder, betweenCategories, inOtherCategory, Chain, State, withBlocks, inPhase, inCollate, Outcome, gives}
 use Rattle.rules.specs.Conditionals.{blocks, chain, isUnused}
 use Rattle.rules.specs.Source.{signs, otherLine, unusedLine, wholeLine, lineOutcome, linesFrom}
-use Rattle.rules.proofs.RunLaws.{outcomeAt}
 use Rattle.lines.specs.declared.Signs.{Signs}
 use Rattle.lines.specs.declared.LineEnd.{LineEnd}
 use Rattle.lines.specs.Stream.{plainSigns, lineStart, marksLeft, LineIs}
@@ -23,7 +22,7 @@ use Rattle.skips.specs.declared.Kind.the-variants as kind
 use Rattle.skips.specs.declared.Turn.{Turn}
 use Rattle.skips.specs.declared.Turn.the-variants as turn
 use Rattle.skips.specs.Passing.{Unused, Begins, opens, branches, turns, KindIs, opened, TurnOn, TurnOwn, TurnDeep, TurnIs, BranchStops, BranchRefused}
-use Rattle.skips.proofs.LineRuns.{collate-signs, outcome-there, run-passed, run-refuses, run-unended, refuses-from}
+use Rattle.skips.proofs.LineRuns.{collate-signs, run-passed, run-refuses, run-unended, refuses-from}
 
 -- ## States in an unused branch
 
@@ -273,12 +272,3 @@ module _ {g : Signs} {src : List ℕ} {at number depth i n total : ℕ} (v : InB
           run = λ s u. v .run s u
               ∙ run-passed g src i n (opened depth total s) (opened-signs g depth total s u) (opened depth o s) x h l (p .outcome s u n);
         }
-
--- the line at which a branch stops is read whole
-pub stop-outcome : {g : Signs} {src : List ℕ} {at number depth next n : ℕ} → BranchStops g src at number depth next n → (s : State) → Unused g depth s
-    → outcomeAt s n (drop next src) ≡ wholeLine s n (marksLeft g src (lineStart next))
-stop-outcome {g} {src} {next = next} {n} h s u = outcome-there g src next n s (collate-signs g s (u .comment) (u .escape) (u .inside)) ∙ h .own s u n
-
--- a branch that does not end is refused by 3, unless it is by 7
-pub refused-three : {g : Signs} {src : List ℕ} {at number depth r l : ℕ} → BranchRefused g src at number depth r l → (r ≡ 7 → ⊥) → r ≡ 3
-refused-three {r = r} h n = by (eqb r 3) (λ t. eqb-true r 3 t) (λ t. clash (h .kinds) (or-false-intro t (ne-eqb r 7 n)))

@@ -7,9 +7,9 @@ ghost use Rattle.passed.specs.Words.{firstWord};
 ghost use Rattle.skips.specs.Passing.{KindIs, Begins, TurnIs, BranchIs, Named, nameAt, Copies, isEnd, CategoryIs};
 use lines::Signs;
 use lines::Spot;
-use lines::line_end;
 use passed::first_word_is;
 use passed::words_are;
+use reader::line_at;
 use tokens::WordStep;
 use tokens::word_byte;
 
@@ -111,12 +111,7 @@ pub fn skip_branch(src: &[u8], g: Signs, at: usize, number: usize, depth: usize)
             Turn::Own => return Skip::Stop(i, n),
             Turn::Deep => return Skip::Refused(7, n),
             Turn::On(o) => {
-                let p = Spot {
-                    at: i,
-                    mode: 0,
-                    fresh: true,
-                };
-                let e = line_end(src, g, p);
+                let e = line_at(src, g, i);
                 i = e.next;
                 n += e.feeds;
                 total = o;
@@ -147,12 +142,7 @@ fn skip_named(src: &[u8], g: Signs, at: usize, number: usize, name: &[u8]) -> Sk
     let mut i = at;
     let mut n = number;
     while i < src.len() {
-        let p = Spot {
-            at: i,
-            mode: 0,
-            fresh: true,
-        };
-        let e = line_end(src, g, p);
+        let e = line_at(src, g, i);
         let next = e.next;
         let m = n + e.feeds;
         if is_end(src, g, i, name) {

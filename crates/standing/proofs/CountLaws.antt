@@ -16,12 +16,12 @@ use Rattle.rules.specs.OrderLines.{splitAt, operandList, stands, weightsRefusal
 use Rattle.lines.specs.declared.Signs.{Signs}
 use Rattle.lines.specs.declared.Spot.{Spot}
 use Rattle.tokens.specs.Left.{tokensLeft}
-use Rattle.tokens.proofs.RefusalLaws.{lower-none-left, lower-assoc, refusal-broken}
+use Rattle.tokens.proofs.RefusalLaws.{lower-none-left, lower-assoc, three-left, refusal-broken}
 use Rattle.operands.specs.declared.After.{After}
 use Rattle.operands.specs.declared.After.the-variants as after
 use Rattle.operands.specs.Operand.{operandsLeft, OperandsFrom, AfterIs}
 use Rattle.weights.specs.Weights.{weightsRefusalBy}
-use Rattle.weights.proofs.LateLaws.{three-left, late-weights, weights-none}
+use Rattle.weights.proofs.LateLaws.{late-weights, weights-none}
 use Rattle.weights.proofs.ByLaws.{weights-alike, weights-paper}
 use Rattle.subjects.specs.Keys.{keyAt}
 use Rattle.store.specs.Store.{Decl, Holds}
@@ -155,8 +155,3 @@ module _ (g : Signs) (src w : List ℕ) where
 pub refusal-paper : (ds : List Decl) (declared : List Declaration) → ((x : Subject) → standsIn ds x ≡ stands declared x) → (ws : List (List Token))
     → weightsRefusalBy (standsIn ds) ws ≡ weightsRefusal declared ws
 refusal-paper ds declared e ws = weights-alike (standsIn ds) (stands declared) e ws ∙ weights-paper declared ws
-
-pub counts-paper : (g : Signs) (src w : List ℕ) (os : List Token) (ws : List (List Token)) (r : Counted) (n : ℕ) (ds : List Decl) (declared : List Declaration)
-    → Counts g src w os ws r → Holds (keyAt g src) (length src) w n ds → ((x : Subject) → standsIn ds x ≡ stands declared x)
-    → r .refusal ≡ lower (tokensRefusal os) (weightsRefusal declared ws)
-counts-paper g src w os ws r n ds declared v h e = v .refusal n ds h ∙ ap (λ (x : ℕ). lower (tokensRefusal os) x) (refusal-paper ds declared e ws)

@@ -9,7 +9,6 @@ use borrow.Author.Tests.{ne-eqb}
 use Rattle.rules.specs.Text.{every, oneOf}
 use Rattle.rules.specs.Names.{isCharacter}
 use Rattle.rules.specs.Lines.{quoted}
-use Rattle.rules.specs.Tokens.{name}
 use Rattle.rules.specs.State.{Subject, character, named}
 use Rattle.rules.specs.OrderLines.{subjectOf}
 use Rattle.rules.proofs.TextLaws.{oneOf-head-false, oneOf-tail-false}
@@ -30,8 +29,8 @@ use Rattle.subjects.specs.Keys.{Key, item, keyAt, subjectLeft}
 use Rattle.subjects.proofs.SpotLaws.{keyAt-inside}
 use Rattle.store.specs.declared.Found.{Found}
 use Rattle.store.specs.declared.Found.the-variants.{At, Nothing}
-use Rattle.store.specs.Store.{Decl, first, Holds, Finds}
-use Rattle.standing.specs.Standing.{isFound, standsIn, Stands, AllStand, namesOf, Inside}
+use Rattle.store.specs.Store.{Decl, first, isFound, Holds, Finds}
+use Rattle.standing.specs.Standing.{standsIn, Stands, AllStand, namesOf, Inside}
 
 -- ## One name
 

@@ -13,12 +13,12 @@ use Rattle.lines.specs.declared.Signs.{Signs}
 use Rattle.lines.specs.declared.Spot.{Spot}
 use Rattle.tokens.specs.declared.Tok.{Tok}
 use Rattle.tokens.specs.Left.{tokenThere, TokenIs}
-use Rattle.tokens.proofs.RefusalLaws.{lower-none-left, lower-none-right, tokensRefusal-cons}
+use Rattle.tokens.proofs.RefusalLaws.{lower-none-left, lower-none-right, late-lower, late-tokens, three-right, tokensRefusal-cons}
 use Rattle.operands.specs.Operand.{operandsLeft}
 use Rattle.weights.specs.declared.Weight.{Weight}
 use Rattle.weights.specs.declared.Weight.the-variants as weight
 use Rattle.weights.specs.Weights.{weightRefusalBy, weightsRefusalBy, separator, EmptyWeight, OneWeight, BadWeights, WeightIs}
-use Rattle.weights.proofs.LateLaws.{late-lower, late-tokens, late-weight, three-right, weights-cons, weights-none}
+use Rattle.weights.proofs.LateLaws.{late-weight, weights-cons, weights-none}
 use Rattle.weights.proofs.SplitLaws.{split-end}
 use Rattle.weights.proofs.WeightLaws.{lower-four}
 use Rattle.subjects.specs.Keys.{keyAt}

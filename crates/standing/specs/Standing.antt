@@ -1,6 +1,6 @@
 -- What stands, by what the work area holds as declared (Rattle.store.specs.Store): the paper's stands is over its own declarations.
 use mathlib.Core.Path.{_≡_}
-use mathlib.Core.Bool.{Bool, true, false}
+use mathlib.Core.Bool.{Bool, true}
 use mathlib.Core.List.{List, [], _∷_, map}
 use Prim.Native.Nat.{ℕ, _≤_}
 use lib.ListN.{length}
@@ -18,15 +18,10 @@ use Rattle.tokens.specs.declared.Tok.{Tok}
 use Rattle.tokens.specs.Left.{namesIn}
 use Rattle.names.specs.Named.{nameLeft}
 use Rattle.subjects.specs.Keys.{item, keyAt, subjectLeft}
-use Rattle.store.specs.declared.Found.{Found}
-use Rattle.store.specs.declared.Found.the-variants.{At, Nothing}
 use Rattle.store.specs.Store.{Decl, first, Holds}
+use Rattle.store.specs.Store.{isFound}
 
 -- ## What stands
-
-abbrev pub isFound : Found → Bool
-isFound (At p) = true
-isFound Nothing = false
 
 -- a character, or a declared name
 unfoldable pub standsIn : List Decl → Subject → Bool

@@ -8,7 +8,7 @@ use native.Mathlib.Omega.{arith}
 use lib.ListN.{length}
 use Rattle.rules.specs.Text.{bytes, is, same, _unless_, lower}
 use Rattle.rules.specs.Tokens.{word, operands, tokensRefusal}
-use Rattle.rules.specs.State.{Outcome, gives}
+use Rattle.rules.specs.State.{Outcome}
 use Rattle.lines.specs.declared.Signs.{Signs}
 use Rattle.lines.specs.declared.Spot.{Spot}
 use Rattle.lines.specs.declared.LineEnd.{LineEnd}

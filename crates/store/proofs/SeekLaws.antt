@@ -1,4 +1,4 @@
--- Following a chain: the turns of find and find_code.
+-- Following a chain: the turns of find.
 use mathlib.Core.Path.{_≡_, refl, sym, ap, _∙_}
 use mathlib.Core.Bool.{Bool, true, false}
 use mathlib.Core.List.{List, _∷_}

@@ -26,6 +26,15 @@ first k (d ∷ ds) =
     let r : Found = first k ds in
     if sameKey (d .key) k then At (d .place) else r
 
+-- something is found
+abbrev pub isFound : Found → Bool
+isFound (At v) = true
+isFound Nothing = false
+
+-- something is declared with that key
+unfoldable pub knownIn : Key → List Decl → Bool
+knownIn k ds = isFound (first k ds)
+
 -- something is declared at the mark p
 unfoldable pub isPlace : ℕ → List Decl → Bool
 isPlace p [] = false
@@ -47,6 +56,10 @@ fresh key v = record { key = key v; place = v }
 -- how many rows, and so chains, there are
 abbrev pub headsOf : ℕ → ℕ
 headsOf len = len / 8 + 1
+
+-- the mark of UNDEFINED, whose row is behind the others; marks from it on stand for no place of the source
+abbrev pub undefinedMark : ℕ → ℕ
+undefinedMark len = 16 * headsOf len
 
 unfoldable pub chainOf : ℕ → Key → ℕ
 chainOf heads k = hashKey k % heads

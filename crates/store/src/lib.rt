@@ -4,12 +4,9 @@
 ghost use mathlib.Core.Path.{_≡_};
 ghost use Prim.Native.Nat.{_+_, _*_, _/_, _≤_, _<_};
 ghost use lib.ListN.{length, replicate};
-ghost use Rattle.rules.specs.State.{character};
-ghost use Rattle.subjects.specs.Keys.{item, keyAt};
+ghost use Rattle.subjects.specs.Keys.{keyAt};
 ghost use Rattle.store.specs.Store.{headsOf, chainOf, Roomy, Sound, Finds, Declares};
 use lines::Signs;
-use subjects::code_hash;
-use subjects::has_code;
 use subjects::key_hash;
 use subjects::same_key;
 
@@ -44,13 +41,6 @@ fn chain_at(src: &[u8], g: Signs, v: usize) -> usize
     key_hash(src, g, v) % (src.len() / 8 + 1)
 }
 
-// The chain of a character.
-fn chain_of_code(src: &[u8], c: u32) -> usize
-    ensures { λ r. ⌜ (r ≡ chainOf (headsOf (length (now (src .entry)))) (item (character c))) × (8 * r ≤ length (now (src .entry))) ⌝ }
-{
-    code_hash(c) % (src.len() / 8 + 1)
-}
-
 // The mark of what was declared last with the same key as stands at a mark.
 pub fn find(src: &[u8], g: Signs, work: &[u32], v: usize) -> Found
     requires { ⌜ v / 2 ≤ length (now src) ⌝ }
@@ -63,26 +53,6 @@ pub fn find(src: &[u8], g: Signs, work: &[u32], v: usize) -> Found
         let row = 8 * (l - 1);
         let p = index_of(work[row + 2]);
         let same = same_key(src, g, p, v);
-        if same {
-            return Found::At(p);
-        } else {
-            l = index_of(work[row]);
-        }
-    }
-    Found::Nothing
-}
-
-// The mark of what was declared last as the character with a code.
-pub fn find_code(src: &[u8], g: Signs, work: &[u32], c: u32) -> Found
-    requires { ⌜ Sound (keyAt g (now src)) (length (now src)) (now work) ⌝ }
-    ensures { λ r. ⌜ Finds (keyAt g (now (src .entry))) (length (now (src .entry))) (now (work .entry)) (item (character c)) r ⌝ }
-{
-    let h = chain_of_code(src, c);
-    let mut l = index_of(work[8 * h + 1]);
-    while 0 < l {
-        let row = 8 * (l - 1);
-        let p = index_of(work[row + 2]);
-        let same = has_code(src, g, p, c);
         if same {
             return Found::At(p);
         } else {

@@ -29,13 +29,7 @@ use Rattle.subjects.specs.Keys.{quoteSpot, charOf, charsLeft, AfterName,
 
 -- ## Quotes with characters only
 
--- where each name is shaped as a character, the characters are the names' codes
-pub charsOf-shaped : (ns : List (List ℕ)) → every charShaped ns ≡ true → map charOf ns ≡ map codeOf ns
-unfolding charOf
-charsOf-shaped [] h = refl
-charsOf-shaped (n ∷ ns) h = let s = every-head charShaped n ns h in let r = charsOf-shaped ns (every-tail charShaped n ns h) in rw (s, r)
-
--- where each name is that of a character too
+-- where each name is that of a character, the characters are the names' codes
 pub charsOf-names : (ns : List (List ℕ)) → every isCharName ns ≡ true → map charOf ns ≡ map codeOf ns
 unfolding charOf isCharName
 charsOf-names [] h = refl

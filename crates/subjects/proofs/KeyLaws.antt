@@ -4,9 +4,7 @@ use mathlib.Core.Bool.{Bool, true, false, false≢true}
 use mathlib.Core.List.{List}
 use Prim.Native.Nat.{ℕ, _/_, _%_}
 use borrow.Author.Tests.{ne-eqb}
-use Rattle.lists.proofs.Bools.{by, clash}
 use Rattle.rules.specs.Text.{same}
-use Rattle.rules.specs.State.{character}
 use Rattle.rules.specs.OrderLines.{sameSubject}
 use Rattle.rules.proofs.TextLaws.{same-true, same-refl}
 use Rattle.rules.proofs.RankLaws.{sameSubject-true, sameSubject-refl}
@@ -32,17 +30,6 @@ sameKey-refl (chars cs) = same-refl cs
 pub sameKey-equal : {a b : Key} → a ≡ b → sameKey a b ≡ true
 sameKey-equal {a} {b} e = rw e (sameKey-refl b)
 
-pub sameKey-false : {a b : Key} → sameKey a b ≡ false → a ≡ b → ⊥
-sameKey-false h e = clash (sameKey-equal e) h
-
-pub sameKey-swap : (a b : Key) → sameKey a b ≡ sameKey b a
-sameKey-swap a b =
-    by (sameKey a b) (λ t. t ∙ sym (sameKey-equal (sym (sameKey-true a b t))))
-    (λ t. by (sameKey b a) (λ u. absurd (sameKey-false t (sym (sameKey-true b a u)))) (λ u. t ∙ sym u))
-
-pub hashKey-same : (a b : Key) → sameKey a b ≡ true → hashKey a ≡ hashKey b
-hashKey-same a b h = ap hashKey (sameKey-true a b h)
-
 -- ## Marks
 
 module _ (g : Signs) (src : List ℕ) (v : ℕ) where
@@ -62,16 +49,6 @@ module _ (g : Signs) (src : List ℕ) (v : ℕ) where
     pub hash-chars : (v % 2 ≡ 0 → ⊥) → p ≡ quoteSpot (v / 2) → h ≡ hashOf (charsLeft g src p) → h ≡ hashKey (keyAt g src v)
     unfolding hashKey
     hash-chars n f k = k ∙ ap (λ (x : Spot). hashOf (charsLeft g src x)) f ∙ sym (ap hashKey (keyAt-quotes n))
-
-  module _ (c : ℕ) where
-    pub has-item : {p : Spot} {t : Bool} → v % 2 ≡ 0 → p ≡ nameSpot (v / 2) → t ≡ sameSubject (subjectLeft g src p) (character c)
-        → t ≡ sameKey (keyAt g src v) (item (character c))
-    unfolding sameKey
-    has-item e f k = k ∙ ap (λ (x : Spot). sameSubject (subjectLeft g src x) (character c)) f ∙ sym (rw (keyAt-name e))
-
-    pub has-chars : (v % 2 ≡ 0 → ⊥) → false ≡ sameKey (keyAt g src v) (item (character c))
-    unfolding sameKey
-    has-chars n = sym (rw (keyAt-quotes n))
 
 module _ (g : Signs) (src : List ℕ) (v w : ℕ) where
   pub both-items : {p q : Spot} {t : Bool} → v % 2 ≡ 0 → w % 2 ≡ 0 → p ≡ nameSpot (v / 2) → q ≡ nameSpot (w / 2)

@@ -159,11 +159,6 @@ module _ (g : Signs) (src : List ℕ) where
   unfolding lineLeft
   in-quotes at fresh = name-upTo g quotedName refl refl (λ b n. sym (after-inner refl (eqb-false b 62 n))) fresh false 0 0 (drop at src)
 
-  -- a name has the same bytes, in quotes or not, whatever stands before it
-  pub name-anywhere : (at : ℕ) (x y : Bool)
-      → nameLeft g src (record { at = at; mode = inName; fresh = x }) ≡ nameLeft g src (record { at = at; mode = quotedName; fresh = y })
-  name-anywhere at x y = in-name at x ∙ sym (in-quotes at y)
-
   -- the name at any spot inside one is that of its place
   pub name-there : (p : Spot) → isInside (p .mode) ≡ true → nameLeft g src p ≡ nameLeft g src (nameSpot (p .at))
   name-there p h =

@@ -11,11 +11,7 @@ use Rattle.rules.specs.OrderLines.{subjectOf, sameSubject}
 use Rattle.names.specs.declared.Code.{Code}
 use Rattle.names.specs.declared.Code.the-variants.{Char, Other}
 use Rattle.names.specs.Named.{CharIs, CodeIs, hashOf}
-use Rattle.subjects.specs.Keys.{charOf, hashSubject, hashKey, item}
-
-pub hash-code : (c h : ℕ) → h ≡ c → h % 16777216 ≡ hashKey (item (character c))
-unfolding hashKey hashSubject
-hash-code c h e = rw e
+use Rattle.subjects.specs.Keys.{charOf, hashSubject}
 
 -- ## One name
 
@@ -49,14 +45,6 @@ module _ (n : List ℕ) {c : Code} (w : CodeIs n c) where
   pub hash-name : {k h : ℕ} → c ≡ Other → k ≡ hashOf n → h ≡ k → h ≡ hashSubject (subjectOf n)
   unfolding hashSubject
   hash-name e f h = h ∙ f ∙ sym (ap hashSubject (subject-name e))
-
-  pub means-char : (x y : ℕ) → c ≡ Char x → eqb x y ≡ sameSubject (subjectOf n) (character y)
-  unfolding sameSubject
-  means-char x y e = sym (rw (subject-char e))
-
-  pub means-name : (y : ℕ) → c ≡ Other → false ≡ sameSubject (subjectOf n) (character y)
-  unfolding sameSubject
-  means-name y e = sym (rw (subject-name e))
 
 -- ## Two names
 

@@ -2,15 +2,14 @@
 ghost use mathlib.Core.Path.{_≡_};
 ghost use mathlib.Core.Bool.{true};
 ghost use mathlib.Core.List.{[]};
-ghost use Prim.Native.Nat.{ℕ, _/_, _≤_, _<_};
+ghost use Prim.Native.Nat.{_/_, _≤_, _<_};
 ghost use lib.ListN.{length};
 ghost use Rattle.rules.specs.Text.{same};
 ghost use Rattle.rules.specs.Lines.{quoted};
-ghost use Rattle.rules.specs.State.{character};
 ghost use Rattle.rules.specs.OrderLines.{sameSubject};
 ghost use Rattle.tokens.specs.Left.{isInside};
 ghost use Rattle.names.specs.Named.{nameLeft, hashOf};
-ghost use Rattle.subjects.specs.Keys.{nameSpot, quoteSpot, charOf, charsLeft, subjectLeft, AfterName, NextIs, keyAt, hashSubject, hashKey, sameKey, item};
+ghost use Rattle.subjects.specs.Keys.{nameSpot, quoteSpot, charOf, charsLeft, subjectLeft, AfterName, NextIs, keyAt, hashSubject, hashKey, sameKey};
 use lines::Signs;
 use lines::Spot;
 use names::Code;
@@ -163,13 +162,6 @@ fn same_chars(src: &[u8], g: Signs, p: Spot, q: Spot) -> bool
     }
 }
 
-// The number of a character.
-pub fn code_hash(c: u32) -> usize
-    ensures { λ r. ⌜ r ≡ hashKey (item (character c)) ⌝ }
-{
-    wide(c) % 16777216
-}
-
 // The number of what the name at a spot means.
 fn subject_hash(src: &[u8], g: Signs, p: Spot) -> usize
     requires { ⌜ p .at ≤ length (now src) ⌝ }
@@ -227,27 +219,4 @@ pub fn same_key(src: &[u8], g: Signs, v: usize, w: usize) -> bool
         return false;
     }
     same_chars(src, g, quote_spot(v), quote_spot(w))
-}
-
-// Whether the name at a spot is the character with a code.
-fn means_code(src: &[u8], g: Signs, p: Spot, c: u32) -> bool
-    requires { ⌜ p .at ≤ length (now src) ⌝ }
-    ensures { λ r. ⌜ r ≡ sameSubject (subjectLeft g (now (src .entry)) p) (character c) ⌝ }
-{
-    let d = name_char(src, g, p);
-    match d {
-        Code::Char(x) => return x == c,
-        Code::Other => return false,
-    }
-}
-
-// Whether the character with a code stands at a mark.
-pub fn has_code(src: &[u8], g: Signs, v: usize, c: u32) -> bool
-    requires { ⌜ v / 2 ≤ length (now src) ⌝ }
-    ensures { λ r. ⌜ r ≡ sameKey (keyAt g (now (src .entry)) v) (item (character c)) ⌝ }
-{
-    if v % 2 == 0 {
-        return means_code(src, g, name_spot(v), c);
-    }
-    false
 }

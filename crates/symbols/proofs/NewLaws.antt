@@ -18,8 +18,8 @@ use Rattle.subjects.specs.Keys.{Key, item, keyAt}
 use Rattle.subjects.proofs.SpotLaws.{keyAt-inside}
 use Rattle.store.specs.declared.Found.{Found}
 use Rattle.store.specs.declared.Found.the-variants.{At, Nothing}
-use Rattle.store.specs.Store.{Decl, Holds, Finds}
-use Rattle.symbols.specs.Symbols.{isFound, knownIn, isNewIn, NewIs}
+use Rattle.store.specs.Store.{Decl, isFound, knownIn, Holds, Finds}
+use Rattle.symbols.specs.Symbols.{isNewIn, NewIs}
 
 -- ## New names
 

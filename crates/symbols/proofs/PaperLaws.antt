@@ -7,16 +7,17 @@ use Prim.Native.Nat.{ℕ}
 use native.Mathlib.Omega.{arith}
 use Rattle.lists.proofs.Bools.{by}
 use Rattle.rules.specs.Text.{oneOf, same, _unless_, lower, lowest}
-use Rattle.rules.specs.Tokens.{name, Token, tokenAt, theName, tokensRefusal}
-use Rattle.rules.specs.State.{beforeOrder, Declaration, symbol, element, character, named, State, withDeclared, inPhase, gives}
+use Rattle.rules.specs.Tokens.{Token, tokenAt, theName, tokensRefusal}
+use Rattle.rules.specs.State.{beforeOrder, Declaration, symbol, element, character, named, State, inPhase}
 use Rattle.rules.specs.OrderLines.{sameSubject}
 use Rattle.rules.specs.Declarations.{declares, declaresChars, isNew, symbolLine}
-use Rattle.rules.proofs.TextLaws.{same-true, same-refl, same-swap-false, lower-none}
+use Rattle.rules.proofs.TextLaws.{same-true, same-refl, same-swap-false}
+use Rattle.tokens.proofs.RefusalLaws.{late-lowest, late-unless}
 use Rattle.subjects.specs.Keys.{Key, item, chars, sameKey}
-use Rattle.store.specs.Store.{Decl, fresh}
+use Rattle.store.specs.Store.{Decl, knownIn, fresh}
 use Rattle.store.proofs.ListLaws.{first-none, first-fresh-same, first-fresh-other}
-use Rattle.symbols.specs.Symbols.{knownIn, isNewIn, Alike, symbolRefusal}
-use Rattle.symbols.proofs.LateLaws.{late-lowest, late-unless, unfit-three}
+use Rattle.symbols.specs.Symbols.{isNewIn, Alike, symbolRefusal}
+use Rattle.symbols.proofs.LateLaws.{unfit-three}
 
 -- ## What is declared
 
@@ -92,11 +93,3 @@ module _ (s : State) (os : List Token) where
   symbol-misplaced p =
       let b = isNew (s .declared) (theName (tokenAt os 0)) in
       rw p (unfit-three os false (lowest (5 unless b ∷ [])) (late-lowest (5 unless b ∷ []) (late-unless 5 b (omega arith), tt)) (inr refl))
-
-  -- a line that is not refused
-  pub symbol-accepted : (ds : List Decl) → Alike ds (s .declared) → inPhase beforeOrder s ≡ true → symbolRefusal ds os ≡ 0
-      → (tokensRefusal os ≡ 0) × (symbolLine s os ≡ gives 0 (withDeclared s (symbol (theName (tokenAt os 0)) ∷ s .declared)))
-  unfolding symbolLine
-  symbol-accepted ds h p e =
-      let z = lower-none (tokensRefusal os) (symbolLine s os .refusal) (sym (symbol-paper ds h p) ∙ e) in
-      (z .0, ap (λ (r : ℕ). gives r (withDeclared s (symbol (theName (tokenAt os 0)) ∷ s .declared))) (z .1))

@@ -19,7 +19,7 @@ use Rattle.rules.proofs.TextLaws.{unless-none, lower-none, lowest-none}
 use Rattle.lines.specs.declared.Signs.{Signs}
 use Rattle.lines.specs.declared.Spot.{Spot}
 use Rattle.tokens.specs.Left.{isInside}
-use Rattle.tokens.proofs.RefusalLaws.{lower-none-right}
+use Rattle.tokens.proofs.RefusalLaws.{lower-none-right, late-lowest, late-unless}
 use Rattle.operands.specs.Operand.{operandsLeft}
 use Rattle.operands.proofs.ListLaws.{single-more}
 use Rattle.names.specs.Named.{nameLeft}
@@ -30,7 +30,7 @@ use Rattle.symbols.specs.declared.Head.the-variants as head
 use Rattle.symbols.specs.declared.Symbol.{Symbol}
 use Rattle.symbols.specs.declared.Symbol.the-variants as symbol
 use Rattle.symbols.specs.Symbols.{isNewIn, Gives, operandsAfter, symbolRefusal, Unfit, NameFirst, HeadIs, NewIs, SymbolAt, SymbolNot, SymbolChecked}
-use Rattle.symbols.proofs.LateLaws.{late-lowest, late-unless, unfit-three, unfit-other}
+use Rattle.symbols.proofs.LateLaws.{unfit-three, unfit-other}
 use Rattle.symbols.proofs.NewLaws.{new-shape, key-named}
 
 -- ## The refusal

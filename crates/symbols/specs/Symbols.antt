@@ -20,24 +20,13 @@ use Rattle.tokens.specs.Left.{tokensLeft}
 use Rattle.operands.specs.Operand.{operandsLeft}
 use Rattle.names.specs.Named.{nameLeft}
 use Rattle.subjects.specs.Keys.{Key, item, chars, keyAt}
-use Rattle.store.specs.declared.Found.{Found}
-use Rattle.store.specs.declared.Found.the-variants.{At, Nothing}
-use Rattle.store.specs.Store.{Decl, first, Holds, Declares}
+use Rattle.store.specs.Store.{Decl, knownIn, Holds, Declares}
 use Rattle.symbols.specs.declared.Head.{Head}
 use Rattle.symbols.specs.declared.Head.the-variants as head
 use Rattle.symbols.specs.declared.Symbol.{Symbol}
 use Rattle.symbols.specs.declared.Symbol.the-variants as symbol
 
 -- ## What is declared
-
--- something is found
-abbrev pub isFound : Found → Bool
-isFound (At v) = true
-isFound Nothing = false
-
--- something is declared with that key
-unfoldable pub knownIn : Key → List Decl → Bool
-knownIn k ds = isFound (first k ds)
 
 -- a name that is not "declared twice or shaped as a character" (5)
 unfoldable pub isNewIn : List Decl → List ℕ → Bool

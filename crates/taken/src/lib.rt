@@ -1,5 +1,4 @@
 // A line outside every category, from its first place on: whether it has a byte that is taken as it stands, the c of comment_char or escape_char.
-ghost use mathlib.Core.Path.{_≡_};
 ghost use Prim.Native.Nat.{_≤_};
 ghost use lib.ListN.{length};
 ghost use Rattle.lines.specs.Stream.{marksLeft};

@@ -15,7 +15,7 @@ use Rattle.rules.proofs.TextLaws.{oneOf-append, oneOf-getD}
 use Rattle.lines.specs.declared.Signs.{Signs}
 use Rattle.toggles.specs.declared.Place.{Place}
 use Rattle.toggles.specs.declared.Place.the-variants.{At, Nothing}
-use Rattle.toggles.specs.Kept.{isDefined, toggle, toggleAt, togglesIn, Kept, noToggle, First, PlaceIs, Slot}
+use Rattle.toggles.specs.Kept.{isDefined, toggleAt, togglesIn, Kept, noToggle, First, PlaceIs, Slot}
 use Rattle.toggles.proofs.AreaLaws.{toggle-on, toggles-length, toggles-getD}
 
 -- ## The search

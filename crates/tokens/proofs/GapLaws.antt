@@ -1,6 +1,6 @@
 -- Blanks: a line's tokens without the gaps that open them, and the walk past the blanks at a spot.
-use mathlib.Core.Path.{_≡_, refl, sym, ap, _∙_, subst}
-use mathlib.Core.Bool.{Bool, true, false, cond, _||_}
+use mathlib.Core.Path.{_≡_, refl, sym, _∙_, subst}
+use mathlib.Core.Bool.{true, false}
 use mathlib.Core.List.{List, [], _∷_, _++_}
 use Prim.Native.Nat.{ℕ, _-_, _%_, _≤_, _<_}
 use native.Mathlib.Omega.{arith}
@@ -18,7 +18,7 @@ use Rattle.lines.specs.declared.Step.the-variants as step
 use Rattle.lines.specs.Stream.{marksLeft, Walk, MarkIs, StepIs}
 use Rattle.lines.proofs.RunLaws.{walk-none, walk-then, mark-walk}
 use Rattle.tokens.specs.Left.{tokensLeft, Skips}
-use Rattle.tokens.proofs.TokenLaws.{tokensFrom-out, first-gap, word-whole, quote-close, quote-foul, tokensFrom-none}
+use Rattle.tokens.proofs.TokenLaws.{tokensFrom-out, first-gap, word-whole, tokensFrom-none}
 
 -- ## The gaps that open a line
 

@@ -1,17 +1,17 @@
 -- Reading a name byte by byte, and quotes name by name: the turns of the loops to their ends.
-use mathlib.Core.Path.{_≡_, refl, sym, ap, _∙_, subst}
-use mathlib.Core.Bool.{Bool, true, false, cond, _&&_, _||_, and-true, false≢true}
+use mathlib.Core.Path.{_≡_, refl, sym, _∙_, subst}
+use mathlib.Core.Bool.{Bool, true, false, _&&_, and-true}
 use mathlib.Core.List.{List, [], _∷_, _++_, append-nil, append-assoc}
-use Prim.Native.Nat.{ℕ, suc, _+_, _-_, _%_, _^_, _≤_, _<_}
+use Prim.Native.Nat.{ℕ, suc, _+_, _-_, _%_, _≤_, _<_}
 use native.Mathlib.Omega.{arith}
 use lib.ListN.{length, length-append}
 use lib.Dec.{eqb, leb}
-use borrow.Author.Tests.{eq-eqb, ne-eqb, le-leb, lt-leb, eqb-true}
+use borrow.Author.Tests.{ne-eqb, le-leb, lt-leb, eqb-true}
 use Rattle.lists.proofs.Bools.{by}
 use Rattle.rules.specs.Text.{every, oneOf, _unless_, lower, lowest}
 use Rattle.rules.specs.Names.{isVisible, nameRefusal, namesRefusal}
-use Rattle.rules.specs.Lines.{outside, quoted, after}
-use Rattle.rules.specs.Tokens.{broken, quote, Token, token, noPart, lexed, tokensFrom, tokensRefusal}
+use Rattle.rules.specs.Lines.{quoted, after}
+use Rattle.rules.specs.Tokens.{broken, quote, Token, token, lexed, tokensFrom, tokensRefusal}
 use Rattle.lines.specs.declared.Signs.{Signs}
 use Rattle.lines.specs.declared.Spot.{Spot}
 use Rattle.lines.specs.declared.Step.{Step}

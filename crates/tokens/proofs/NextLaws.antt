@@ -1,16 +1,15 @@
 -- One token at a spot: a law for each kind, and for what is malformed.
-use mathlib.Core.Path.{_≡_, refl, sym, ap, _∙_, subst}
-use mathlib.Core.Bool.{Bool, true, false}
-use mathlib.Core.List.{List, [], _∷_, _++_}
+use mathlib.Core.Path.{_≡_, refl, sym, _∙_, subst}
+use mathlib.Core.Bool.{true, false}
+use mathlib.Core.List.{List, [], _∷_}
 use Prim.Native.Nat.{ℕ, _-_, _≤_, _<_}
 use native.Mathlib.Omega.{arith}
 use lib.ListN.{length}
-use lib.Dec.{eqb}
-use borrow.Author.Tests.{eq-eqb, ne-eqb, eqb-false}
+use borrow.Author.Tests.{ne-eqb}
 use Rattle.rules.specs.Text.{oneOf, lower, lowest}
-use Rattle.rules.specs.Names.{isBlank, nameRefusal, namesRefusal}
+use Rattle.rules.specs.Names.{namesRefusal}
 use Rattle.rules.specs.Lines.{outside, quoted, after}
-use Rattle.rules.specs.Tokens.{gap, semi, comma, broken, word, name, quote, Token, token, tokenAt, noPart, lexed, inWord, tokensFrom, tokensRefusal, lexEnd}
+use Rattle.rules.specs.Tokens.{broken, word, name, quote, Token, token, noPart, inWord, tokensFrom, tokensRefusal, lexEnd}
 use Rattle.lines.specs.declared.Signs.{Signs}
 use Rattle.lines.specs.declared.Spot.{Spot}
 use Rattle.lines.specs.declared.Step.{Step}
@@ -22,9 +21,9 @@ use Rattle.tokens.specs.declared.Closing.the-variants as closing
 use Rattle.tokens.specs.declared.Quotes.{Quotes}
 use Rattle.tokens.specs.declared.Quotes.the-variants as quotes
 use Rattle.tokens.specs.declared.Tok.{Tok}
-use Rattle.tokens.specs.Left.{tokensLeft, tokenThere, wordIn, afterWord, isClose, isInside, nameIn, afterName, namesIn, WordEnds, NameEnds, ClosingIs, QuotesEnd, QuotesIs, bareAt, TokenIs}
+use Rattle.tokens.specs.Left.{tokensLeft, tokenThere, wordIn, isClose, isInside, nameIn, namesIn, WordEnds, NameEnds, ClosingIs, QuotesEnd, QuotesIs, bareAt, TokenIs}
 use Rattle.tokens.proofs.WordLaws.{unblank, wide-unblank}
-use Rattle.tokens.proofs.TokenLaws.{first-gap, first-semi, first-comma, first-name, first-quote, first-dead, first-word, word-whole, name-closed, name-open, in-word}
+use Rattle.tokens.proofs.TokenLaws.{first-gap, first-semi, first-comma, first-name, first-quote, first-dead, first-word, word-whole, name-closed, name-open}
 use Rattle.tokens.proofs.RefusalLaws.{refusal-broken, refusal-name, refusal-empty, refusal-quote, tokensRefusal-cons, three-first}
 use Rattle.tokens.proofs.WordLaws.{in-word-yes}
 

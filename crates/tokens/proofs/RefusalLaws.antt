@@ -7,7 +7,7 @@ use Prim.Native.Nat.{ℕ, _≤_, _<_, min}
 use native.Mathlib.Omega.{arith}
 use lib.ListN.{length}
 use lib.Dec.{eqb, leb, ltb}
-use borrow.Author.Tests.{eqb-true, eqb-false, ltb-true, ltb-false, ne-eqb, eq-eqb, lt-ltb, le-ltb}
+use borrow.Author.Tests.{eqb-true, eqb-false, ltb-true, ltb-false, ne-eqb, lt-ltb, le-ltb}
 use Rattle.lists.proofs.Bools.{by}
 use Rattle.rules.specs.Text.{every, _unless_, lower, lowest}
 use Rattle.rules.specs.Names.{isVisible, nameRefusal, namesRefusal}
@@ -53,20 +53,20 @@ lower-assoc a b c =
 -- ## Refusals from 3 on
 
 -- none, or 3 and above
-abbrev Late : ℕ → Type 0
+abbrev pub Late : ℕ → Type 0
 Late r = (r ≡ 0) ⊎ (3 ≤ r)
 
-late-lower : (a b : ℕ) → Late a → Late b → Late (lower a b)
+pub late-lower : (a b : ℕ) → Late a → Late b → Late (lower a b)
 unfolding lower
 late-lower a b h k =
     by (eqb a 0) (λ t. rw t k) (λ t. by (eqb b 0) (λ u. rw (t, u) h) (λ u. by (ltb a b) (λ w. rw (t, u, w) h) (λ w. rw (t, u, w) k)))
 
-late-lowest : (rs : List ℕ) → All Late rs → Late (lowest rs)
+pub late-lowest : (rs : List ℕ) → All Late rs → Late (lowest rs)
 unfolding lowest
 late-lowest [] h = inl refl
 late-lowest (r ∷ rs) h = late-lower r (lowest rs) (h .0) (late-lowest rs (h .1))
 
-late-unless : (n : ℕ) (t : Bool) → 3 ≤ n → Late (n unless t)
+pub late-unless : (n : ℕ) (t : Bool) → 3 ≤ n → Late (n unless t)
 late-unless n true h = inl refl
 late-unless n false h = inr h
 
@@ -80,7 +80,7 @@ late-names : (ns : List (List ℕ)) → All Late (map nameRefusal ns)
 late-names [] = tt
 late-names (n ∷ ns) = (late-name n, late-names ns)
 
-late-tokens : (ts : List Token) → Late (tokensRefusal ts)
+pub late-tokens : (ts : List Token) → Late (tokensRefusal ts)
 unfolding tokensRefusal namesRefusal
 late-tokens [] = inl refl
 late-tokens (t ∷ ts) =
@@ -88,12 +88,13 @@ late-tokens (t ∷ ts) =
     late-lowest ((3 unless whole) ∷ namesRefusal (t .names) ∷ tokensRefusal ts ∷ [])
     (late-unless 3 whole (omega arith), (late-lowest (map nameRefusal (t .names)) (late-names (t .names)), (late-tokens ts, tt)))
 
-three-left : (r : ℕ) → Late r → lower 3 r ≡ 3
+-- so 3 wins wherever it stands
+pub three-left : (r : ℕ) → Late r → lower 3 r ≡ 3
 unfolding lower
 three-left r (inl e) = rw e
 three-left r (inr h) = simp (ne-eqb r 0 (λ e. omega arith)) (by (ltb 3 r) (λ t. rw t) (λ t. rw t (let l = ltb-false 3 r t in omega arith)))
 
-three-right : (r : ℕ) → Late r → lower r 3 ≡ 3
+pub three-right : (r : ℕ) → Late r → lower r 3 ≡ 3
 unfolding lower
 three-right r (inl e) = rw e
 three-right r (inr h) = simp (ne-eqb r 0 (λ e. omega arith)) (by (ltb r 3) (λ t. let l = ltb-true r 3 t in absurd (omega arith)) (λ t. rw t))

@@ -1,14 +1,13 @@
 -- From marks to tokens in the middle of a line (Rattle.rules.specs.Tokens): the tokens that are read before do not matter for those to
 -- come (tokensFrom-behind), and what each mark, and each word, name and pair of quotes, leaves to come.
-use mathlib.Core.Path.{_≡_, refl, sym, ap, _∙_}
-use mathlib.Core.Bool.{Bool, true, false, cond, not, _&&_, _||_, false≢true}
+use mathlib.Core.Path.{_≡_, refl, ap, _∙_}
+use mathlib.Core.Bool.{Bool, true, false, cond, not, _||_, false≢true}
 use mathlib.Core.List.{List, [], _∷_, _++_, append-assoc, append-nil}
 use Prim.Native.Nat.{ℕ, _-_, _%_, _≤_, _<_}
 use native.Mathlib.Omega.{arith}
-use lib.ListN.{length}
 use lib.Dec.{eqb, leb}
-use borrow.Author.Tests.{eq-eqb, ne-eqb, le-leb, lt-leb, eqb-true, leb-false, not-true}
-use Rattle.lists.proofs.Bools.{by, clash, or-false-left, or-false-right}
+use borrow.Author.Tests.{ne-eqb, le-leb, lt-leb, leb-false, not-true}
+use Rattle.lists.proofs.Bools.{by, or-false-left, or-false-right}
 use Rattle.rules.specs.Text.{oneOf}
 use Rattle.rules.specs.Names.{isBlank}
 use Rattle.rules.specs.Tokens.{gap, semi, comma, broken, word, name, quote, asIs, Token, token, Lexed, lexed, noPart, lexNone, quotedPart, inWord, lex, lexEnd, tokensFrom}

@@ -1,7 +1,7 @@
 -- The tokens of a line as code reads them: what is still to come at a spot is the paper's own list (Rattle.rules.specs.Tokens).
 use mathlib.Core.Path.{_≡_}
 use mathlib.Core.Bool.{Bool, true, false, _||_, not}
-use mathlib.Core.List.{List, [], _∷_, map}
+use mathlib.Core.List.{List, [], _∷_}
 use Prim.Native.Nat.{ℕ, _+_, _%_, _≤_, _<_}
 use lib.ListN.{length}
 use lib.Dec.{eqb}

@@ -1,15 +1,15 @@
 -- What tells what stands: two that tell the same give the same refusals, and the paper's own is one of them.
-use mathlib.Core.Path.{_≡_, refl, sym, ap, _∙_}
+use mathlib.Core.Path.{_≡_, refl, ap, _∙_}
 use mathlib.Core.Bool.{Bool, _&&_, _||_}
 use mathlib.Core.List.{List, [], _∷_, map}
 use Prim.Native.Nat.{ℕ}
 use lib.ListN.{length}
 use lib.Dec.{eqb, leb}
 use Rattle.rules.specs.Text.{every, is, _unless_, lower, lowest}
-use Rattle.rules.specs.Tokens.{Token, tokensRefusal}
+use Rattle.rules.specs.Tokens.{Token}
 use Rattle.rules.specs.State.{Declaration, Subject}
-use Rattle.rules.specs.OrderLines.{splitAt, isNames, subjectOf, stands, weightRefusal, weightsRefusal}
-use Rattle.weights.specs.Weights.{weightRefusalBy, weightsRefusalBy, BadWeights}
+use Rattle.rules.specs.OrderLines.{isNames, subjectOf, stands, weightRefusal, weightsRefusal}
+use Rattle.weights.specs.Weights.{weightRefusalBy, weightsRefusalBy}
 
 every-alike : {A : Type 0} (f h : A → Bool) → ((x : A) → f x ≡ h x) → (xs : List A) → every f xs ≡ every h xs
 unfolding every
@@ -41,7 +41,3 @@ module _ (ds : List Declaration) where
   weights-paper [] = refl
   weights-paper (w ∷ ws) =
       ap (λ (r : ℕ). lower r (lowest (map (weightRefusalBy (stands ds)) ws))) (weight-paper w) ∙ ap (λ (r : ℕ). lower (weightRefusal ds w) r) (weights-paper ws)
-
-  -- malformed operands, as the paper says it
-  pub bad-paper : (os : List Token) → BadWeights os → lower (tokensRefusal os) (weightsRefusal ds (splitAt [] os)) ≡ 3
-  bad-paper os v = ap (λ (r : ℕ). lower (tokensRefusal os) r) (sym (weights-paper (splitAt [] os))) ∙ v .by (stands ds)

@@ -10,8 +10,9 @@ use Rattle.rules.specs.Text.{lower}
 use Rattle.rules.specs.Tokens.{semi, Token, tokensRefusal}
 use Rattle.rules.specs.State.{Subject}
 use Rattle.rules.specs.OrderLines.{splitAt}
+use Rattle.tokens.proofs.RefusalLaws.{late-tokens, three-left, three-right}
 use Rattle.weights.specs.Weights.{weightsRefusalBy, BadWeights}
-use Rattle.weights.proofs.LateLaws.{three-left, three-right, late-tokens, late-weights, weight-two, weights-three}
+use Rattle.weights.proofs.LateLaws.{late-weights, weight-two, weights-three}
 
 pub split-end : (part : List Token) → splitAt part [] ≡ part ∷ []
 unfolding splitAt

@@ -12,9 +12,8 @@ use Rattle.rules.specs.Text.{bytes, same, is, every, _unless_, lower, lowest}
 use Rattle.rules.specs.Tokens.{Token}
 use Rattle.rules.specs.State.{Subject}
 use Rattle.rules.specs.OrderLines.{isNames, subjectOf}
-use Rattle.tokens.proofs.RefusalLaws.{lower-none-left, lower-none-right, lower-assoc}
+use Rattle.tokens.proofs.RefusalLaws.{lower-none-left, lower-none-right, lower-assoc, late-lower, late-unless, three-left}
 use Rattle.weights.specs.Weights.{weightRefusalBy}
-use Rattle.weights.proofs.LateLaws.{late-lower, late-unless, three-left}
 
 -- ## One token
 

@@ -17,11 +17,11 @@ use Rattle.listed.specs.Listed.{charsNumber, placeNumber, rankNumber}
 use Rattle.subjects.specs.declared.NextChar.{NextChar}
 use Rattle.subjects.specs.declared.NextChar.the-variants.{Char, End}
 use Rattle.subjects.specs.Keys.{nameSpot, quoteSpot, charOf, charsLeft, keyAt, CharNext, NextIs}
-use Rattle.store.specs.Store.{Sound}
+use Rattle.store.specs.Store.{undefinedMark, Sound}
 use Rattle.ranks.specs.Ranks.{rankIn}
 use Rattle.ranks.specs.Reading.{ranksAt, itemRanks}
 use Rattle.writes.specs.declared.Coded.{Coded}
-use Rattle.writes.specs.Writing.{CodeIs, undefinedMark, itemChars, CharsReady, LineRoom, LinePut, ItemRoom, ItemPut}
+use Rattle.writes.specs.Writing.{CodeIs, itemChars, CharsReady, LineRoom, LinePut, ItemRoom, ItemPut}
 
 -- ## Four characters
 

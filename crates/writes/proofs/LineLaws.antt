@@ -6,6 +6,7 @@ use native.Mathlib.Numerals.{add-one}
 use native.Mathlib.Omega.{arith}
 use lib.ListN.{length, set, length-set, length-map}
 use lib.Seq.{sets, length-sets}
+use Rattle.lists.proofs.Lists.{sets-append}
 use Rattle.rules.specs.State.{Subject}
 use Rattle.rules.specs.Meaning.{countAll}
 use Rattle.rules.specs.Tokens.{Token}
@@ -20,7 +21,7 @@ use Rattle.ranks.specs.declared.Turn.{Turn}
 use Rattle.ranks.specs.Ranks.{rankIn, ranksBy, levelRanks}
 use Rattle.ranks.specs.Reading.{partRanks, PartFits, weightsLeft, Ahead, TurnIs, Starts, ranksAt}
 use Rattle.writes.specs.Writing.{RanksPut, quoteSize, partSize, LevelPut, LineRoom, LinePut}
-use Rattle.writes.proofs.StoreLaws.{sets-append, sets-swap}
+use Rattle.writes.proofs.StoreLaws.{sets-swap}
 use Rattle.writes.proofs.PartLaws.{partRanks-length}
 
 -- ## One level
@@ -73,13 +74,13 @@ ranksBy-length f h own [] = refl
 ranksBy-length f h own (t ∷ ts) =
     length-map (t .names) (λ (n : List ℕ). f (subjectOf n)) ∙ sym (length-map (t .names) (λ (n : List ℕ). h (subjectOf n)))
 
-countAll-any : (f h : Subject → ℕ) (own l : ℕ) (ws : List (List Token)) → countAll (levelRanks f own l ws) ≡ countAll (levelRanks h own l ws)
+pub countAll-any : (f h : Subject → ℕ) (own l : ℕ) (ws : List (List Token)) → countAll (levelRanks f own l ws) ≡ countAll (levelRanks h own l ws)
 unfolding levelRanks countAll
 countAll-any f h own zero ws = refl
 countAll-any f h own (suc l) [] = ap (λ (n : ℕ). 1 + n) (countAll-any f h own l [])
 countAll-any f h own (suc l) (w ∷ ws) = rw (ranksBy-length f h own w, countAll-any f h own l ws)
 
-levelRanks-length : (f : Subject → ℕ) (own l : ℕ) (ws : List (List Token)) → length (levelRanks f own l ws) ≡ l
+pub levelRanks-length : (f : Subject → ℕ) (own l : ℕ) (ws : List (List Token)) → length (levelRanks f own l ws) ≡ l
 unfolding levelRanks
 levelRanks-length f own zero ws = refl
 levelRanks-length f own (suc l) [] = ap suc (levelRanks-length f own l [])

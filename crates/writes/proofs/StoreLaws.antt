@@ -5,14 +5,8 @@ use Prim.Native.Nat.{ℕ, suc, _+_, _≤_, _<_}
 use native.Mathlib.Omega.{arith}
 use lib.ListN.{length, set, length-append}
 use lib.Seq.{sets, set-comm}
+use Rattle.lists.proofs.Lists.{sets-append}
 use Rattle.writes.specs.Writing.{Puts}
-
--- stored together, or one behind the other
-pub sets-append : (area : List ℕ) (at : ℕ) (a b : List ℕ) → sets area at (a ++ b) ≡ sets (sets area at a) (at + length a) b
-sets-append area at [] b = let e : at + 0 ≡ at = omega arith in rw e
-sets-append area at (x ∷ a) b =
-    let e : suc at + length a ≡ at + suc (length a) = omega arith in
-    sets-append (set area at x) (suc at) a b ∙ ap (λ (k : ℕ). sets (sets (set area at x) (suc at) a) k b) e
 
 -- a number before them, first or last
 pub sets-set : (area : List ℕ) (i x at : ℕ) (xs : List ℕ) → i < at → set (sets area at xs) i x ≡ sets (set area i x) at xs

@@ -1,7 +1,7 @@
 -- What stands in a table's area after one item was written.
 use mathlib.Core.Path.{_≡_}
 use mathlib.Core.List.{List, [], _∷_, map, flatten}
-use Prim.Native.Nat.{ℕ, _+_, _*_, _/_, _≤_, _<_}
+use Prim.Native.Nat.{ℕ, _+_, _/_, _≤_, _<_}
 use lib.ListN.{length, getD, set, drop}
 use lib.Seq.{sets}
 use lib.Dec.{eqb, leb}
@@ -18,7 +18,7 @@ use Rattle.names.specs.Named.{nameLeft}
 use Rattle.rows.specs.Cells.{cell}
 use Rattle.listed.specs.Listed.{charsNumber}
 use Rattle.subjects.specs.Keys.{nameSpot, quoteSpot, charOf, charsLeft, keyAt}
-use Rattle.store.specs.Store.{Decl, headsOf, Roomy, Holds}
+use Rattle.store.specs.Store.{Decl, undefinedMark, Roomy, Holds}
 use Rattle.ranks.specs.declared.Part.{Part}
 use Rattle.ranks.specs.declared.Part.the-variants as part
 use Rattle.ranks.specs.Ranks.{rankIn}
@@ -66,10 +66,6 @@ pub record LinePut (g : Signs) (src w : List ℕ) (place levels own : ℕ) (area
   pub to : (n : ℕ) (ds : List Decl) → Holds (keyAt g src) (length src) w n ds → next ≡ at + countAll (ranksAt g src place levels own (rankIn w ds))
 
 -- ## Characters
-
--- the mark of UNDEFINED, whose row is behind the others; marks from it on stand for no place of the source
-abbrev pub undefinedMark : ℕ → ℕ
-undefinedMark len = 16 * headsOf len
 
 -- the characters of the item whose order line is at a mark: an element's stand in quotes
 unfoldable pub itemChars : Signs → List ℕ → List ℕ → ℕ → List ℕ

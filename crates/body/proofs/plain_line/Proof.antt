@@ -4,8 +4,8 @@ use borrow.Author.Needs.{needs}
 use Rattle.body.proofs.plain_line.Statement.{statement}
 use Rattle.body.proofs.plain_line.Tie as tie
 
-line-end-requires : tie.Need-line-end-requires
-line-end-requires c κs = search needs
+line-at-requires : tie.Need-line-at-requires
+line-at-requires c κs = search needs
 
 line-kind-requires : tie.Need-line-kind-requires
 line-kind-requires c κs = search needs
@@ -38,7 +38,7 @@ pub plain-line-spec : {M : Type 1} → statement M
 plain-line-spec =
     tie.close
     (tie.spec
-    line-end-requires
+    line-at-requires
     line-kind-requires
     enum-told
     returns

@@ -22,17 +22,14 @@ enum-known-f c = search needs
 signs-of-requires : tie.Need-signs-of-requires
 signs-of-requires c κs = search needs
 
-start-of-requires : tie.Need-start-of-requires
-start-of-requires c κs = search needs
-
-line-end-requires : tie.Need-line-end-requires
-line-end-requires c κs = search opened-start
+line-at-requires : tie.Need-line-at-requires
+line-at-requires c κs = search opened-start
 
 signs-of-requires-2 : tie.Need-signs-of-requires-2
 signs-of-requires-2 c κs = search needs
 
-line-end-requires-2 : tie.Need-line-end-requires-2
-line-end-requires-2 c κs = search opened-to
+line-end-requires : tie.Need-line-end-requires
+line-end-requires c κs = search opened-to
 
 add-set-line : tie.Need-add-set-line
 add-set-line c = record { fits = search opened-fits }
@@ -56,10 +53,9 @@ byte-line-spec =
     returns
     enum-known-f
     signs-of-requires
-    start-of-requires
-    line-end-requires
+    line-at-requires
     signs-of-requires-2
-    line-end-requires-2
+    line-end-requires
     add-set-line
     sub-set-line
     set-line-requires

@@ -7,11 +7,8 @@ use Rattle.heading.proofs.malformed.Tie as tie
 signs-of-requires : tie.Need-signs-of-requires
 signs-of-requires c κs = search needs
 
-start-of-requires : tie.Need-start-of-requires
-start-of-requires c κs = search needs
-
-line-end-requires : tie.Need-line-end-requires
-line-end-requires c κs = search malformed-start
+line-at-requires : tie.Need-line-at-requires
+line-at-requires c κs = search malformed-start
 
 returns : tie.Need-returns
 returns c = search malformed-form
@@ -21,4 +18,4 @@ returns-2 c = search malformed-bytes
 
 pub malformed-spec : {M : Type 1} → statement M
 malformed-spec =
-    tie.close (tie.spec signs-of-requires start-of-requires line-end-requires returns returns-2)
+    tie.close (tie.spec signs-of-requires line-at-requires returns returns-2)

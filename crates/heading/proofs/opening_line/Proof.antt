@@ -7,11 +7,8 @@ use Rattle.heading.proofs.opening_line.Tie as tie
 signs-of-requires : tie.Need-signs-of-requires
 signs-of-requires c κs = search needs
 
-start-of-requires : tie.Need-start-of-requires
-start-of-requires c κs = search needs
-
-line-end-requires : tie.Need-line-end-requires
-line-end-requires c κs = search opening-start
+line-at-requires : tie.Need-line-at-requires
+line-at-requires c κs = search opening-start
 
 signs-of-requires-2 : tie.Need-signs-of-requires-2
 signs-of-requires-2 c κs = search needs
@@ -33,8 +30,7 @@ opening-line-spec =
     tie.close
     (tie.spec
     signs-of-requires
-    start-of-requires
-    line-end-requires
+    line-at-requires
     signs-of-requires-2
     is-opening-requires
     returns

@@ -7,15 +7,12 @@ use Rattle.heading.proofs.passed_over.Tie as tie
 signs-of-requires : tie.Need-signs-of-requires
 signs-of-requires c κs = search needs
 
-start-of-requires : tie.Need-start-of-requires
-start-of-requires c κs = search needs
-
-line-end-requires : tie.Need-line-end-requires
-line-end-requires c κs = search passed-start
+line-at-requires : tie.Need-line-at-requires
+line-at-requires c κs = search passed-start
 
 returns : tie.Need-returns
 returns c = search passed-line
 
 pub passed-over-spec : {M : Type 1} → statement M
 passed-over-spec =
-    tie.close (tie.spec signs-of-requires start-of-requires line-end-requires returns)
+    tie.close (tie.spec signs-of-requires line-at-requires returns)

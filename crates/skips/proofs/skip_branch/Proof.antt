@@ -34,8 +34,8 @@ returns-2 c = search branch-deep
 enum-known-t : tie.Need-enum-known-t Inv-loop μ-loop
 enum-known-t c = search needs
 
-line-end-requires : tie.Need-line-end-requires Inv-loop μ-loop
-line-end-requires c κs = search needs
+line-at-requires : tie.Need-line-at-requires Inv-loop μ-loop
+line-at-requires c κs = search needs
 
 add-n : tie.Need-add-n Inv-loop μ-loop
 add-n c = record { fits = search number-fits }
@@ -62,7 +62,7 @@ skip-branch-spec =
     enum-told-2
     returns-2
     enum-known-t
-    line-end-requires
+    line-at-requires
     add-n
     loop-less
     loop-again

@@ -16,8 +16,8 @@ abbrev μ-loop : tie.MeasureT-loop
 loop-holds : tie.Need-loop-holds Inv-loop μ-loop
 loop-holds c = search category-begins
 
-line-end-requires : tie.Need-line-end-requires Inv-loop μ-loop
-line-end-requires c κs = search needs
+line-at-requires : tie.Need-line-at-requires Inv-loop μ-loop
+line-at-requires c κs = search needs
 
 add-m : tie.Need-add-m Inv-loop μ-loop
 add-m c = record { fits = search number-fits }
@@ -44,7 +44,7 @@ skip-named-spec =
     Inv-loop
     μ-loop
     loop-holds
-    line-end-requires
+    line-at-requires
     add-m
     is-end-requires
     returns

@@ -1,0 +1,13 @@
+// The run cases of the compiler, with what must be written in the file stdout. The sources that are text stand in the file stdin.
+mod bytes;
+mod limits;
+mod longest;
+mod show;
+mod texts;
+
+fn main() {
+    texts::cases();
+    bytes::cases();
+    limits::cases();
+    longest::cases();
+}

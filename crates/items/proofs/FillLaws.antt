@@ -1,0 +1,334 @@
+-- The items of the order lines, written one after the other: how much they take, and the turns of the loop.
+use mathlib.Core.Path.{_≡_, refl, sym, ap, _∙_, subst}
+use mathlib.Core.Bool.{Bool, true, false, _&&_, _||_}
+use mathlib.Core.List.{List, [], _∷_, _++_, map, flatten}
+use Prim.Native.Nat.{ℕ, zero, suc, _+_, _-_, _*_, _/_, _≤_, _<_, _^_}
+use native.Mathlib.Omega.{arith}
+use lib.ListN.{length, length-append, length-map}
+use lib.Seq.{sets, length-sets}
+use lib.Dec.{eqb, leb}
+use borrow.Author.Tests.{leb-true}
+use Rattle.lists.proofs.Bools.{by}
+use Rattle.lists.proofs.Lists.{All, sets-append}
+use Rattle.rules.specs.Text.{every, is, _unless_}
+use Rattle.rules.specs.Tokens.{Token}
+use Rattle.rules.specs.Meaning.{Item, countAll, weightCount}
+use Rattle.rules.specs.Table.{padded, counts, itemNumbers, weightNumbers}
+use Rattle.rules.specs.State.{Subject}
+use Rattle.rules.specs.OrderLines.{subjectOf, isNames, operandList}
+use Rattle.rules.proofs.TextLaws.{lower-none, lowest-unless}
+use Rattle.rules.proofs.SizeLaws.{flatten-length}
+use Rattle.lines.specs.declared.Signs.{Signs}
+use Rattle.rows.specs.Cells.{cell}
+use Rattle.subjects.specs.Keys.{keyAt}
+use Rattle.store.specs.Store.{Decl, Holds, Sound}
+use Rattle.listed.specs.declared.Order.{Order}
+use Rattle.listed.specs.Listed.{placeNumber, rankNumber, nextNumber, Row, Linked, goes}
+use Rattle.listed.proofs.RankLaws.{linked-one}
+use Rattle.weights.specs.Weights.{weightRefusalBy, weightsRefusalBy}
+use Rattle.weights.proofs.LateLaws.{weights-cons}
+use Rattle.ranks.specs.Ranks.{rankIn, ranksBy, levelRanks}
+use Rattle.ranks.specs.Reading.{lineOperands, ranksAt, itemRanks, Readable, RowReady}
+use Rattle.writes.specs.Writing.{itemChars, CharsReady, ItemRoom, ItemPut}
+use Rattle.writes.proofs.StoreLaws.{sets-swap}
+use Rattle.writes.proofs.LineLaws.{countAll-any, levelRanks-length}
+use Rattle.items.specs.Items.{isItem, itemOf, itemsOf, LineReady}
+use Rattle.items.specs.Filling.{Fillable, Filled}
+
+-- ## At most 64 weights for a line
+
+-- at most 8 names
+names-few : (s : Subject → Bool) (t : Token) (ts : List Token) → weightRefusalBy s (t ∷ ts) ≡ 0 → length (t .names) ≤ 8
+unfolding weightRefusalBy
+names-few s t ts h =
+    let a : Bool = eqb (length ts) 0 && (isNames t || is (t .text) "IGNORE") in
+    let b : Bool = every s (map subjectOf (t .names)) in
+    let c : Bool = leb (length (t .names)) 8 in
+    let x = lowest-unless 3 a ((6 unless b) ∷ (7 unless c) ∷ []) (omega arith) h .1 in
+    let y = lowest-unless 6 b ((7 unless c) ∷ []) (omega arith) x .1 in
+    leb-true (length (t .names)) 8 (lowest-unless 7 c [] (omega arith) y .0)
+
+operand-few : (s : Subject → Bool) (f : Subject → ℕ) (own : ℕ) (w : List Token) → weightRefusalBy s w ≡ 0 → length (ranksBy f own w) ≤ 8
+unfolding ranksBy
+operand-few s f own [] h = omega arith
+operand-few s f own (t ∷ ts) h = omega (arith, length-map (t .names) (λ (n : List ℕ). f (subjectOf n)), names-few s t ts h)
+
+levels-few : (s : Subject → Bool) (f : Subject → ℕ) (own l : ℕ) (ws : List (List Token)) → weightsRefusalBy s ws ≡ 0
+    → countAll (levelRanks f own l ws) ≤ 8 * l
+unfolding levelRanks countAll
+levels-few s f own zero ws h = omega arith
+levels-few s f own (suc l) [] h = omega (arith, levels-few s f own l [] h)
+levels-few s f own (suc l) (w ∷ ws) h =
+    let p = lower-none (weightRefusalBy s w) (weightsRefusalBy s ws) (sym (weights-cons s w ws) ∙ h) in
+    omega (arith, operand-few s f own w (p .0), levels-few s f own l ws (p .1))
+
+module _ (g : Signs) (src w : List ℕ) (levels : ℕ) where
+  line-few : (f : Subject → ℕ) (v : ℕ) → LineReady g src w levels v → countAll (itemRanks g src w v levels f) ≤ 64
+  unfolding itemRanks ranksAt
+  line-few f v r =
+      let k : Readable g src (cell w v placeNumber) levels = r .row .line in
+      let e = levels-few (k .weighed .stands) f (cell w v rankNumber) levels (operandList (lineOperands g src (cell w v placeNumber))) (k .weighed .each) in
+      omega (arith, e, k .few)
+
+  -- ## How much the items take, whatever the ranks are
+
+  ranks-length : (f : Subject → ℕ) (v : ℕ) → length (itemRanks g src w v levels f) ≡ levels
+  unfolding itemRanks ranksAt
+  ranks-length f v = levelRanks-length f (cell w v rankNumber) levels (operandList (lineOperands g src (cell w v placeNumber)))
+
+  ranks-count : (f h : Subject → ℕ) (v : ℕ) → countAll (itemRanks g src w v levels f) ≡ countAll (itemRanks g src w v levels h)
+  unfolding itemRanks ranksAt
+  ranks-count f h v = countAll-any f h (cell w v rankNumber) levels (operandList (lineOperands g src (cell w v placeNumber)))
+
+  items-item : (f : Subject → ℕ) (v : ℕ) (vs : List ℕ) → isItem g src w v ≡ true
+      → itemsOf g src w levels f (v ∷ vs) ≡ itemOf g src w levels f v ∷ itemsOf g src w levels f vs
+  unfolding itemsOf
+  items-item f v vs e = rw e
+
+  items-other : (f : Subject → ℕ) (v : ℕ) (vs : List ℕ) → isItem g src w v ≡ false → itemsOf g src w levels f (v ∷ vs) ≡ itemsOf g src w levels f vs
+  unfolding itemsOf
+  items-other f v vs e = rw e
+
+  items-count : (f h : Subject → ℕ) (vs : List ℕ) → length (itemsOf g src w levels f vs) ≡ length (itemsOf g src w levels h vs)
+  unfolding itemsOf
+  items-count f h [] = refl
+  items-count f h (v ∷ vs) = by (isItem g src w v) (λ e. rw e (ap suc (items-count f h vs))) (λ e. rw e (items-count f h vs))
+
+  weights-count : (f h : Subject → ℕ) (vs : List ℕ) → weightCount (itemsOf g src w levels f vs) ≡ weightCount (itemsOf g src w levels h vs)
+  unfolding itemsOf itemOf weightCount
+  weights-count f h [] = refl
+  weights-count f h (v ∷ vs) =
+      by (isItem g src w v) (λ e. rw e (omega (arith, ranks-count f h v, weights-count f h vs))) (λ e. rw e (weights-count f h vs))
+
+  records-length : (f : Subject → ℕ) (at : ℕ) (vs : List ℕ)
+      → length (itemNumbers at [] (itemsOf g src w levels f vs) []) ≡ length (itemsOf g src w levels f vs) * (6 + levels)
+  unfolding itemsOf itemOf itemNumbers
+  records-length f at [] = simp native.Mathlib.Nat.zero-mul (omega arith)
+  records-length f at (v ∷ vs) =
+      by (isItem g src w v)
+      (λ e.
+      let R : List (List ℕ) = itemRanks g src w v levels f in
+      let is : List Item = itemsOf g src w levels f vs in
+      let tail : List ℕ = itemNumbers (at + countAll R) [] is [] in
+      let m : suc (length is) * (6 + levels) ≡ 6 + (levels + length is * (6 + levels)) = simp native.Mathlib.Nat.suc-mul (omega arith) in
+      rw e (omega (arith, length-append (counts R) tail, length-map R length, ranks-length f v, m, records-length f (at + countAll R) vs)))
+      (λ e. rw e (records-length f at vs))
+
+-- ## One item first, then the others
+
+-- what stands before goes on before, and what stands behind goes on behind
+two-rows : (area : List ℕ) (slot : ℕ) (a b : List ℕ) (next : ℕ) (x y : List ℕ) → slot + length a + length b ≤ next
+    → sets (sets (sets (sets area slot a) next x) (slot + length a) b) (next + length x) y ≡ sets (sets area slot (a ++ b)) next (x ++ y)
+two-rows area slot a b next x y h =
+    ap (λ (z : List ℕ). sets z (next + length x) y) (sets-swap (sets area slot a) (slot + length a) b next x h)
+    ∙ ap (λ (z : List ℕ). sets (sets z next x) (next + length x) y) (sym (sets-append area slot a b))
+    ∙ sym (sets-append (sets area slot (a ++ b)) next x y)
+
+-- its record and weights, then those of the others
+item-first : (area : List ℕ) (slot next start levels : ℕ) (i : Item) (is : List Item) → length (i .weights) ≡ levels
+    → slot + (6 + levels) + length (itemNumbers (start + countAll (i .weights)) [] is []) ≤ next
+    → sets (sets (sets (sets area slot (padded (i .chars) (start ∷ 0 ∷ counts (i .weights)))) next (flatten (i .weights))) (slot + (6 + levels))
+    (itemNumbers (start + countAll (i .weights)) [] is [])) (next + countAll (i .weights)) (weightNumbers is [])
+    ≡ sets (sets area slot (itemNumbers start [] (i ∷ is) [])) next (weightNumbers (i ∷ is) [])
+unfolding itemNumbers weightNumbers
+item-first area slot next start levels i is e h =
+    let a : List ℕ = padded (i .chars) (start ∷ 0 ∷ counts (i .weights)) in
+    let b : List ℕ = itemNumbers (start + countAll (i .weights)) [] is [] in
+    let x : List ℕ = flatten (i .weights) in
+    let y : List ℕ = weightNumbers is [] in
+    let l : 6 + levels ≡ length a = omega (arith, e, length-map (i .weights) length) in
+    let m : countAll (i .weights) ≡ length x = sym (flatten-length (i .weights)) in
+    ap (λ (n : ℕ). sets (sets (sets (sets area slot a) next x) (slot + n) b) (next + countAll (i .weights)) y) l
+    ∙ ap (λ (n : ℕ). sets (sets (sets (sets area slot a) next x) (slot + length a) b) (next + n) y) m
+    ∙ two-rows area slot a b next x y (omega (arith, h, l))
+
+-- ## The loop
+
+-- the records and weights of items, the weights of the first starting at `start` among all
+abbrev put : List ℕ → ℕ → ℕ → ℕ → List Item → List ℕ
+put area slot next start is = sets (sets area slot (itemNumbers start [] is [])) next (weightNumbers is [])
+
+-- Lines are left, from v on: what writing their items gives is the whole, and there is room for them, whatever the ranks are.
+pub record Writing (g : Signs) (src w : List ℕ) (levels : ℕ) (area₀ : List ℕ) (from at v₀ : ℕ) (area : List ℕ) (v left slot next : ℕ) : Type 0 where
+  pub marks : List ℕ
+  pub linked : Linked w v marks
+  pub count : left ≡ length marks
+  pub ready : All (LineReady g src w levels) marks
+  pub sound : Sound (keyAt g src) (length src) w
+  pub same : (vs : List ℕ) → Linked w v₀ vs → (n : ℕ) (ds : List Decl) → Holds (keyAt g src) (length src) w n ds
+      → put area slot next (next - at) (itemsOf g src w levels (rankIn w ds) marks) ≡ put area₀ from at 0 (itemsOf g src w levels (rankIn w ds) vs)
+  pub long : length area ≡ length area₀
+  pub records : (f : Subject → ℕ) → slot + length (itemsOf g src w levels f marks) * (6 + levels) ≤ at
+  pub weights : (f : Subject → ℕ) → next + weightCount (itemsOf g src w levels f marks) ≤ length area
+  pub few : next + 64 * left ≤ at + 64 * 32767
+  pub to : at ≤ next
+
+pub writing-none : (g : Signs) (src w : List ℕ) (o : Order) (levels : ℕ) (area : List ℕ) (from at : ℕ) → Fillable g src w o levels area from at
+    → Writing g src w levels area from at (o .first) area (o .first) (o .count) from at
+writing-none g src w o levels area from at h =
+    let r = h .ready in
+    record {
+      marks = r .marks;
+      linked = r .lines .linked;
+      count = r .lines .count;
+      ready = r .ready;
+      sound = r .sound;
+      same = λ vs k n ds p.
+          let z : at - at ≡ 0 = omega arith in
+          rw z (ap (λ (us : List ℕ). put area from at 0 (itemsOf g src w levels (rankIn w ds) us)) (linked-one w (o .first) (r .marks) vs (r .lines .linked) k));
+      long = refl;
+      records = λ f. let e = items-count g src w levels f (h .by) (r .marks) in rw e (h .records);
+      weights = λ f. let e = weights-count g src w levels f (h .by) (r .marks) in rw e (h .weights);
+      few = omega (arith, r .few);
+      to = omega arith;
+    }
+
+-- The marks begin with v.
+record First (w : List ℕ) (v : ℕ) (marks : List ℕ) : Type 0 where
+  rest : List ℕ
+  is : marks ≡ v ∷ rest
+  row : Row w v
+  linked : Linked w (cell w v nextNumber) rest
+
+first-mark : (w : List ℕ) (v left : ℕ) (marks : List ℕ) → Linked w v marks → left ≡ length marks → 0 < left → First w v marks
+first-mark w v left [] k c l = absurd (omega (arith, c))
+first-mark w v left (u ∷ us) (goes r n) c l = record { rest = us; is = refl; row = r; linked = n }
+
+module _ {g : Signs} {src w : List ℕ} {levels : ℕ} {area₀ : List ℕ} {from at v₀ : ℕ} {area : List ℕ} {v left slot next : ℕ}
+    (h : Writing g src w levels area₀ from at v₀ area v left slot next) where
+  pub writing-small : next - at < 4294967296
+  writing-small = omega (arith, h .few)
+
+  module _ (l : 0 < left) where
+    ahead : First w v (h .marks)
+    ahead = first-mark w v left (h .marks) (h .linked) (h .count) l
+
+    both : LineReady g src w levels v × All (LineReady g src w levels) (ahead .rest)
+    both = subst (All (LineReady g src w levels)) (ahead .is) (h .ready)
+
+    pub writing-chars : CharsReady (length src) w v
+    writing-chars = both .0 .chars
+
+    pub writing-row : RowReady g src w v levels
+    writing-row = both .0 .row
+
+    pub writing-inside : 8 * (v / 16) + 8 ≤ length w
+    writing-inside = ahead .row .inside
+
+    pub writing-wide : 6 + levels < 2 ^ 64
+    writing-wide = omega (arith, writing-row .line .few)
+
+    counted : left ≡ suc (length (ahead .rest))
+    counted = h .count ∙ ap length (ahead .is)
+
+    -- the line of v gives an item
+    module _ {b : Bool} (j : b ≡ isItem g src w v) (t : b ≡ true) where
+      items : (f : Subject → ℕ) → itemsOf g src w levels f (h .marks) ≡ itemOf g src w levels f v ∷ itemsOf g src w levels f (ahead .rest)
+      items f = ap (itemsOf g src w levels f) (ahead .is) ∙ items-item g src w levels f v (ahead .rest) (sym j ∙ t)
+
+      records-are : (f : Subject → ℕ) → length (itemsOf g src w levels f (h .marks)) * (6 + levels) ≡ 6 + levels + length (itemsOf g src w levels f (ahead .rest)) * (6 + levels)
+      records-are f =
+          let is : List Item = itemsOf g src w levels f (ahead .rest) in
+          let m : suc (length is) * (6 + levels) ≡ 6 + levels + length is * (6 + levels) = simp native.Mathlib.Nat.suc-mul (omega arith) in
+          ap (λ (x : List Item). length x * (6 + levels)) (items f) ∙ m
+
+      weights-are : (f : Subject → ℕ) → weightCount (itemsOf g src w levels f (h .marks))
+          ≡ countAll (itemRanks g src w v levels f) + weightCount (itemsOf g src w levels f (ahead .rest))
+      unfolding weightCount itemOf
+      weights-are f = ap weightCount (items f)
+
+      pub writing-room : ItemRoom g src w v levels area slot next
+      writing-room =
+          let f : Subject → ℕ = λ u. 0 in
+          record {
+            before = omega (arith, h .records f, records-are f, h .to);
+            by = f;
+            room = omega (arith, h .weights f, weights-are f);
+          }
+
+      pub writing-slot : at < 2 ^ 64 → slot + (6 + levels) < 2 ^ 64
+      writing-slot s = let f : Subject → ℕ = λ u. 0 in omega (arith, h .records f, records-are f)
+
+      module _ {start behind : ℕ} {after : List ℕ} (s : start ≡ next - at) (p : ItemPut g src w v levels start area slot next after behind)
+          {x y : ℕ} (d : x ≡ y) (n : y ≡ cell w v nextNumber) where
+        behind-is : (f : Subject → ℕ) → behind ≡ next + countAll (itemRanks g src w v levels f)
+        behind-is f =
+            let k : Sound (keyAt g src) (length src) w = h .sound in
+            omega (arith, p .to (k .n) (k .ds) (k .holds), ranks-count g src w levels (rankIn w (k .ds)) f v)
+
+        same-long : length after ≡ length area₀
+        same-long =
+            let k : Sound (keyAt g src) (length src) w = h .sound in
+            let R : List (List ℕ) = itemRanks g src w v levels (rankIn w (k .ds)) in
+            let r : List ℕ = padded (itemChars g src w v) (start ∷ 0 ∷ counts R) in
+            ap length (p .is (k .n) (k .ds) (k .holds)) ∙ length-sets (sets area slot r) next (flatten R) ∙ length-sets area slot r ∙ h .long
+
+        with-item : Writing g src w levels area₀ from at v₀ after x (left - 1) (slot + (6 + levels)) behind
+        unfolding itemOf
+        with-item = record {
+          marks = ahead .rest;
+          linked = subst (λ (u : ℕ). Linked w u (ahead .rest)) (sym (d ∙ n)) (ahead .linked);
+          count = omega (arith, counted);
+          ready = both .1;
+          sound = h .sound;
+          same = λ vs k m ds o.
+              let f : Subject → ℕ = rankIn w ds in
+              let i : Item = itemOf g src w levels f v in
+              let is : List Item = itemsOf g src w levels f (ahead .rest) in
+              let c : ℕ = countAll (itemRanks g src w v levels f) in
+              let z : behind - at ≡ start + c = omega (arith, behind-is f, s, h .to) in
+              let room : slot + (6 + levels) + length (itemNumbers (start + c) [] is []) ≤ next =
+              omega (arith, h .records f, records-are f, records-length g src w levels f (start + c) (ahead .rest), h .to) in
+              ap (λ (a : List ℕ). put a (slot + (6 + levels)) behind (behind - at) is) (p .is m ds o)
+              ∙ rw (z, behind-is f) (item-first area slot next start levels i is (ranks-length g src w levels f v) room)
+              ∙ ap (λ (u : ℕ). put area slot next u (i ∷ is)) s
+              ∙ ap (put area slot next (next - at)) (sym (items f))
+              ∙ h .same vs k m ds o;
+          long = same-long;
+          records = λ f. omega (arith, h .records f, records-are f);
+          weights = λ f. omega (arith, h .weights f, weights-are f, behind-is f, same-long, h .long);
+          few = let f : Subject → ℕ = λ u. 0 in omega (arith, h .few, behind-is f, line-few g src w levels f v (both .0));
+          to = let f : Subject → ℕ = λ u. 0 in omega (arith, h .to, behind-is f);
+        }
+
+        pub writing-item : {area′ : List ℕ} {slot′ next′ : ℕ} → area′ ≡ after → slot′ ≡ slot + (6 + levels) → next′ ≡ behind
+            → Writing g src w levels area₀ from at v₀ area′ x (left - 1) slot′ next′
+        writing-item ea es en = rw (ea, es, en) with-item
+
+    -- it gives none
+    module _ {b : Bool} (j : b ≡ isItem g src w v) (t : b ≡ false) {x y : ℕ} (d : x ≡ y) (n : y ≡ cell w v nextNumber) where
+      rest-items : (f : Subject → ℕ) → itemsOf g src w levels f (h .marks) ≡ itemsOf g src w levels f (ahead .rest)
+      rest-items f = ap (itemsOf g src w levels f) (ahead .is) ∙ items-other g src w levels f v (ahead .rest) (sym j ∙ t)
+
+      without : Writing g src w levels area₀ from at v₀ area x (left - 1) slot next
+      without = record {
+        marks = ahead .rest;
+        linked = subst (λ (u : ℕ). Linked w u (ahead .rest)) (sym (d ∙ n)) (ahead .linked);
+        count = omega (arith, counted);
+        ready = both .1;
+        sound = h .sound;
+        same = λ vs k m ds o. ap (put area slot next (next - at)) (sym (rest-items (rankIn w ds))) ∙ h .same vs k m ds o;
+        long = h .long;
+        records = λ f. subst (λ (is : List Item). slot + length is * (6 + levels) ≤ at) (rest-items f) (h .records f);
+        weights = λ f. subst (λ (is : List Item). next + weightCount is ≤ length area) (rest-items f) (h .weights f);
+        few = omega (arith, h .few);
+        to = h .to;
+      }
+
+      pub writing-other : {area′ : List ℕ} {slot′ next′ : ℕ} → area′ ≡ area → slot′ ≡ slot → next′ ≡ next
+          → Writing g src w levels area₀ from at v₀ area′ x (left - 1) slot′ next′
+      writing-other ea es en = rw (ea, es, en) without
+
+-- no line is left
+none-left : (left : ℕ) (marks : List ℕ) → left ≡ length marks → left ≤ 0 → marks ≡ []
+none-left left [] c l = refl
+none-left left (u ∷ us) c l = absurd (omega (arith, c))
+
+pub writing-all : {g : Signs} {src w : List ℕ} (o : Order) {levels : ℕ} {area₀ : List ℕ} {from at : ℕ} {area : List ℕ} {v left slot next : ℕ}
+    → Writing g src w levels area₀ from at (o .first) area v left slot next → left ≤ 0 → Filled g src w o levels area₀ from at area
+unfolding itemsOf itemNumbers weightNumbers
+writing-all {g} {src} {w} o {levels} {area₀} {from} {at} {area} {v} {left} {slot} {next} h l = record {
+  is = λ vs k n ds p.
+      let e : h .marks ≡ [] = none-left left (h .marks) (h .count) l in
+      ap (λ (us : List ℕ). put area slot next (next - at) (itemsOf g src w levels (rankIn w ds) us)) (sym e) ∙ h .same vs (k .linked) n ds p;
+}

@@ -1,0 +1,111 @@
+-- The work area once every order line has its rank: it holds what it held, and the ranks in it are those of the paper.
+use mathlib.Core.Path.{_≡_, refl, sym, ap, _∙_}
+use mathlib.Core.Bool.{Bool·not-not}
+use mathlib.Core.List.{List, [], _∷_}
+use Prim.Native.Nat.{ℕ, suc}
+use native.Mathlib.Omega.{arith}
+use lib.ListN.{length, set}
+use lib.Dec.{leb, eqb}
+use Rattle.rules.specs.Text.{every}
+use Rattle.rules.specs.Tokens.{operands}
+use Rattle.rules.specs.Meaning.{Rule}
+use Rattle.rules.specs.State.{Declaration, undefined, OrderLine}
+use Rattle.rules.specs.OrderLines.{operandList, subjectOf, rankOf}
+use Rattle.rules.specs.Compile.{lineRanks, isRanked}
+use Rattle.lines.specs.declared.Signs.{Signs}
+use Rattle.tokens.specs.Left.{tokensLeft}
+use Rattle.rows.specs.Cells.{cellAt, cell}
+use Rattle.subjects.specs.Keys.{Key, item, keyAt}
+use Rattle.store.specs.Store.{Decl, first, Roomy, Holds, undefinedMark}
+use Rattle.store.specs.declared.Found.{Found}
+use Rattle.store.specs.declared.Found.the-variants.{At, Nothing}
+use Rattle.store.proofs.AreaLaws.{holds-told}
+use Rattle.listed.specs.declared.Order.{Order}
+use Rattle.listed.specs.Listed.{lineNumber, placeNumber, rankNumber, Lines, ranked}
+use Rattle.listed.proofs.ListLaws.{lines-other}
+use Rattle.known.specs.Known.{subjectAt, behind, lineAt, IsListed, Known}
+use Rattle.known.proofs.MarkLaws.{mark-name, mark-undefined, subject-marked}
+use Rattle.known.proofs.RankLaws.{ranked-other, ranked-length, rankAt, rank-none, rank-given}
+use Rattle.ranks.specs.Ranks.{rankFound, rankIn, levelRanks}
+use Rattle.ranks.specs.Reading.{lineOperands, ranksAt, itemRanks}
+use Rattle.ranks.proofs.LevelLaws.{line-ranks}
+use Rattle.items.specs.Items.{isWeighed}
+
+-- ## What stays
+
+-- ranks are no part of the store
+pub holds-given : {key : ℕ → Key} {len n : ℕ} {ds : List Decl} (w : List ℕ) (k : ℕ) (us : List ℕ) → Holds key len w n ds → Holds key len (ranked w k us) n ds
+unfolding ranked
+holds-given w k [] h = h
+holds-given w k (u ∷ us) h = holds-given (set w (cellAt u rankNumber) k) (suc k) us (holds-told u rankNumber k (omega arith) h)
+
+-- nor links of the list
+pub lines-given : (w : List ℕ) (k : ℕ) (us : List ℕ) (o : Order) (vs : List ℕ) → Lines w o vs → Lines (ranked w k us) o vs
+unfolding ranked
+lines-given w k [] o vs l = l
+lines-given w k (u ∷ us) o vs l =
+    lines-given (set w (cellAt u rankNumber) k) (suc k) us o vs (lines-other w u rankNumber k o vs (omega arith) (λ e. omega (arith, e)) l)
+
+-- ## Ranks
+
+rank-found : (w : List ℕ) (f : Found) → rankFound w f ≡ rankAt w f
+unfolding rankFound
+rank-found w (At v) = refl
+rank-found w Nothing = refl
+
+module _ (g : Signs) (src w : List ℕ) (o : Order) (rs : List Rule) (n : ℕ) (cs : List Declaration) (ls : List OrderLine) (k : Known g src w o rs n cs ls) where
+  -- a mark in the list
+  abbrev pub IsMark : ℕ → Type 0
+  IsMark v = IsListed g src w (k .ds) v
+
+  -- the area with ranks
+  abbrev pub given : List ℕ
+  given = ranked w 1 (k .marks)
+
+  pub given-length : length given ≡ length w
+  given-length = ranked-length w 1 (k .marks)
+
+  pub holds-ranked : Holds (keyAt g src) (length src) given n (k .ds)
+  holds-ranked = holds-given w 1 (k .marks) (k .holds)
+
+  pub roomy-ranked : Roomy (length src) given
+  roomy-ranked = holds-ranked .roomy
+
+  pub lines-ranked : Lines given o (k .marks)
+  lines-ranked = lines-given w 1 (k .marks) o (k .marks) (k .lines)
+
+  -- the rank of a name
+  pub rank-name : (m : List ℕ) → rankIn given (k .ds) (subjectOf m) ≡ rankOf ls (subjectOf m)
+  unfolding rankIn
+  rank-name m =
+      rank-found given (first (item (subjectOf m)) (k .ds))
+      ∙ rank-given g src w o rs n cs ls k (subjectOf m) (first (item (subjectOf m)) (k .ds)) (mark-name (length src) (k .ds) m)
+
+  -- that of a line's own subject
+  pub rank-own : (v : ℕ) → IsMark v → cell given v rankNumber ≡ rankOf ls (subjectAt g src v)
+  rank-own v a =
+      rank-given g src w o rs n cs ls k (subjectAt g src v) (At v) (subject-marked g src w n (k .ds) (k .holds) (k .once) v (a .row) (a .even))
+
+  -- UNDEFINED has one where it has a line
+  pub rank-undefined : eqb (rankOf ls undefined) 0 ≡ eqb (cell given (undefinedMark (length src)) placeNumber) 0
+  rank-undefined =
+      rank-none g src w o rs n cs ls k undefined (At (undefinedMark (length src))) (mark-undefined (length src) (k .ds))
+      ∙ Bool·not-not (eqb (cell w (undefinedMark (length src)) placeNumber) 0)
+      ∙ ap (λ (x : ℕ). eqb x 0) (sym (ranked-other w 1 (k .marks) (undefinedMark (length src)) placeNumber (omega arith)))
+
+  -- ## The weights of a line
+
+  module _ (levels : ℕ) (many : length rs ≡ levels) (v : ℕ) (a : IsMark v) where
+    pub item-ranks : itemRanks g src given v levels (rankIn given (k .ds)) ≡ lineRanks ls (lineAt g src rs w v)
+    unfolding itemRanks ranksAt lineOperands lineAt
+    item-ranks =
+        ap (λ (p : ℕ). levelRanks (rankIn given (k .ds)) (cell given v rankNumber) levels (operandList (operands (tokensLeft g src (behind p)))))
+        (ranked-other w 1 (k .marks) v placeNumber (omega arith))
+        ∙ ap (λ (l : ℕ). levelRanks (rankIn given (k .ds)) (cell given v rankNumber) l (operandList (operands (tokensLeft g src (behind (cell w v placeNumber))))))
+        (sym many)
+        ∙ sym (line-ranks ls (subjectAt g src v) (rankIn given (k .ds)) (cell given v rankNumber) rank-name (rank-own v a) (cell w v lineNumber) rs
+        (operandList (operands (tokensLeft g src (behind (cell w v placeNumber))))))
+
+    pub item-ranked : isWeighed g src given levels (rankIn given (k .ds)) v ≡ isRanked ls (lineAt g src rs w v)
+    unfolding isWeighed isRanked
+    item-ranked = ap (every (every (leb 1))) item-ranks

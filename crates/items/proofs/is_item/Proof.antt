@@ -1,0 +1,32 @@
+-- `items::is_item` meets its contract, for UNDEFINED, an element, and a character or a symbol.
+use Rattle.writes.proofs.ItemLaws.{chars-small, chars-row, chars-name}
+use Rattle.items.proofs.LineLaws.{item-undefined, item-element, item-named}
+use borrow.Author.Needs.{needs}
+use Rattle.items.proofs.is_item.Statement.{statement}
+use Rattle.items.proofs.is_item.Tie as tie
+
+add-if1 : tie.Need-add-if1
+add-if1 c = search (needs, chars-small)
+
+mul-if1 : tie.Need-mul-if1
+mul-if1 c = search (needs, chars-small)
+
+returns : tie.Need-returns
+returns c = search item-undefined
+
+told-requires : tie.Need-told-requires
+told-requires c κs = search (needs, chars-row)
+
+returns-2 : tie.Need-returns-2
+returns-2 c = search item-element
+
+is-shaped-requires : tie.Need-is-shaped-requires
+is-shaped-requires c κs = search (needs, chars-name)
+
+returns-3 : tie.Need-returns-3
+returns-3 c = search item-named
+
+pub is-item-spec : {M : Type 1} → statement M
+is-item-spec =
+    tie.close
+    (tie.spec add-if1 mul-if1 returns told-requires returns-2 is-shaped-requires returns-3)

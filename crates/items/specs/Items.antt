@@ -1,0 +1,91 @@
+-- The items that the order lines give, by the marks of the lines (Rattle.listed.specs.Listed): which lines give one, and whether each of their
+-- weights has a rank.
+use mathlib.Core.Path.{_≡_}
+use mathlib.Core.Bool.{Bool, true, false, not, _||_}
+use mathlib.Core.List.{List, [], _∷_}
+use Prim.Native.Nat.{ℕ, _*_, _/_, _≤_}
+use lib.ListN.{length}
+use lib.Dec.{eqb, leb}
+use Rattle.lists.proofs.Lists.{All}
+use Rattle.rules.specs.Text.{if_then_else_, every}
+use Rattle.rules.specs.Names.{charShaped}
+use Rattle.rules.specs.Meaning.{Item, item, weightCount}
+use Rattle.rules.specs.State.{Subject}
+use Rattle.lines.specs.declared.Signs.{Signs}
+use Rattle.names.specs.Named.{nameLeft}
+use Rattle.rows.specs.Cells.{cell}
+use Rattle.subjects.specs.Keys.{nameSpot, keyAt}
+use Rattle.store.specs.Store.{Decl, Holds, Sound, undefinedMark}
+use Rattle.listed.specs.declared.Order.{Order}
+use Rattle.listed.specs.Listed.{charsNumber, lineNumber, Lines}
+use Rattle.ranks.specs.Ranks.{rankIn}
+use Rattle.ranks.specs.Reading.{itemRanks, RowReady}
+use Rattle.writes.specs.Writing.{itemChars, CharsReady}
+use Rattle.items.specs.declared.Sums.{Sums}
+use Rattle.items.specs.declared.Sums.the-variants as sums
+
+-- ## Items, f giving the rank of a subject
+
+-- The order line of a mark gives an item: that of UNDEFINED, of an element, which has characters, and of a character. A symbol's gives none.
+unfoldable pub isItem : Signs → List ℕ → List ℕ → ℕ → Bool
+isItem g src w v =
+    leb (undefinedMark (length src)) v || not (eqb (cell w v charsNumber) 0) || charShaped (nameLeft g src (nameSpot (v / 2)))
+
+-- its item
+unfoldable pub itemOf : Signs → List ℕ → List ℕ → ℕ → (Subject → ℕ) → ℕ → Item
+itemOf g src w levels f v = item (itemChars g src w v) (itemRanks g src w v levels f)
+
+-- the items that the order lines of these marks give
+unfoldable pub itemsOf : Signs → List ℕ → List ℕ → ℕ → (Subject → ℕ) → List ℕ → List Item
+itemsOf g src w levels f [] = []
+itemsOf g src w levels f (v ∷ vs) =
+    let r : List Item = itemsOf g src w levels f vs in
+    if isItem g src w v then itemOf g src w levels f v ∷ r else r
+
+-- every weight of a line has a rank
+unfoldable pub isWeighed : Signs → List ℕ → List ℕ → ℕ → (Subject → ℕ) → ℕ → Bool
+isWeighed g src w levels f v = every (every (leb 1)) (itemRanks g src w v levels f)
+
+-- the number of the first line with a weight that has none; 0 for no such line
+unfoldable pub unweighed : Signs → List ℕ → List ℕ → ℕ → (Subject → ℕ) → List ℕ → ℕ
+unweighed g src w levels f [] = 0
+unweighed g src w levels f (v ∷ vs) =
+    let r : ℕ = unweighed g src w levels f vs in
+    if isWeighed g src w levels f v then r else cell w v lineNumber
+
+-- ## What is asked and given
+
+-- The order line of a mark can be read again: its row, and what the mark names.
+pub record LineReady (g : Signs) (src w : List ℕ) (levels v : ℕ) : Type 0 where
+  pub row : RowReady g src w v levels
+  pub chars : CharsReady (length src) w v
+
+-- So can all order lines.
+pub record LinesReady (g : Signs) (src w : List ℕ) (o : Order) (levels : ℕ) : Type 0 where
+  pub marks : List ℕ
+  pub lines : Lines w o marks
+  pub ready : All (LineReady g src w levels) marks
+  pub sound : Sound (keyAt g src) (length src) w
+  pub few : o .count ≤ 32767
+
+-- Each weight has a rank; the items are so many, and so are their weights.
+pub record WholeSums (g : Signs) (src w : List ℕ) (o : Order) (levels items weights : ℕ) : Type 0 where
+  pub weighed : (vs : List ℕ) → Lines w o vs → (n : ℕ) (ds : List Decl) → Holds (keyAt g src) (length src) w n ds
+      → every (isWeighed g src w levels (rankIn w ds)) vs ≡ true
+  pub items-are : (vs : List ℕ) → Lines w o vs → (n : ℕ) (ds : List Decl) → Holds (keyAt g src) (length src) w n ds
+      → items ≡ length (itemsOf g src w levels (rankIn w ds) vs)
+  pub weights-are : (vs : List ℕ) → Lines w o vs → (n : ℕ) (ds : List Decl) → Holds (keyAt g src) (length src) w n ds
+      → weights ≡ weightCount (itemsOf g src w levels (rankIn w ds) vs)
+  pub few-items : items ≤ o .count
+  pub few-weights : weights ≤ 64 * items
+
+-- Some weight has none, and the first line with one has this number.
+pub record UnrankedAt (g : Signs) (src w : List ℕ) (o : Order) (levels line : ℕ) : Type 0 where
+  pub unweighed-some : (vs : List ℕ) → Lines w o vs → (n : ℕ) (ds : List Decl) → Holds (keyAt g src) (length src) w n ds
+      → every (isWeighed g src w levels (rankIn w ds)) vs ≡ false
+  pub line-is : (vs : List ℕ) → Lines w o vs → (n : ℕ) (ds : List Decl) → Holds (keyAt g src) (length src) w n ds
+      → line ≡ unweighed g src w levels (rankIn w ds) vs
+
+abbrev pub SumsAre : Signs → List ℕ → List ℕ → Order → ℕ → Sums → Type 0
+SumsAre g src w o levels (sums.Whole items weights) = WholeSums g src w o levels items weights
+SumsAre g src w o levels (sums.Unranked line) = UnrankedAt g src w o levels line

@@ -1,0 +1,121 @@
+// The items that the order lines give: which lines give one; how many there are, and their weights; and all of them written into a table's area.
+ghost use mathlib.Core.Path.{_≡_};
+ghost use lib.ListN.{length};
+ghost use Prim.Native.Nat.{_/_, _≤_, _<_};
+ghost use Rattle.rules.specs.Names.{charShaped};
+ghost use Rattle.names.specs.Named.{nameLeft};
+ghost use Rattle.subjects.specs.Keys.{nameSpot};
+ghost use Rattle.writes.specs.Writing.{CharsReady};
+ghost use Rattle.items.specs.Items.{isItem, LinesReady, SumsAre};
+ghost use Rattle.items.specs.Filling.{Fillable, Filled};
+use lines::Signs;
+use lines::Spot;
+use listed::Order;
+use names::Code;
+use names::name_char;
+use ranks::measure_item;
+use rows::told;
+use writes::write_item;
+
+// What the order lines give: how many items and weights there are; or the number of the first line with a weight that has no rank.
+pub enum Sums {
+    Whole(usize, usize),
+    Unranked(usize),
+}
+
+fn wide(x: u32) -> usize
+    ensures { λ r. ⌜ r ≡ x ⌝ }
+{
+    x as usize
+}
+
+fn narrow(n: usize) -> u32
+    requires { ⌜ n < 4294967296 ⌝ }
+    ensures { λ r. ⌜ r ≡ n ⌝ }
+{
+    n as u32
+}
+
+// Whether the name at a mark is shaped as a character.
+fn is_shaped(src: &[u8], g: Signs, mark: usize) -> bool
+    requires { ⌜ mark / 2 ≤ length (now src) ⌝ }
+    ensures { λ r. ⌜ r ≡ charShaped (nameLeft g (now (src .entry)) (nameSpot (mark / 2))) ⌝ }
+{
+    let p = Spot {
+        at: mark / 2,
+        mode: 1,
+        fresh: false,
+    };
+    let c = name_char(src, g, p);
+    match c {
+        Code::Char(_) => return true,
+        Code::Other => return false,
+    }
+}
+
+// Whether the order line of a mark gives an item: a symbol's gives none.
+pub fn is_item(src: &[u8], g: Signs, work: &[u32], mark: usize) -> bool
+    requires { ⌜ CharsReady (length (now src)) (now work) mark ⌝ }
+    ensures { λ r. ⌜ r ≡ isItem g (now (src .entry)) (now (work .entry)) mark ⌝ }
+{
+    if mark >= 16 * (src.len() / 8 + 1) {
+        return true;
+    }
+    if told(work, mark, 0) != 0 {
+        return true;
+    }
+    is_shaped(src, g, mark)
+}
+
+// The items and weights of all order lines, once each has its rank.
+pub fn measure_lines(src: &[u8], g: Signs, work: &[u32], o: Order, levels: usize) -> Sums
+    requires { ⌜ LinesReady g (now src) (now work) o levels ⌝ }
+    ensures { λ r. ⌜ SumsAre g (now (src .entry)) (now (work .entry)) o levels r ⌝ }
+{
+    let mut v = o.first;
+    let mut left = o.count;
+    let mut items: usize = 0;
+    let mut weights: usize = 0;
+    while 0 < left {
+        let m = measure_item(src, g, work, v, levels);
+        if m.ranked {
+            if is_item(src, g, work, v) {
+                items += 1;
+                weights += m.weights;
+            }
+        } else {
+            return Sums::Unranked(wide(told(work, v, 1)));
+        }
+        v = wide(told(work, v, 3));
+        left -= 1;
+    }
+    Sums::Whole(items, weights)
+}
+
+// The items in the order of their lines, written: their records from one place on, their weights from another.
+pub fn write_items(
+    src: &[u8],
+    g: Signs,
+    work: &[u32],
+    o: Order,
+    levels: usize,
+    area: &mut [u32],
+    from: usize,
+    at: usize,
+)
+    requires { ⌜ Fillable g (now src) (now work) o levels (now area) from at ⌝ }
+    ensures { λ _. ⌜ Filled g (now (src .entry)) (now (work .entry)) o levels (now (area .entry)) from at (now (area .exit)) ⌝ }
+{
+    let mut v = o.first;
+    let mut left = o.count;
+    let mut slot = from;
+    let mut next = at;
+    while 0 < left {
+        if is_item(src, g, work, v) {
+            next = write_item(src, g, work, v, levels, narrow(next - at), area, slot, next);
+            slot += 6 + levels;
+        }
+        v = wide(told(work, v, 3));
+        left -= 1;
+    }
+}

@@ -1,0 +1,25 @@
+-- `stored::table_size` meets its contract.
+use borrow.Author.Needs.{needs}
+use Rattle.stored.proofs.FrontLaws.{size-items, size-small, size-whole}
+use Rattle.stored.proofs.table_size.Statement.{statement}
+use Rattle.stored.proofs.table_size.Tie as tie
+
+all-items-requires : tie.Need-all-items-requires
+all-items-requires c κs = search needs
+
+record-at-requires : tie.Need-record-at-requires
+record-at-requires c κs = search (needs, size-items)
+
+all-weights-requires : tie.Need-all-weights-requires
+all-weights-requires c κs = search needs
+
+add-result : tie.Need-add-result
+add-result c = search (needs, size-small)
+
+returns : tie.Need-returns
+returns c = search size-whole
+
+pub table-size-spec : {M : Type 1} → statement M
+table-size-spec =
+    tie.close
+    (tie.spec all-items-requires record-at-requires all-weights-requires add-result returns)

@@ -1,0 +1,36 @@
+-- `stored::write_front` meets its contract.
+use native.Mathlib.Omega.{arith}
+use lib.ListN.{length-set}
+use borrow.Author.Needs.{needs}
+use Rattle.stored.proofs.FrontLaws.{front-written, front-same}
+use Rattle.stored.proofs.write_front.Statement.{statement}
+use Rattle.stored.proofs.write_front.Tie as tie
+
+slice-write-area : tie.Need-slice-write-area
+slice-write-area c = search needs
+
+slice-write-area-2 : tie.Need-slice-write-area-2
+slice-write-area-2 c = simp length-set (omega arith)
+
+slice-write-area-3 : tie.Need-slice-write-area-3
+slice-write-area-3 c = simp length-set (omega arith)
+
+fill-requires : tie.Need-fill-requires
+fill-requires c κs = simp length-set (omega arith)
+
+same-length : tie.Need-same-length
+same-length c = search (needs, front-same)
+
+returns : tie.Need-returns
+returns c = search front-written
+
+pub write-front-spec : {M : Type 1} → statement M
+write-front-spec =
+    tie.close
+    (tie.spec
+    slice-write-area
+    slice-write-area-2
+    slice-write-area-3
+    fill-requires
+    same-length
+    returns)

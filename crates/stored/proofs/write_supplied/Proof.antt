@@ -1,0 +1,20 @@
+-- `stored::write_supplied` meets its contract.
+use borrow.Author.Needs.{needs}
+use Rattle.stored.proofs.FrontLaws.{supplied-written}
+use Rattle.stored.proofs.write_supplied.Statement.{statement}
+use Rattle.stored.proofs.write_supplied.Tie as tie
+
+write-record-requires : tie.Need-write-record-requires
+write-record-requires c κs = search needs
+
+fill-requires : tie.Need-fill-requires
+fill-requires c κs = search needs
+
+same-length : tie.Need-same-length
+same-length c = search needs
+
+returns : tie.Need-returns
+returns c = search supplied-written
+
+pub write-supplied-spec : {M : Type 1} → statement M
+write-supplied-spec = tie.close (tie.spec write-record-requires fill-requires same-length returns)

@@ -1,0 +1,75 @@
+-- `stored::write_table` meets its contract: the head, the items of the order lines and the supplied one make up the table.
+use borrow.Author.Needs.{needs}
+use Rattle.stored.proofs.BuildLaws.{build-items, build-head, build-lines, build-end, build-record, build-ranks, build-plain, build-supplied}
+use Rattle.stored.proofs.FrontLaws.{size-items}
+use Rattle.stored.proofs.write_table.Statement.{statement}
+use Rattle.stored.proofs.write_table.Tie as tie
+
+all-items-requires : tie.Need-all-items-requires
+all-items-requires c κs = search needs
+
+all-weights-requires : tie.Need-all-weights-requires
+all-weights-requires c κs = search needs
+
+write-head-requires : tie.Need-write-head-requires
+write-head-requires c κs = search build-head
+
+record-at-requires : tie.Need-record-at-requires
+record-at-requires c κs = search (needs, size-items, build-items)
+
+add-write-items : tie.Need-add-write-items
+add-write-items c = search needs
+
+write-items-requires : tie.Need-write-items-requires
+write-items-requires c κs = search build-lines
+
+record-at-requires-2 : tie.Need-record-at-requires-2
+record-at-requires-2 c κs = search needs
+
+add-narrow : tie.Need-add-narrow
+add-narrow c = search needs
+
+narrow-requires : tie.Need-narrow-requires
+narrow-requires c κs = search needs
+
+narrow-requires-2 : tie.Need-narrow-requires-2
+narrow-requires-2 c κs = search needs
+
+add-write-supplied : tie.Need-add-write-supplied
+add-write-supplied c = search (needs, build-end)
+
+write-supplied-requires : tie.Need-write-supplied-requires
+write-supplied-requires c κs = (search build-record, search build-ranks)
+
+same-length : tie.Need-same-length
+same-length c = search needs
+
+returns : tie.Need-returns
+returns c = search build-supplied
+
+same-length-2 : tie.Need-same-length-2
+same-length-2 c = search needs
+
+returns-2 : tie.Need-returns-2
+returns-2 c = search build-plain
+
+pub write-table-spec : {M : Type 1} → statement M
+write-table-spec =
+    tie.close
+    (tie.spec
+    all-items-requires
+    all-weights-requires
+    write-head-requires
+    record-at-requires
+    add-write-items
+    write-items-requires
+    record-at-requires-2
+    add-narrow
+    narrow-requires
+    narrow-requires-2
+    add-write-supplied
+    write-supplied-requires
+    same-length
+    returns
+    same-length-2
+    returns-2)

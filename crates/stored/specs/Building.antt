@@ -1,0 +1,95 @@
+-- The table of a source: all of its numbers, from the order lines in the work area.
+use mathlib.Core.Path.{_≡_}
+use mathlib.Core.Bool.{Bool}
+use mathlib.Core.List.{List, [], _∷_, _++_}
+use Prim.Native.Nat.{ℕ, suc, _+_, _*_, _≤_}
+use lib.ListN.{length, drop, replicate}
+use Rattle.rules.specs.Text.{if_then_else_}
+use Rattle.rules.specs.Tokens.{operands}
+use Rattle.rules.specs.Meaning.{Rule, Item, item, Meaning}
+use Rattle.rules.specs.Table.{padded, storedForm}
+use Rattle.rules.specs.State.{Subject}
+use Rattle.rules.specs.Compile.{levelsOfRank}
+use Rattle.rules.proofs.TableLaws.{AllStored}
+use Rattle.lines.specs.declared.Signs.{Signs}
+use Rattle.tokens.specs.Left.{tokensLeft}
+use Rattle.subjects.specs.Keys.{keyAt}
+use Rattle.store.specs.Store.{Decl, Holds}
+use Rattle.listed.specs.Listed.{Lines}
+use Rattle.levels.specs.Levels.{startRefusal}
+use Rattle.known.specs.Known.{behind}
+use Rattle.sheet.specs.declared.Sheet.{Sheet}
+use Rattle.sheet.specs.Sheets.{rulesAt}
+use Rattle.ranks.specs.Ranks.{rankIn}
+use Rattle.permute.specs.Permuted.{storedWith}
+use Rattle.items.specs.Items.{itemsOf, LinesReady, WholeSums}
+
+-- ## The meaning
+
+-- UNDEFINED, where it is supplied: at every level the rank one above the last line
+unfoldable pub suppliedItems : Bool → List Rule → ℕ → List Item
+suppliedItems supplied rs count = if supplied then item [] (levelsOfRank (suc count) rs) ∷ [] else []
+
+-- what the order lines of these marks mean, f giving the rank of a subject
+unfoldable pub meaningBy : Signs → List ℕ → List ℕ → Sheet → Bool → (Subject → ℕ) → List ℕ → Meaning
+meaningBy g src w sh supplied f vs = record {
+  rules = rulesAt g src (sh .rules);
+  items = itemsOf g src w (sh .levels) f vs ++ suppliedItems supplied (rulesAt g src (sh .rules)) (sh .order .count);
+}
+
+-- ## Its size
+
+-- how many items there are, with UNDEFINED where it is supplied
+abbrev pub allItems : Bool → ℕ → ℕ
+allItems supplied items = if supplied then items + 1 else items
+
+-- how many weights
+abbrev pub allWeights : Bool → ℕ → ℕ → ℕ
+allWeights supplied levels weights = if supplied then weights + levels else weights
+
+-- "16 + L + I x (6 + L) + W"
+unfoldable pub tableSize : ℕ → ℕ → ℕ → Bool → ℕ
+tableSize levels items weights supplied = 16 + levels + allItems supplied items * (6 + levels) + allWeights supplied levels weights
+
+-- ## Its parts
+
+-- the 16 numbers in front
+abbrev pub frontNumbers : ℕ → ℕ → ℕ → List ℕ
+frontNumbers levels items weights = levels ∷ items ∷ weights ∷ replicate 13 0
+
+-- the record of UNDEFINED where it is supplied, its weights starting there among all
+abbrev pub suppliedNumbers : ℕ → ℕ → List ℕ
+suppliedNumbers levels start = padded [] (start ∷ 0 ∷ replicate levels 1)
+
+-- ## What is asked and given
+
+-- The rules at a place can be read again, the three numbers of the front can be stored, and the area has room.
+pub record HeadFits (g : Signs) (src : List ℕ) (place levels items weights : ℕ) (area : List ℕ) : Type 0 where
+  pub started : startRefusal (operands (tokensLeft g src (behind place))) ≡ 0
+  pub within : place ≤ length src
+  pub room : 16 + length (rulesAt g src place) ≤ length area
+  pub few-levels : levels ≤ 8
+  pub few-items : items ≤ 32768
+  pub few-weights : weights ≤ 2097096
+
+-- The order lines and the rules can be read again; the items and weights are so many, and the area has room for the table.
+pub record Buildable (g : Signs) (src w : List ℕ) (sh : Sheet) (items weights : ℕ) (supplied : Bool) (area : List ℕ) : Type 0 where
+  pub ready : LinesReady g src w (sh .order) (sh .levels)
+  pub started : startRefusal (operands (tokensLeft g src (behind (sh .rules)))) ≡ 0
+  pub within : sh .rules ≤ length src
+  pub levels : length (rulesAt g src (sh .rules)) ≡ sh .levels
+  pub few : sh .levels ≤ 8
+  pub sums : WholeSums g src w (sh .order) (sh .levels) items weights
+  pub room : tableSize (sh .levels) items weights supplied ≤ length area
+  pub places : items + 1 ≤ length w
+
+-- All numbers but those of the permutation, which are 0; behind the table the area is as it was.
+pub record Tabled (g : Signs) (src w : List ℕ) (sh : Sheet) (items weights : ℕ) (supplied : Bool) (area after : List ℕ) : Type 0 where
+  pub is : (vs : List ℕ) → Lines w (sh .order) vs → (n : ℕ) (ds : List Decl) → Holds (keyAt g src) (length src) w n ds
+      → after ≡ storedWith [] (meaningBy g src w sh supplied (rankIn w ds) vs) (drop (tableSize (sh .levels) items weights supplied) area)
+
+-- The stored form of a meaning that can be stored.
+pub record Built (g : Signs) (src w : List ℕ) (sh : Sheet) (items weights : ℕ) (supplied : Bool) (area after : List ℕ) : Type 0 where
+  pub is : (vs : List ℕ) → Lines w (sh .order) vs → (n : ℕ) (ds : List Decl) → Holds (keyAt g src) (length src) w n ds
+      → AllStored (sh .levels) (meaningBy g src w sh supplied (rankIn w ds) vs .items)
+      → after ≡ storedForm (meaningBy g src w sh supplied (rankIn w ds) vs) (drop (tableSize (sh .levels) items weights supplied) area)

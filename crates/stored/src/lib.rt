@@ -1,0 +1,176 @@
+// The whole table: its size, its front, the rules of its levels, its items, UNDEFINED where it is supplied, and the permutation.
+ghost use mathlib.Core.Path.{_≡_};
+ghost use mathlib.Core.List.{map};
+ghost use Prim.Native.Nat.{_+_, _≤_, _<_};
+ghost use lib.ListN.{length, replicate};
+ghost use lib.Seq.{sets};
+ghost use Rattle.rules.specs.Table.{ruleNumber};
+ghost use Rattle.sheet.specs.Sheets.{rulesAt};
+ghost use Rattle.stored.specs.Building.{allItems, allWeights, tableSize, frontNumbers, suppliedNumbers, HeadFits, Buildable, Tabled, Built};
+use items::write_items;
+use layout::record_at;
+use levels::write_rules;
+use lines::Signs;
+use lines::Spot;
+use permute::permute_items;
+use sheet::Sheet;
+
+fn narrow(n: usize) -> u32
+    requires { ⌜ n < 4294967296 ⌝ }
+    ensures { λ r. ⌜ r ≡ n ⌝ }
+{
+    n as u32
+}
+
+// How many items there are, with UNDEFINED where it is supplied.
+fn all_items(items: usize, supplied: bool) -> usize
+    requires { ⌜ items ≤ 32767 ⌝ }
+    ensures { λ r. ⌜ r ≡ allItems supplied items ⌝ }
+{
+    if supplied {
+        return items + 1;
+    }
+    items
+}
+
+// How many weights: the supplied UNDEFINED has one at each level.
+fn all_weights(levels: usize, weights: usize, supplied: bool) -> usize
+    requires { ⌜ (levels ≤ 8) × (weights ≤ 2097088) ⌝ }
+    ensures { λ r. ⌜ r ≡ allWeights supplied levels weights ⌝ }
+{
+    if supplied {
+        return weights + levels;
+    }
+    weights
+}
+
+// How many numbers a table takes, of so many levels, items and weights, and with UNDEFINED supplied or not.
+pub fn table_size(levels: usize, items: usize, weights: usize, supplied: bool) -> usize
+    requires { ⌜ (levels ≤ 8) × (items ≤ 32767) × (weights ≤ 2097088) ⌝ }
+    ensures { λ r. ⌜ r ≡ tableSize levels items weights supplied ⌝ }
+{
+    let start = record_at(levels, all_items(items, supplied));
+    let sum = all_weights(levels, weights, supplied);
+    start + sum
+}
+
+// One number, n times, from a place on.
+fn fill(area: &mut [u32], at: usize, n: usize, x: u32)
+    requires { ⌜ at + n ≤ length (now area) ⌝ }
+    ensures { λ _. ⌜ now (area .exit) ≡ sets (now (area .entry)) at (replicate n x) ⌝ }
+{
+    let mut i = at;
+    let mut left = n;
+    while 0 < left {
+        area[i] = x;
+        i += 1;
+        left -= 1;
+    }
+}
+
+// The 16 numbers in front of a table: how many levels, items and weights it has, and zeros.
+fn write_front(area: &mut [u32], levels: u32, items: u32, weights: u32)
+    requires { ⌜ 16 ≤ length (now area) ⌝ }
+    ensures { λ _. ⌜ now (area .exit) ≡ sets (now (area .entry)) 0 (frontNumbers levels items weights) ⌝ }
+{
+    area[0] = levels;
+    area[1] = items;
+    area[2] = weights;
+    fill(area, 3, 13, 0);
+}
+
+// The record of UNDEFINED where it is supplied: no characters, and one weight for each level.
+fn write_record(area: &mut [u32], levels: usize, start: u32, from: usize)
+    requires { ⌜ from + 6 + levels ≤ length (now area) ⌝ }
+    ensures { λ _. ⌜ now (area .exit) ≡ sets (now (area .entry)) from (suppliedNumbers levels start) ⌝ }
+{
+    fill(area, from, 4, 0x110000);
+    area[from + 4] = start;
+    area[from + 5] = 0;
+    fill(area, from + 6, levels, 1);
+}
+
+// UNDEFINED where it is supplied: its record, and its rank at each level.
+fn write_supplied(area: &mut [u32], levels: usize, rank: u32, start: u32, from: usize, at: usize)
+    requires { ⌜ (from + 6 + levels ≤ at) × (at + levels ≤ length (now area)) ⌝ }
+    ensures { λ _. ⌜ now (area .exit) ≡ sets (sets (now (area .entry)) from (suppliedNumbers levels start)) at (replicate levels rank) ⌝ }
+{
+    write_record(area, levels, start, from);
+    fill(area, at, levels, rank);
+}
+
+// The front of a table, and the rules that stand at a place.
+fn write_head(
+    src: &[u8],
+    g: Signs,
+    place: usize,
+    levels: usize,
+    items: usize,
+    weights: usize,
+    area: &mut [u32],
+)
+    requires { ⌜ HeadFits g (now src) place levels items weights (now area) ⌝ }
+    ensures { λ _. ⌜ now (area .exit) ≡ sets (sets (now (area .entry)) 0 (frontNumbers levels items weights)) 16 (map ruleNumber (rulesAt g (now (src .entry)) place)) ⌝ }
+{
+    write_front(area, narrow(levels), narrow(items), narrow(weights));
+    let p = Spot {
+        at: place,
+        mode: 0,
+        fresh: false,
+    };
+    write_rules(src, g, p, area, 16);
+}
+
+// All numbers of the table but its permutation.
+fn write_table(
+    src: &[u8],
+    g: Signs,
+    work: &[u32],
+    sh: Sheet,
+    items: usize,
+    weights: usize,
+    supplied: bool,
+    area: &mut [u32],
+)
+    requires { ⌜ Buildable g (now src) (now work) sh items weights supplied (now area) ⌝ }
+    ensures { λ _. ⌜ Tabled g (now (src .entry)) (now (work .entry)) sh items weights supplied (now (area .entry)) (now (area .exit)) ⌝ }
+{
+    let levels = sh.levels;
+    let all = all_items(items, supplied);
+    let sum = all_weights(levels, weights, supplied);
+    write_head(src, g, sh.rules, levels, all, sum, area);
+    let at = record_at(levels, all);
+    write_items(src, g, work, sh.order, levels, area, 16 + levels, at);
+    if supplied {
+        let from = record_at(levels, items);
+        write_supplied(
+            area,
+            levels,
+            narrow(sh.order.count + 1),
+            narrow(weights),
+            from,
+            at + weights,
+        );
+        return;
+    }
+}
+
+// The table of a source, once each order line has its rank; the work area is used up.
+pub fn build_table(
+    src: &[u8],
+    g: Signs,
+    work: &mut [u32],
+    sh: Sheet,
+    items: usize,
+    weights: usize,
+    supplied: bool,
+    area: &mut [u32],
+)
+    requires { ⌜ Buildable g (now src) (now work) sh items weights supplied (now area) ⌝ }
+    ensures { λ _. ⌜ Built g (now (src .entry)) (now (work .entry)) sh items weights supplied (now (area .entry)) (now (area .exit)) ⌝ }
+{
+    write_table(src, g, &work[..], sh, items, weights, supplied, area);
+    let all = all_items(items, supplied);
+    let mut buf = [0u32; 16384];
+    permute_items(area, sh.levels, all, work, &mut buf);
+}

@@ -1,0 +1,173 @@
+// Shrinking: a smaller request on which two programs still differ.
+
+use crate::request::{Field, Request};
+
+/// How many bytes the requests that are tried and their answers may have in all. It bounds the
+/// time by something that does not depend on the machine.
+const MOST_BYTES: usize = 150_000_000;
+
+/// Whether two programs differ on a request, and how many bytes were exchanged to see that.
+pub type Differs<'a> = Box<dyn FnMut(&Request) -> (bool, usize) + 'a>;
+
+struct Shrinker<'a> {
+    differs: Differs<'a>,
+    best: Request,
+    exchanged: usize,
+}
+
+/// The smallest request that is found, beginning with one that differs.
+pub fn shrink(request: Request, differs: Differs) -> Request {
+    let mut shrinker = Shrinker {
+        differs,
+        best: request,
+        exchanged: 0,
+    };
+    loop {
+        let before = shrinker.best.clone();
+        for field in 0..before.fields.len() {
+            shrinker.drop_lines(field);
+            shrinker.shorten(field);
+            shrinker.simplify(field);
+        }
+        if shrinker.best == before || shrinker.spent() {
+            return shrinker.best;
+        }
+    }
+}
+
+impl Shrinker<'_> {
+    /// Whether nothing more may be tried.
+    fn spent(&self) -> bool {
+        self.exchanged > MOST_BYTES
+    }
+
+    /// Takes a field with another value where the request still differs.
+    fn offer(&mut self, field: usize, value: Field) -> bool {
+        if self.spent() || self.best.fields[field] == value {
+            return false;
+        }
+        let mut request = self.best.clone();
+        request.fields[field] = value;
+        let (taken, bytes) = (self.differs)(&request);
+        self.exchanged += bytes;
+        if taken {
+            self.best = request;
+        }
+        taken
+    }
+
+    /// Leaves out whole lines of a text, many first.
+    fn drop_lines(&mut self, field: usize) {
+        let mut stretch = lines_of(&self.best.fields[field]).len();
+        while stretch > 0 {
+            let mut at = 0;
+            loop {
+                let mut lines = lines_of(&self.best.fields[field]);
+                if at >= lines.len() || self.spent() {
+                    break;
+                }
+                let end = (at + stretch).min(lines.len());
+                lines.drain(at..end);
+                if !self.offer(field, Field::Bytes(lines.concat())) {
+                    at += stretch;
+                }
+            }
+            stretch /= 2;
+        }
+    }
+
+    /// Leaves out stretches of an array, long ones first.
+    fn shorten(&mut self, field: usize) {
+        let mut stretch = length(&self.best.fields[field]);
+        while stretch > 0 {
+            let mut at = 0;
+            while at < length(&self.best.fields[field]) && !self.spent() {
+                let shorter = without(&self.best.fields[field], at, stretch);
+                if !self.offer(field, shorter) {
+                    at += stretch;
+                }
+            }
+            stretch /= 2;
+        }
+    }
+
+    /// Puts simpler numbers in the place of others.
+    fn simplify(&mut self, field: usize) {
+        match self.best.fields[field].clone() {
+            Field::Number(number) => {
+                for simpler in [0, number / 2, number.saturating_sub(1)] {
+                    if simpler < number && self.offer(field, Field::Number(simpler)) {
+                        return;
+                    }
+                }
+            }
+            Field::Numbers(numbers) => {
+                for at in 0..numbers.len() {
+                    if self.spent() {
+                        return;
+                    }
+                    for simpler in [0, 1, 97] {
+                        if simpler < numbers[at] {
+                            if let Field::Numbers(mut now) = self.best.fields[field].clone() {
+                                now[at] = simpler;
+                                if self.offer(field, Field::Numbers(now)) {
+                                    break;
+                                }
+                            }
+                        }
+                    }
+                }
+            }
+            Field::Bytes(bytes) => {
+                for at in 0..bytes.len() {
+                    if self.spent() {
+                        return;
+                    }
+                    for simpler in [b' ', b'A', b'a'] {
+                        if let Field::Bytes(mut now) = self.best.fields[field].clone() {
+                            if [b' ', b'A', b'a', b'\n'].contains(&now[at]) {
+                                break;
+                            }
+                            now[at] = simpler;
+                            if self.offer(field, Field::Bytes(now)) {
+                                break;
+                            }
+                        }
+                    }
+                }
+            }
+        }
+    }
+}
+
+/// The lines of a text, each with its LF; none of another field.
+fn lines_of(field: &Field) -> Vec<Vec<u8>> {
+    match field {
+        Field::Bytes(bytes) => bytes
+            .split_inclusive(|&byte| byte == b'\n')
+            .map(|line| line.to_vec())
+            .collect(),
+        _ => Vec::new(),
+    }
+}
+
+fn length(field: &Field) -> usize {
+    match field {
+        Field::Number(_) => 0,
+        Field::Numbers(numbers) => numbers.len(),
+        Field::Bytes(bytes) => bytes.len(),
+    }
+}
+
+/// A field without the stretch that begins at `at`.
+fn without(field: &Field, at: usize, stretch: usize) -> Field {
+    fn cut<T: Clone>(list: &[T], at: usize, stretch: usize) -> Vec<T> {
+        let end = (at + stretch).min(list.len());
+        [&list[..at], &list[end..]].concat()
+    }
+    match field {
+        Field::Number(number) => Field::Number(*number),
+        Field::Numbers(numbers) => Field::Numbers(cut(numbers, at, stretch)),
+        Field::Bytes(bytes) => Field::Bytes(cut(bytes, at, stretch)),
+    }
+}
