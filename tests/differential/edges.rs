@@ -2,6 +2,7 @@
 // random request shows a difference too, it is a shorter one.
 
 use crate::request::{Field, Request};
+use crate::tables::full_table;
 
 const MOST_BYTES: usize = 1_048_576;
 
@@ -106,6 +107,12 @@ pub fn edges() -> Vec<Request> {
     ));
     let passed = format!("LC_X\n{}END LC_X\n{}", joins, SMALL);
     list.push(compile(passed.into_bytes(), 100));
+    for items in [32_768, 32_769] {
+        list.push(Request::new(
+            "check",
+            vec![Field::Numbers(full_table(items))],
+        ));
+    }
     list
 }
 

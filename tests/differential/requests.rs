@@ -1,6 +1,7 @@
 // Making requests: sources, tables, strings, charmaps and areas, good and damaged.
 
 use crate::charmaps::{careless_charmap, damaged_charmap, good_charmap};
+use crate::crowds::crowded_source;
 use crate::edges::{edges, edges_of_fullest, edges_of_widest, fullest_charmap, widest_source};
 use crate::program::Program;
 use crate::random::Random;
@@ -129,11 +130,12 @@ impl<'a> Maker<'a> {
 
     fn compile(&mut self) -> Request {
         let random = &mut self.random;
-        let source = match random.below(10) {
-            0..=2 => good_source(random),
-            3 | 4 => careless_source(random),
-            5 | 6 => damaged_source(1, random),
-            7 | 8 => damaged_source(random.within(2, 4), random),
+        let source = match random.below(50) {
+            0..=13 => good_source(random),
+            14 => crowded_source(random),
+            15..=24 => careless_source(random),
+            25..=34 => damaged_source(1, random),
+            35..=44 => damaged_source(random.within(2, 4), random),
             _ => hostile_source(random),
         };
         // The area is exactly long enough, or a little longer or shorter.

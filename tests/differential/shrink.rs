@@ -1,6 +1,8 @@
 // Shrinking: a smaller request on which two programs still differ.
 
+use crate::layout::store;
 use crate::request::{Field, Request};
+use crate::table::{accept, Meaning};
 
 /// How many bytes the requests that are tried and their answers may have in all. It bounds the
 /// time by something that does not depend on the machine.
@@ -25,6 +27,7 @@ pub fn shrink(request: Request, differs: Differs) -> Request {
     loop {
         let before = shrinker.best.clone();
         for field in 0..before.fields.len() {
+            shrinker.reduce_table(field);
             shrinker.drop_lines(field);
             shrinker.shorten(field);
             shrinker.simplify(field);
@@ -54,6 +57,21 @@ impl Shrinker<'_> {
             self.best = request;
         }
         taken
+    }
+
+    /// Leaves out items, levels and weights of a table that is accepted, as its numbers depend
+    /// on each other.
+    fn reduce_table(&mut self, field: usize) {
+        let mut at = 0;
+        while let Some(smaller) = meaning_of(&self.best.fields[field]).and_then(|m| reduced(m, at))
+        {
+            if self.spent() {
+                return;
+            }
+            if !self.offer(field, Field::Numbers(store(&smaller))) {
+                at += 1;
+            }
+        }
     }
 
     /// Leaves out whole lines of a text, many first.
@@ -138,6 +156,33 @@ impl Shrinker<'_> {
             }
         }
     }
+}
+
+fn meaning_of(field: &Field) -> Option<Meaning> {
+    match field {
+        Field::Numbers(numbers) => accept(numbers).ok(),
+        _ => None,
+    }
+}
+
+/// A meaning with less in it, one for each number `at` below a limit: without an item, a level,
+/// or the last weight of an item at a level.
+fn reduced(mut meaning: Meaning, at: usize) -> Option<Meaning> {
+    let (items, levels) = (meaning.items.len(), meaning.rules.len());
+    if at < items {
+        meaning.items.remove(at);
+    } else if at < items + levels {
+        let level = at - items;
+        meaning.rules.remove(level);
+        for item in &mut meaning.items {
+            item.weights.remove(level);
+        }
+    } else {
+        let weights = at - items - levels;
+        let item = meaning.items.get_mut(weights / levels)?;
+        item.weights[weights % levels].pop();
+    }
+    Some(meaning)
 }
 
 /// The lines of a text, each with its LF; none of another field.

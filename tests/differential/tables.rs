@@ -1,12 +1,12 @@
 // Tables made from random meanings, good and bad. They hold what no source can give: weights
 // above every rank, and meanings that the check must refuse.
 
-use crate::layout::store;
+use crate::layout::{store, BEGIN, HEAD, PADDING, PERMUTED, RECORD};
 use crate::random::Random;
 use crate::sources::{CHARACTERS, ELEMENTS};
 use crate::table::{Item, Meaning, Rule, UNDEFINED};
 
-/// A table, with a fault in its meaning if wanted.
+/// A table, with a fault in its meaning or in its stored form if wanted.
 pub fn made_table(fault: bool, random: &mut Random) -> Vec<u32> {
     let levels = if random.chance(80) {
         random.within(1, 3)
@@ -29,7 +29,12 @@ pub fn made_table(fault: bool, random: &mut Random) -> Vec<u32> {
         .map(|characters| characters.to_vec())
         .collect();
     pool.extend(CHARACTERS.iter().map(|&code| vec![code]));
-    for _ in 0..random.below(10) {
+    let mut most = 10;
+    if random.chance(15) {
+        pool.extend(words());
+        most = pool.len();
+    }
+    for _ in 0..random.below(most) {
         let characters = pool.remove(random.below(pool.len()));
         let item = item(characters, levels, random);
         meaning.items.push(item);
@@ -37,10 +42,55 @@ pub fn made_table(fault: bool, random: &mut Random) -> Vec<u32> {
     let undefined = item(UNDEFINED.to_vec(), levels, random);
     let at = random.below(meaning.items.len() + 1);
     meaning.items.insert(at, undefined);
-    if fault {
+    if fault && random.chance(50) {
         spoil(&mut meaning, random);
+        return store(&meaning);
+    }
+    let mut table = store(&meaning);
+    if fault {
+        spoil_form(&mut table, random);
+    }
+    table
+}
+
+/// The largest table but for its number of items: 8 levels of 8 weights each.
+pub fn full_table(items: usize) -> Vec<u32> {
+    let rule = Rule {
+        backward: true,
+        position: true,
+    };
+    let mut meaning = Meaning {
+        rules: vec![rule; 8],
+        items: Vec::new(),
+    };
+    for place in 0..items {
+        // Falling, so that the permutation is not the order of the items; UNDEFINED is first.
+        let characters = match place {
+            0 => UNDEFINED.to_vec(),
+            _ => vec![0xFFFFF - place as u32],
+        };
+        meaning.items.push(Item {
+            characters,
+            weights: vec![vec![32_768; 8]; 8],
+        });
     }
     store(&meaning)
+}
+
+/// All items of two to four letters a, b, c that are not among the elements.
+fn words() -> Vec<Vec<u32>> {
+    let mut list = Vec::new();
+    for length in 2..=4 {
+        for number in 0..3u32.pow(length) {
+            let word: Vec<u32> = (0..length)
+                .map(|place| 0x61 + number / 3u32.pow(place) % 3)
+                .collect();
+            if !ELEMENTS.contains(&word.as_slice()) {
+                list.push(word);
+            }
+        }
+    }
+    list
 }
 
 fn item(characters: Vec<u32>, levels: usize, random: &mut Random) -> Item {
@@ -102,5 +152,22 @@ fn spoil(meaning: &mut Meaning, random: &mut Random) {
     // An item that has become too long cannot be stored.
     for item in &mut meaning.items {
         item.characters.truncate(4);
+    }
+}
+
+/// One fault in the numbers of a good table: in those that follow from its meaning.
+fn spoil_form(table: &mut [u32], random: &mut Random) {
+    let (levels, items) = (table[0] as usize, table[1] as usize);
+    let record = |place: usize| HEAD + levels + place * (RECORD + levels);
+    let (one, other) = (random.below(items), random.below(items));
+    match random.below(8) {
+        0 => table[random.within(3, HEAD - 1)] = 1,
+        1 => table[2] += 1,
+        2 => table[2] = table[2].wrapping_sub(1),
+        3 => table[record(one) + BEGIN] = random.below(9) as u32,
+        4 => table[record(one) + BEGIN - 1] = random.pick(&[0x61, PADDING - 1, PADDING + 1]),
+        5 => table[record(one) + PERMUTED] = random.below(items + 2) as u32,
+        6 => table[record(one) + PERMUTED] = u32::MAX,
+        _ => table.swap(record(one) + PERMUTED, record(other) + PERMUTED),
     }
 }

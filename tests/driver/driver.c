@@ -25,6 +25,9 @@ struct area {
     void *now;
 };
 
+/* How many numbers more than needed an answer is lent; these must stay as they are. */
+enum { SPARE = 2 };
+
 /* The areas of the request at hand. */
 static struct area areas[MOST_AREAS];
 static int area_count;
@@ -94,8 +97,8 @@ static int cleared(const struct area *area)
     return kept_after(area, area->count);
 }
 
-/* Whether all areas are as before, save the first `size` units of `result`, save `answer`, and
- * save `work`, which must be cleared. Each of the three may be NULL. */
+/* Whether all areas are as before, save the first `size` units of `result`, save the told numbers
+ * of `answer`, and save `work`, which must be cleared. Each of the three may be NULL. */
 static int only_written(const struct area *result, uint64_t size,
                         const struct area *answer, const struct area *work)
 {
@@ -105,7 +108,7 @@ static int only_written(const struct area *result, uint64_t size,
         if (area == work)
             good = cleared(area);
         else if (area == answer)
-            good = kept_after(area, area->count);
+            good = kept_after(area, area->count - SPARE);
         else
             good = kept_after(area, area == result ? (size_t)size : 0);
         if (!good)
@@ -218,26 +221,40 @@ static void print_result(const struct area *answer, const uint64_t *line,
 
 /* ---- The product's calls: the only section that knows their form ----
  *
- * An answer is a few numbers of 64 bits, its length passed with it:
+ * An answer is a few numbers of 64 bits in front of an array:
+ *   check                refusal, levels, items, size
  *   step                 refusal, place, length
- *   compare              refusal, sign (0 less, 1 equal, 2 greater), level, agreed
+ *   compare              refusal, sign (-1, 0 or 1 in two's complement), level, agreed
  *   key, decode, encode  refusal, size
- *   compile, charmap     refusal, line, size
- * Sizes count what was written to the area. check and area return their refusal. */
+ *   compile              refusal, line, size
+ *   charmap              refusal, line
+ * Sizes count what was written to the area; a charmap's is always 512. area returns its
+ * refusal. */
 
 #define LENT(type, area) (type *)(area)->now, (area)->count
 #define NUMBERS(area) LENT(const uint32_t, area)
 #define BYTES(area) LENT(const uint8_t, area)
 #define ANSWER(area) LENT(uint64_t, area)
 
+enum { CHARMAP_SIZE = 512 };
+
+/* Room for an answer of `told` numbers. */
+static struct area *lend_answer(size_t told)
+{
+    return lend(told + SPARE, sizeof(uint64_t));
+}
+
 static void do_check(void)
 {
     struct area *table = read_numbers();
+    struct area *answer = lend_answer(4);
     if (!ready())
         return;
-    uint32_t refusal = zeharmeku_check(NUMBERS(table));
-    if (only_written(NULL, 0, NULL, NULL))
-        printf("%" PRIu32 "\n", refusal);
+    zeharmeku_check(NUMBERS(table), ANSWER(answer));
+    const uint64_t *said = answer->now;
+    if (only_written(NULL, 0, answer, NULL))
+        printf("%" PRIu64 " %" PRIu64 " %" PRIu64 " %" PRIu64 "\n",
+               said[0], said[1], said[2], said[3]);
     else
         puts("touched");
 }
@@ -258,7 +275,7 @@ static void do_step(void)
 {
     struct area *table = read_numbers(), *string = read_numbers();
     size_t at = (size_t)read_number();
-    struct area *answer = lend(3, sizeof(uint64_t));
+    struct area *answer = lend_answer(3);
     if (!ready())
         return;
     zeharmeku_step(NUMBERS(table), NUMBERS(string), at, ANSWER(answer));
@@ -272,14 +289,14 @@ static void do_step(void)
 static void do_compare(void)
 {
     struct area *table = read_numbers(), *one = read_numbers(), *other = read_numbers();
-    struct area *answer = lend(4, sizeof(uint64_t));
+    struct area *answer = lend_answer(4);
     if (!ready())
         return;
     zeharmeku_compare(NUMBERS(table), NUMBERS(one), NUMBERS(other), ANSWER(answer));
     const uint64_t *said = answer->now;
     if (only_written(NULL, 0, answer, NULL))
         printf("%" PRIu64 " %" PRId64 " %" PRIu64 " %" PRIu64 "\n",
-               said[0], (int64_t)said[1] - 1, said[2], said[3]);
+               said[0], (int64_t)said[1], said[2], said[3]);
     else
         puts("touched");
 }
@@ -288,7 +305,7 @@ static void do_key(void)
 {
     struct area *table = read_numbers(), *string = read_numbers();
     struct area *room = lend(read_size(), sizeof(uint8_t));
-    struct area *answer = lend(2, sizeof(uint64_t));
+    struct area *answer = lend_answer(2);
     if (!ready())
         return;
     zeharmeku_key(NUMBERS(table), NUMBERS(string), LENT(uint8_t, room), ANSWER(answer));
@@ -301,7 +318,7 @@ static void do_compile(void)
     struct area *source = read_bytes();
     struct area *table = lend(read_size(), sizeof(uint32_t));
     struct area *work = lend(read_size(), sizeof(uint32_t));
-    struct area *answer = lend(3, sizeof(uint64_t));
+    struct area *answer = lend_answer(3);
     if (!ready())
         return;
     zeharmeku_compile(BYTES(source), LENT(uint32_t, table), LENT(uint32_t, work),
@@ -314,19 +331,19 @@ static void do_charmap(void)
 {
     struct area *source = read_bytes();
     struct area *map = lend(read_size(), sizeof(uint32_t));
-    struct area *answer = lend(3, sizeof(uint64_t));
+    struct area *answer = lend_answer(2);
     if (!ready())
         return;
     zeharmeku_charmap(BYTES(source), LENT(uint32_t, map), ANSWER(answer));
     const uint64_t *said = answer->now;
-    print_result(answer, &said[1], map, said[2], NULL);
+    print_result(answer, &said[1], map, said[0] == 0 ? CHARMAP_SIZE : 0, NULL);
 }
 
 static void do_decode(void)
 {
     struct area *map = read_numbers(), *bytes = read_bytes();
     struct area *room = lend(read_size(), sizeof(uint32_t));
-    struct area *answer = lend(2, sizeof(uint64_t));
+    struct area *answer = lend_answer(2);
     if (!ready())
         return;
     zeharmeku_decode(NUMBERS(map), BYTES(bytes), LENT(uint32_t, room), ANSWER(answer));
@@ -338,7 +355,7 @@ static void do_encode(void)
 {
     struct area *map = read_numbers(), *string = read_numbers();
     struct area *room = lend(read_size(), sizeof(uint8_t));
-    struct area *answer = lend(2, sizeof(uint64_t));
+    struct area *answer = lend_answer(2);
     if (!ready())
         return;
     zeharmeku_encode(NUMBERS(map), NUMBERS(string), LENT(uint8_t, room), ANSWER(answer));

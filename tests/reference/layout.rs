@@ -1,22 +1,19 @@
-// Layout: how a table's numbers store its meaning. 01 gives only their count,
-// 16 + L + I x (6 + L) + W; no other file of the reference knows their places.
-//
-//   0                 L, the number of levels
-//   1                 I, the number of items
-//   2                 W, the number of weights in all
-//   3 to 15           spare
-//   then L numbers    the rules: 0 forward, 1 backward, 2 forward,position, 3 backward,position
-//   then for each of the I items
-//     1 number        how many characters it has, 0 for UNDEFINED
-//     4 numbers       its characters, then zeros
-//     1 number        spare
-//     L numbers       how many weights it has at each level
-//   then W numbers    the weights, item after item, level after level
+// Layout: how a table's numbers store its meaning, as docs/TABLE.md says. 01 gives only their
+// count, 16 + L + I x (6 + L) + W; no other file of the reference knows their places.
 
 use crate::table::{Item, Meaning, Rule};
 
-const HEAD: usize = 16;
-const ITEM: usize = 6;
+/// The header: L, I, W, and spare numbers.
+pub const HEAD: usize = 16;
+
+/// A record without its counts: four characters, where the weights begin, and one number of the
+/// permutation.
+pub const RECORD: usize = 6;
+pub const BEGIN: usize = 4;
+pub const PERMUTED: usize = 5;
+
+/// What fills up the four characters of a record: no character, and above all of them.
+pub const PADDING: u32 = 0x110000;
 
 /// The numbers that store a meaning.
 pub fn store(meaning: &Meaning) -> Vec<u32> {
@@ -32,15 +29,37 @@ pub fn store(meaning: &Meaning) -> Vec<u32> {
     for rule in &meaning.rules {
         numbers.push(u32::from(rule.backward) + 2 * u32::from(rule.position));
     }
-    for item in &meaning.items {
-        let mut stored = vec![0; ITEM];
-        stored[0] = item.characters.len() as u32;
-        stored[1..1 + item.characters.len()].copy_from_slice(&item.characters);
-        numbers.extend(stored);
-        numbers.extend(item.weights.iter().map(|level| level.len() as u32));
+    let mut begin = 0;
+    for (item, place) in meaning.items.iter().zip(permutation(meaning)) {
+        let counts: Vec<u32> = item
+            .weights
+            .iter()
+            .map(|level| level.len() as u32)
+            .collect();
+        let mut record = [0; RECORD];
+        record[..BEGIN].copy_from_slice(&padded(item));
+        record[BEGIN] = begin;
+        record[PERMUTED] = place;
+        numbers.extend(record);
+        begin += counts.iter().sum::<u32>();
+        numbers.extend(counts);
     }
     numbers.extend(weights);
     numbers
+}
+
+/// The places of the items, from 1, in the rising order of their four numbers.
+fn permutation(meaning: &Meaning) -> Vec<u32> {
+    let mut places: Vec<u32> = (1..=meaning.items.len() as u32).collect();
+    places.sort_by_key(|&place| padded(&meaning.items[place as usize - 1]));
+    places
+}
+
+/// An item's characters, filled up to four numbers.
+fn padded(item: &Item) -> [u32; 4] {
+    let mut four = [PADDING; 4];
+    four[..item.characters.len()].copy_from_slice(&item.characters);
+    four
 }
 
 /// The meaning that some numbers could store, `None` where they are too few or out of range.
@@ -58,17 +77,18 @@ pub fn load(numbers: &[u32]) -> Option<Meaning> {
         rules.push(rule(*numbers.get(HEAD + level)?)?);
     }
     let first_item = HEAD + levels;
-    let mut next_weight = first_item + items * (ITEM + levels);
+    let mut next_weight = first_item + items * (RECORD + levels);
     let mut read_items = Vec::new();
     for place in 0..items {
-        let at = first_item + place * (ITEM + levels);
-        let stored = numbers.get(at..at + ITEM + levels)?;
-        if stored[0] > 4 {
-            return None;
-        }
-        let characters = stored[1..1 + stored[0] as usize].to_vec();
+        let at = first_item + place * (RECORD + levels);
+        let stored = numbers.get(at..at + RECORD + levels)?;
+        let characters = stored[..BEGIN]
+            .iter()
+            .take_while(|&&number| number != PADDING)
+            .copied()
+            .collect();
         let mut weights = Vec::new();
-        for &count in &stored[ITEM..] {
+        for &count in &stored[RECORD..] {
             if count > 8 {
                 return None;
             }

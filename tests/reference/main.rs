@@ -55,7 +55,13 @@ fn answer(request: &str) -> Option<String> {
     let answer = match operation {
         "check" => {
             let table = words.numbers()?;
-            verdict(table::accept(&table).map(|_| ()))
+            match table::accept(&table) {
+                Ok(meaning) => {
+                    let size = layout::store(&meaning).len();
+                    format!("0 {} {} {}", meaning.rules.len(), meaning.items.len(), size)
+                }
+                Err(refusal) => format!("{} 0 0 0", refusal),
+            }
         }
         "step" => {
             let (table, string, at) = (words.numbers()?, words.numbers()?, words.number()?);

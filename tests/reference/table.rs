@@ -14,12 +14,14 @@ pub struct Rule {
 /// The characters of the item UNDEFINED: none.
 pub const UNDEFINED: &[u32] = &[];
 
+#[derive(Clone)]
 pub struct Item {
     pub characters: Vec<u32>,
     /// The weights of each level.
     pub weights: Vec<Vec<u32>>,
 }
 
+#[derive(Clone)]
 pub struct Meaning {
     pub rules: Vec<Rule>,
     pub items: Vec<Item>,

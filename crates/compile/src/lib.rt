@@ -142,6 +142,6 @@ pub fn compile(src: &[u8], area: &mut [u32], work: &mut [u32]) -> Compiled
         return Compiled::Refused(Refusal::TooLong, 0);
     }
     let r = compile_lines(src, area, work);
-    clear(work);
+    clear(work); // in a refusal too
     r
 }

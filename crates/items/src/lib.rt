@@ -107,7 +107,7 @@ pub fn write_items(
     ensures { λ _. ⌜ Filled g (now (src .entry)) (now (work .entry)) o levels (now (area .entry)) from at (now (area .exit)) ⌝ }
 {
     let mut v = o.first;
-    let mut left = o.count;
+    let mut left = o.count; // all are written
     let mut slot = from;
     let mut next = at;
     while 0 < left {

@@ -42,7 +42,7 @@ module _ {g : Signs} {src : List ℕ} {p q : Spot} {h : ℕ} {s : NameStep} (v :
   pub hashing-open : s ≡ Open → h ≡ hashOf (nameLeft g src p)
   hashing-open e = hashing-end v (step-open g src q w e)
 
-  pub hashing-more : {b x : ℕ} {r : Spot} → s ≡ Byte b r → x ≡ b → Hashing g src p r ((h * 31 + x) % 16777216)
+  pub hashing-more : {b x : ℕ} {r : Spot} → s ≡ Byte b r → x ≡ b → Hashing g src p r ((h * 10368889 + x) % 16777216)
   unfolding hashFrom
   hashing-more {b} {x} {r} e f =
       let y : NameByte g src q b r = step-byte g src q w e in

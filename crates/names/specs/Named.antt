@@ -60,10 +60,10 @@ CodeIs n Other = charShaped n ≡ false
 
 -- ## A number for each name, the same for the same name
 
--- the number that bytes go on with after h
+-- the number that bytes go on with after h; the factor is odd and large, so that names which differ in two neighbouring bytes differ in it
 unfoldable pub hashFrom : ℕ → List ℕ → ℕ
 hashFrom h [] = h
-hashFrom h (b ∷ bs) = hashFrom ((h * 31 + b) % 16777216) bs
+hashFrom h (b ∷ bs) = hashFrom ((h * 10368889 + b) % 16777216) bs
 
 -- of a whole name
 abbrev pub hashOf : List ℕ → ℕ

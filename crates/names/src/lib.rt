@@ -140,19 +140,25 @@ pub fn name_char(src: &[u8], g: Signs, p: Spot) -> Code
     }
 }
 
+fn number(b: u8) -> usize
+    ensures { λ r. ⌜ (r ≡ b) × (r < 256) ⌝ }
+{
+    b as usize
+}
+
 // A number that is the same for the same name, below 2 to the 24th.
-pub fn name_hash(src: &[u8], g: Signs, p: Spot) -> u32
+pub fn name_hash(src: &[u8], g: Signs, p: Spot) -> usize
     requires { ⌜ p .at ≤ length (now src) ⌝ }
     ensures { λ r. ⌜ (r ≡ hashOf (nameLeft g (now (src .entry)) p)) × (r < 16777216) ⌝ }
 {
     let mut q = p;
-    let mut h: u32 = 0;
+    let mut h: usize = 0;
     loop {
         let s = name_byte(src, g, q);
         match s {
             NameStep::Byte(b, r) => {
-                let x = wide(b);
-                h = (h * 31 + x) % 16777216;
+                let x = number(b);
+                h = (h * 10368889 + x) % 16777216;
                 q = r;
             }
             NameStep::Close(_) => return h,

@@ -52,7 +52,7 @@ pub fn place<'a>(r: Reader<'a>) -> usize
 }
 
 // The number of the line there.
-pub fn number<'a>(r: Reader<'a>) -> usize
+pub fn line_number<'a>(r: Reader<'a>) -> usize
     ensures { λ n. ⌜ n ≡ r .entry .number ⌝ }
 {
     r.number

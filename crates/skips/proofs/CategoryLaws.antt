@@ -1,21 +1,23 @@
 -- The lines of another category: the END line of its name, and the turns of the loop to it.
-use mathlib.Core.Path.{_≡_, refl, sym, _∙_}
+use mathlib.Core.Path.{_≡_, refl, sym, subst, _∙_}
 use mathlib.Core.Bool.{Bool, true, false}
 use mathlib.Core.List.{List}
 use Prim.Native.Nat.{ℕ, _+_, _≤_, _<_}
 use native.Mathlib.Omega.{arith}
-use lib.ListN.{length, drop}
+use lib.ListN.{length}
 use borrow.Author.Tests.{eqb-true, ne-eqb, lt-leb}
 use Rattle.lists.proofs.Bools.{cond-true}
 use Rattle.rules.specs.Text.{if_then_else_, is}
 use Rattle.rules.specs.State.{betweenCategories, inOtherCategory, State, inPhase, toPhase, gives}
 use Rattle.rules.specs.Conditionals.{isUnused}
-use Rattle.rules.specs.Source.{signs, otherLine, unusedLine, wholeLine, lineOutcome, linesFrom}
+use Rattle.rules.specs.Source.{signs, otherLine, unusedLine, wholeLine, lineOutcome}
 use Rattle.lines.specs.declared.Signs.{Signs}
 use Rattle.lines.specs.declared.LineEnd.{LineEnd}
 use Rattle.lines.specs.Stream.{plainSigns, lineStart, marksLeft, LineIs}
 use Rattle.passed.specs.Words.{wordsLeft, firstWord}
-use Rattle.skips.specs.Passing.{InOther, Begins, isEnd, CategoryStops, CategoryRefused}
+use Rattle.skips.specs.declared.Skip.{Skip}
+use Rattle.skips.specs.declared.Skip.the-variants as skip
+use Rattle.skips.specs.Passing.{InOther, Begins, isEnd, InCategory, Reaches, AfterIs, CategoryStops, CategoryRefused, CategoryIs}
 use Rattle.skips.proofs.LineRuns.{signs-plain, run-passed, run-unended, refuses-from}
 
 -- ## A line
@@ -49,17 +51,17 @@ module _ (g : Signs) (src name : List ℕ) (s : State) (u : InOther g name s) wh
 
 -- ## Line after line
 
--- From the place `at` to i no END line of the category is passed.
-pub record InCategory (g : Signs) (src : List ℕ) (at number : ℕ) (name : List ℕ) (i n : ℕ) : Type 0 where
-  pub from : at ≤ i
-  pub to : i ≤ length src
-  pub few : n ≤ i + 1
-  pub run : (s : State) → InOther g name s → linesFrom s number 0 (drop at src) ≡ linesFrom s n 0 (drop i src)
-
 pub category-begins : (g : Signs) (src : List ℕ) (at number : ℕ) (name : List ℕ) → Begins src at number → InCategory g src at number name at number
 category-begins g src at number name h = record { from = omega arith; to = h .inside; few = h .few; run = λ s u. refl }
 
 module _ {g : Signs} {src : List ℕ} {at number : ℕ} {name : List ℕ} {i n : ℕ} (v : InCategory g src at number name i n) where
+  -- the source ends, or the END line stands
+  pub reaches-over : length src ≤ i → Reaches g src at number name i n
+  reaches-over h = record { passed = v; stands = λ k. absurd (omega arith) }
+
+  pub reaches-end : isEnd g src i name ≡ true → Reaches g src at number name i n
+  reaches-end t = record { passed = v; stands = λ k. t }
+
   pub category-end : length src ≤ i → CategoryRefused g src at number name 3 n
   category-end h =
       record {
@@ -87,3 +89,14 @@ module _ {g : Signs} {src : List ℕ} {at number : ℕ} {name : List ℕ} {i n :
           run = λ s u. v .run s u
               ∙ run-passed g src i n s (other-signs g src name s u) s e h l (kept-line g src name s u n i (sym k ∙ b));
         }
+
+-- what stands after the place that is reached is what the category leaves
+pub category-after : {g : Signs} {src : List ℕ} {at number : ℕ} {name : List ℕ} {i n : ℕ} → Reaches g src at number name i n
+    → (r : Skip) → AfterIs g src i n r → CategoryIs g src at number name r
+category-after {g} {src} {at} {number} {name} {i} {n} v (skip.Stop next m) a =
+    subst (λ (x : ℕ). CategoryStops g src at number name x m) (sym (a .place))
+    (subst (λ (x : ℕ). CategoryStops g src at number name (a .end .next) x) (sym (a .lines))
+    (category-stops (v .passed) (a .inside) (a .line) {t = true} (sym (v .stands (a .inside))) refl))
+category-after {g} {src} {at} {number} {name} {i} {n} v (skip.Refused r l) a =
+    subst (λ (x : ℕ). CategoryRefused g src at number name x l) (sym (a .three))
+    (subst (λ (x : ℕ). CategoryRefused g src at number name 3 x) (sym (a .line)) (category-end (v .passed) (a .outside)))

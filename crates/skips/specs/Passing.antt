@@ -9,8 +9,9 @@ use Rattle.rules.specs.Text.{bytes, is}
 use Rattle.rules.specs.State.{betweenCategories, inOtherCategory, State, withBlocks, inPhase, toPhase, inCollate, gives}
 use Rattle.rules.specs.Conditionals.{blocks, isUnused}
 use Rattle.rules.specs.Source.{wholeLine, lineOutcome, Ended, linesFrom}
+use Rattle.lines.specs.declared.LineEnd.{LineEnd}
 use Rattle.lines.specs.declared.Signs.{Signs}
-use Rattle.lines.specs.Stream.{lineStart, marksLeft}
+use Rattle.lines.specs.Stream.{lineStart, marksLeft, LineIs}
 use Rattle.tokens.specs.Left.{wordIn}
 use Rattle.passed.specs.Words.{wordsLeft, firstWord, areTwo}
 use Rattle.skips.specs.declared.Kind.{Kind}
@@ -140,6 +141,36 @@ BranchIs g src at number depth (skip.Refused r l) = BranchRefused g src at numbe
 -- the words of the line at a place are `END` and the name
 unfoldable pub isEnd : Signs → List ℕ → ℕ → List ℕ → Bool
 isEnd g src at name = areTwo (wordsLeft g src (lineStart at)) (bytes "END") name
+
+-- From the place `at` to i no END line of the category is passed.
+pub record InCategory (g : Signs) (src : List ℕ) (at number : ℕ) (name : List ℕ) (i n : ℕ) : Type 0 where
+  pub from : at ≤ i
+  pub to : i ≤ length src
+  pub few : n ≤ i + 1
+  pub run : (s : State) → InOther g name s → linesFrom s number 0 (drop at src) ≡ linesFrom s n 0 (drop i src)
+
+-- There it stands, or the source ends.
+pub record Reaches (g : Signs) (src : List ℕ) (at number : ℕ) (name : List ℕ) (i n : ℕ) : Type 0 where
+  pub passed : InCategory g src at number name i n
+  pub stands : i < length src → isEnd g src i name ≡ true
+
+-- A line stands at the place: the place after it, and the number of the line there.
+pub record Passed (g : Signs) (src : List ℕ) (at number next n : ℕ) : Type 0 where
+  pub inside : at < length src
+  pub end : LineEnd
+  pub line : LineIs g src (lineStart at) end
+  pub place : next ≡ end .next
+  pub lines : n ≡ number + end .feeds
+
+-- None does.
+pub record Missing (src : List ℕ) (at number r l : ℕ) : Type 0 where
+  pub outside : length src ≤ at
+  pub three : r ≡ 3
+  pub line : l ≡ number
+
+abbrev pub AfterIs : Signs → List ℕ → ℕ → ℕ → Skip → Type 0
+AfterIs g src at number (skip.Stop next n) = Passed g src at number next n
+AfterIs g src at number (skip.Refused r l) = Missing src at number r l
 
 -- Up to the line after its END line.
 pub record CategoryStops (g : Signs) (src : List ℕ) (at number : ℕ) (name : List ℕ) (next n : ℕ) : Type 0 where

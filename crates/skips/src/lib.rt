@@ -4,12 +4,19 @@ ghost use Prim.Native.Nat.{_≤_, _<_};
 ghost use lib.ListN.{length};
 ghost use Rattle.lines.specs.Stream.{lineStart};
 ghost use Rattle.passed.specs.Words.{firstWord};
-ghost use Rattle.skips.specs.Passing.{KindIs, Begins, TurnIs, BranchIs, Named, nameAt, Copies, isEnd, CategoryIs};
+ghost use Rattle.skips.specs.Passing.{KindIs, Begins, TurnIs, BranchIs, Named, nameAt, Copies, isEnd, Reaches, AfterIs, CategoryIs};
 use lines::Signs;
 use lines::Spot;
 use passed::first_word_is;
 use passed::words_are;
+use reader::Reader;
+use reader::line;
 use reader::line_at;
+use reader::line_number;
+use reader::past;
+use reader::place;
+use reader::reader_at;
+use reader::used_up;
 use tokens::WordStep;
 use tokens::word_byte;
 
@@ -134,24 +141,40 @@ fn is_end(src: &[u8], g: Signs, at: usize, name: &[u8]) -> bool
     words_are(src, g, p, b"END", name)
 }
 
+// The reader at the END line of the category of this name, or at the end of the source.
+fn to_end<'a, 'b>(r: Reader<'a>, g: Signs, name: &'b [u8]) -> Reader<'a>
+    requires { ⌜ Begins (now (r .src)) (r .at) (r .number) × (0 < length (now name)) ⌝ }
+    ensures { λ q. ⌜ (q .src ≡ r .entry .src) × Reaches g (now (r .entry .src)) (r .entry .at) (r .entry .number) (now (name .entry)) (q .at) (q .number) ⌝ }
+{
+    let mut q = r;
+    while !used_up(q) {
+        if is_end(q.src, g, q.at, name) {
+            return q;
+        }
+        q = past(q, line(q, g));
+    }
+    q
+}
+
+// The line after the one at a place, if one stands there.
+fn line_after(src: &[u8], g: Signs, at: usize, number: usize) -> Skip
+    requires { ⌜ Begins (now src) at number ⌝ }
+    ensures { λ r. ⌜ AfterIs g (now (src .entry)) at number r ⌝ }
+{
+    if at < src.len() {
+        let e = line_at(src, g, at);
+        return Skip::Stop(e.next, number + e.feeds);
+    }
+    Skip::Refused(3, number)
+}
+
 // The rest of another category of this name: the line after its END line.
 fn skip_named(src: &[u8], g: Signs, at: usize, number: usize, name: &[u8]) -> Skip
     requires { ⌜ Begins (now src) at number × (0 < length (now name)) ⌝ }
     ensures { λ r. ⌜ CategoryIs g (now (src .entry)) at number (now (name .entry)) r ⌝ }
 {
-    let mut i = at;
-    let mut n = number;
-    while i < src.len() {
-        let e = line_at(src, g, i);
-        let next = e.next;
-        let m = n + e.feeds;
-        if is_end(src, g, i, name) {
-            return Skip::Stop(next, m);
-        }
-        i = next;
-        n = m;
-    }
-    Skip::Refused(3, n)
+    let q = to_end(reader_at(src, at, number), g, name);
+    line_after(src, g, place(q), line_number(q))
 }
 
 // The word at a place, copied to the front of the room: how many bytes it has. So a name is read once, however many lines it is joined of.

@@ -117,7 +117,7 @@ module _ {g : Signs} {src : List ℕ} {p q : Spot} {h : ℕ} {s : NextChar} (v :
   unfolding hashFrom
   summing-end e = rw (step-end g src q w e) at (v .rest)
 
-  pub summing-more : {c x : ℕ} {r : Spot} → s ≡ Char c r → x ≡ c → Summing g src p r ((h * 31 + x) % 16777216)
+  pub summing-more : {c x : ℕ} {r : Spot} → s ≡ Char c r → x ≡ c → Summing g src p r ((h * 10368889 + x) % 16777216)
   unfolding hashFrom
   summing-more {c} {x} {r} e f =
       let y : CharNext g src q c r = step-char g src q w e in

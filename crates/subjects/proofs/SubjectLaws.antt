@@ -42,9 +42,9 @@ module _ (n : List ℕ) {c : Code} (w : CodeIs n c) where
   unfolding hashSubject
   hash-char e f = ap (λ (y : ℕ). y % 16777216) f ∙ sym (ap hashSubject (subject-char e))
 
-  pub hash-name : {k h : ℕ} → c ≡ Other → k ≡ hashOf n → h ≡ k → h ≡ hashSubject (subjectOf n)
+  pub hash-name : {h : ℕ} → c ≡ Other → h ≡ hashOf n → h ≡ hashSubject (subjectOf n)
   unfolding hashSubject
-  hash-name e f h = h ∙ f ∙ sym (ap hashSubject (subject-name e))
+  hash-name e f = f ∙ sym (ap hashSubject (subject-name e))
 
 -- ## Two names
 

@@ -113,7 +113,7 @@ fn chars_hash(src: &[u8], g: Signs, p: Spot) -> usize
         match s {
             NextChar::Char(c, r) => {
                 let x = wide(c);
-                h = (h * 31 + x) % 16777216;
+                h = (h * 10368889 + x) % 16777216;
                 q = r;
             }
             NextChar::End => return h,
@@ -170,7 +170,7 @@ fn subject_hash(src: &[u8], g: Signs, p: Spot) -> usize
     let c = name_char(src, g, p);
     match c {
         Code::Char(x) => return wide(x) % 16777216,
-        Code::Other => return wide(name_hash(src, g, p)),
+        Code::Other => return name_hash(src, g, p),
     }
 }
 

@@ -22,8 +22,8 @@ name-byte-requires c κs = search needs
 enum-known-s : tie.Need-enum-known-s Inv-loop μ-loop
 enum-known-s c = search needs
 
-wide-requires : tie.Need-wide-requires Inv-loop μ-loop
-wide-requires c κs = search needs
+number-requires : tie.Need-number-requires Inv-loop μ-loop
+number-requires c κs = search needs
 
 mul-h : tie.Need-mul-h Inv-loop μ-loop
 mul-h c = search needs
@@ -58,7 +58,7 @@ name-hash-spec =
     loop-holds
     name-byte-requires
     enum-known-s
-    wide-requires
+    number-requires
     mul-h
     add-h
     loop-less

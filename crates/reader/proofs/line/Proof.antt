@@ -43,7 +43,6 @@ use Rattle.lines.proofs.LineEnd.Laws as line-end-laws
 use Rattle.lines.proofs.Signs as signs
 use Rattle.lines.proofs.Signs.Laws as signs-laws
 use Rattle.reader.specs.declared.Reader.{Reader}
-use Rattle.reader.proofs.Reader as reader
 use Rattle.reader.proofs.Reader.Laws as reader-laws
 use Rattle.reader.proofs.Owned.{Row, shape, laws, Source, source, Lent, Own, twice, lends}
 use Rattle.reader.proofs.line_from as line-from

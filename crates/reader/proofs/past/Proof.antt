@@ -31,7 +31,6 @@ use Rattle.lines.specs.declared.LineEnd.{LineEnd}
 use Rattle.lines.proofs.LineEnd as line-end
 use Rattle.lines.proofs.LineEnd.Laws as line-end-laws
 use Rattle.reader.specs.declared.Reader.{Reader}
-use Rattle.reader.proofs.Reader as reader
 use Rattle.reader.proofs.Reader.Laws as reader-laws
 use Rattle.reader.proofs.Owned.{Row, shape, laws, Lent, Own, twice, lends, makes}
 use Rattle.reader.proofs.past.Key.{name as #reader·past}

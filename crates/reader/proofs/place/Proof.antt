@@ -21,7 +21,6 @@ use denote.RattleType.{owns}
 use denote.Laws.{Is}
 use denote.Plain.{uint-makes}
 use denote.Builtin.{usize}
-use denote.Signature.{namedLft}
 use denote.Steps.{owned}
 use denote.Struct.Laws as struct
 use denote.Triple.Entry.{onEntry}
@@ -30,7 +29,6 @@ use denote.Triple.Table.{entered}
 use denote.Triple.Walked.{says, Stays, stay-none, walkOf, goes-none, Walks, ends-at, walked, walk-meets}
 use denote.Exit.{yes}
 use Rattle.reader.specs.declared.Reader.{Reader}
-use Rattle.reader.proofs.Reader as reader
 use Rattle.reader.proofs.Reader.Laws as reader-laws
 use Rattle.reader.proofs.Owned.{Row, shape, laws}
 use Rattle.reader.proofs.place.Key.{name as #reader·place}

@@ -31,7 +31,6 @@ use denote.Triple.Table.{entered}
 use denote.Triple.Walked.{says, Stays, stay-none, stay-none-slice, walkOf, goes-none, goes-none-slice, Walks, ends-at, walked, walk-meets}
 use denote.Exit.{yes}
 use Rattle.reader.specs.declared.Reader.{Reader}
-use Rattle.reader.proofs.Reader as reader
 use Rattle.reader.proofs.Reader.Laws as reader-laws
 use Rattle.reader.proofs.Owned.{Source, source, Lent, makes}
 use Rattle.reader.proofs.reader_at.Key.{name as #reader·reader-at}

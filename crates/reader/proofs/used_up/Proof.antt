@@ -37,7 +37,6 @@ use denote.Triple.Walked.{says, Stays, stay-none, walkOf, goes-none, Walks, ends
 use denote.Exit.{yes}
 use denote.Triple.Clauses.{ensured, lasts}
 use Rattle.reader.specs.declared.Reader.{Reader}
-use Rattle.reader.proofs.Reader as reader
 use Rattle.reader.proofs.Reader.Laws as reader-laws
 use Rattle.reader.proofs.Owned.{Row, shape, laws, Source, source, Lent, Own, twice, lends}
 use Rattle.reader.proofs.is_end as is-end

@@ -22,9 +22,6 @@ enum-told c = search needs
 name-hash-requires : tie.Need-name-hash-requires
 name-hash-requires c κs = search needs
 
-wide-requires-2 : tie.Need-wide-requires-2
-wide-requires-2 c κs = search needs
-
 returns-2 : tie.Need-returns-2
 returns-2 c = search hash-name
 
@@ -38,5 +35,4 @@ subject-hash-spec =
     returns
     enum-told
     name-hash-requires
-    wide-requires-2
     returns-2)

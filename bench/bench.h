@@ -1,0 +1,78 @@
+/* What the files of the benchmark share. `run` says what it measures. */
+
+#ifndef BENCH_H
+#define BENCH_H
+
+#include <stddef.h>
+#include <stdint.h>
+
+/* ---- sources.c: locale sources, the same for all systems ---- */
+
+/* Bytes that grow. */
+struct text {
+    char *bytes;
+    size_t count, room;
+};
+
+/* The order of the characters over the lines of a table. */
+enum order { RISING, FALLING, SHUFFLED };
+
+/* An order line: its characters, the line that its first weight names, its accent and case, or IGNORE at all levels. */
+struct line {
+    uint32_t chars[3];
+    int count, base, accent, capital, ignored;
+};
+
+/* A source under a name, and the rules by which ICU orders alike, empty where there are none. */
+struct source {
+    const char *name;
+    struct text text, rules;
+};
+
+enum { MOST_LINES = 32000, MOST_SOURCE = 1048576 };
+
+/* A table of so many lines and three levels, the second of them backward or not; its lines for whoever asks. */
+struct source table_source(const char *name, int lines, enum order order, int backward);
+int table_lines(struct line *lines, int count, enum order order);
+
+/* The smallest source, and orders that are hostile to a compiler. */
+struct source small_source(void);
+struct source elements_source(int count);
+struct source comments_source(void);
+struct source joined_source(const char *piece);
+struct source conditionals_source(int depth);
+struct source names_source(int count);
+struct source colliding_source(int count);
+struct source joined_name_source(int count);
+
+/* Writes NAME.src, with the categories that localedef asks for, and NAME.charmap, with ASCII and the characters that the source names. */
+void write_source(const char *folder, const struct source *source);
+
+/* ---- strings.c: pairs of strings ---- */
+
+enum { MOST_LENGTH = 4096, MOST_PAIRS = 8 };
+
+/* A string as each system takes it. */
+struct string {
+    size_t count, bytes;
+    uint32_t codes[MOST_LENGTH + 1];
+    wchar_t *wide;     /* the same numbers, with a zero behind them */
+    char utf8[4 * MOST_LENGTH + 1];
+    uint16_t utf16[MOST_LENGTH + 1];
+};
+
+/* Where two strings differ, and in what. */
+enum difference { FIRST, LAST, CASE_FIRST, CASE_LAST, IGNORABLE, DIFFERENCES };
+extern const char *const difference_names[DIFFERENCES];
+
+extern struct string first_strings[MOST_PAIRS], second_strings[MOST_PAIRS];
+
+/* Makes pairs of this length, of ASCII letters or of letters from all over the table: how many. One character in eight is punctuation. */
+int make_pairs(enum difference difference, int length, const struct line *lines, int count, int whole);
+
+/* A number below a bound, the same ones in every run. */
+uint32_t random_below(uint32_t bound);
+
+void *reserve(size_t size);
+
+#endif

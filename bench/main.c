@@ -1,0 +1,543 @@
+/* Measures the product beside its peers and prints the tables: bench FOLDER LOCALEDEF..
+ *
+ * FOLDER is where sources and locales are kept; the other words are the command that runs localedef. All systems of a row take turns in one
+ * run, and the least time of each counts, in processor time: other work on the machine slows a turn down but not the least of many. */
+
+#define _GNU_SOURCE
+#include <fcntl.h>
+#include <locale.h>
+#include <spawn.h>
+#include <stdio.h>
+#include <stdlib.h>
+#include <string.h>
+#include <sys/resource.h>
+#include <sys/wait.h>
+#include <time.h>
+#include <unistd.h>
+#include <wchar.h>
+#ifdef WITH_ICU
+#include <unicode/ucol.h>
+#include <unicode/ustring.h>
+#endif
+
+#include "bench.h"
+#include "zeharmeku.h"
+
+extern char **environ;
+
+static const char *folder;
+static char **localedef;
+static int localedef_words;
+
+static void fail(const char *what, const char *which)
+{
+    fprintf(stderr, "bench: %s: %s\n", what, which);
+    exit(2);
+}
+
+/* ---- Time ---- */
+
+static volatile long sink;
+
+/* A call on pair k; one call on each pair is a round. */
+typedef long (*call)(int k);
+
+struct timing {
+    call call;
+    long rounds;
+    double best; /* nanoseconds for one call */
+};
+
+static double processor_time(void)
+{
+    struct timespec t;
+    clock_gettime(CLOCK_PROCESS_CPUTIME_ID, &t);
+    return (double)t.tv_sec * 1e9 + (double)t.tv_nsec;
+}
+
+static double turn(const struct timing *timing, int pairs)
+{
+    double from = processor_time();
+    for (long r = 0; r < timing->rounds; r++)
+        for (int k = 0; k < pairs; k++)
+            sink += timing->call(k);
+    return processor_time() - from;
+}
+
+/* Times some calls on the same pairs, in turns. A call that is NULL is left out, with a best time of 0. */
+static void measure(struct timing *timings, int count, int pairs)
+{
+    enum { TURNS = 20 };
+    const double least = 1.5e6, slow = 5e7;
+    double first[8] = {0};
+    for (int s = 0; s < count; s++) {
+        if (timings[s].call == NULL)
+            continue;
+        timings[s].rounds = 1;
+        for (;;) {
+            first[s] = turn(&timings[s], pairs);
+            if (first[s] >= least)
+                break;
+            timings[s].rounds *= first[s] < least / 10 ? 10 : 2;
+        }
+        timings[s].best = first[s];
+    }
+    for (int t = 0; t < TURNS; t++)
+        for (int s = 0; s < count; s++) {
+            if (timings[s].call == NULL || (t > 0 && first[s] > slow))
+                continue;
+            double took = turn(&timings[s], pairs);
+            if (took < timings[s].best)
+                timings[s].best = took;
+        }
+    for (int s = 0; s < count; s++)
+        if (timings[s].call != NULL)
+            timings[s].best /= (double)(timings[s].rounds * pairs);
+}
+
+/* ---- The systems: each orders by the table at hand ---- */
+
+static uint32_t *table;
+static size_t table_count;
+static locale_t locale;
+#ifdef WITH_ICU
+static UCollator *collator;
+#endif
+
+enum { KEY_ROOM = 1060880 };
+static _Alignas(8) uint8_t key_room[4 * KEY_ROOM];
+
+static long plain_pass(int k)
+{
+    uint32_t sum = 0;
+    (void)k;
+    for (size_t i = 0; i < table_count; i++)
+        sum += table[i];
+    return sum;
+}
+
+static long product_check(int k)
+{
+    uint64_t answer[4];
+    (void)k;
+    zeharmeku_check(table, table_count, answer, 4);
+    return (long)answer[3];
+}
+
+static long product_compare(int k)
+{
+    const struct string *a = &first_strings[k], *b = &second_strings[k];
+    uint64_t answer[4];
+    zeharmeku_compare(table, table_count, a->codes, a->count, b->codes, b->count, answer, 4);
+    if (answer[0] != 0)
+        fail("refused", "compare");
+    return (long)(int64_t)answer[1];
+}
+
+static long product_key(int k)
+{
+    uint64_t answer[2];
+    zeharmeku_key(table, table_count, first_strings[k].codes, first_strings[k].count, key_room, KEY_ROOM, answer, 2);
+    if (answer[0] != 0)
+        fail("refused", "key");
+    return (long)answer[1];
+}
+
+static long wide_compare(int k)
+{
+    return wcscoll_l(first_strings[k].wide, second_strings[k].wide, locale);
+}
+
+static long wide_key(int k)
+{
+    return (long)wcsxfrm_l((wchar_t *)key_room, first_strings[k].wide, KEY_ROOM, locale);
+}
+
+static long byte_compare(int k)
+{
+    return strcoll_l(first_strings[k].utf8, second_strings[k].utf8, locale);
+}
+
+static long byte_key(int k)
+{
+    return (long)strxfrm_l((char *)key_room, first_strings[k].utf8, KEY_ROOM, locale);
+}
+
+#ifdef WITH_ICU
+static long icu_compare(int k)
+{
+    const struct string *a = &first_strings[k], *b = &second_strings[k];
+    return ucol_strcoll(collator, (const UChar *)a->utf16, (int32_t)a->count, (const UChar *)b->utf16, (int32_t)b->count);
+}
+
+static long icu_key(int k)
+{
+    return ucol_getSortKey(collator, (const UChar *)first_strings[k].utf16, (int32_t)first_strings[k].count, key_room, KEY_ROOM);
+}
+#else
+static const call icu_compare = NULL, icu_key = NULL;
+#endif
+
+/* ---- Compiling ---- */
+
+static const struct source *compiled;
+static uint32_t area[1 << 21], work[MOST_SOURCE + 64];
+
+static long product_compile(int k)
+{
+    uint64_t answer[3];
+    (void)k;
+    zeharmeku_compile((const uint8_t *)compiled->text.bytes, compiled->text.count, area, sizeof area / sizeof *area, work,
+                      compiled->text.count + 64, answer, 3);
+    if (answer[0] != 0)
+        fail("refused", compiled->name);
+    return (long)answer[2];
+}
+
+#ifdef WITH_ICU
+static UCollator *icu_open(const struct source *source)
+{
+    static UChar rules[1 << 20];
+    int32_t count;
+    UErrorCode error = U_ZERO_ERROR;
+    UParseError place;
+    u_strFromUTF8(rules, sizeof rules / sizeof *rules, &count, source->rules.bytes, (int32_t)source->rules.count, &error);
+    UCollator *opened = ucol_openRules(rules, count, UCOL_DEFAULT, UCOL_IDENTICAL, &place, &error);
+    if (U_FAILURE(error))
+        fail("ICU refused", source->name);
+    return opened;
+}
+
+static long icu_compile(int k)
+{
+    (void)k;
+    ucol_close(icu_open(compiled));
+    return 0;
+}
+#else
+static const call icu_compile = NULL;
+#endif
+
+/* Runs localedef on FOLDER/NAME.src with a charmap: the processor time that it took, or -1 where it failed. */
+static double run_localedef(const char *name, const char *charmap)
+{
+    char source[4096], map[4096], to[4096], quiet[] = "--quiet", no_archive[] = "--no-archive", input[] = "-i", by[] = "-f";
+    char *words[32];
+    int count = 0;
+    snprintf(source, sizeof source, "%s/%s.src", folder, name);
+    snprintf(map, sizeof map, "%s/%s.charmap", folder, charmap);
+    snprintf(to, sizeof to, "%s/%s", folder, name);
+    for (int k = 0; k < localedef_words; k++)
+        words[count++] = localedef[k];
+    words[count++] = quiet;
+    words[count++] = no_archive;
+    words[count++] = input;
+    words[count++] = source;
+    words[count++] = by;
+    words[count++] = map;
+    words[count++] = to;
+    words[count] = NULL;
+
+    pid_t child;
+    int status;
+    struct rusage used;
+    posix_spawn_file_actions_t actions;
+    posix_spawn_file_actions_init(&actions);
+    posix_spawn_file_actions_addopen(&actions, STDERR_FILENO, "/dev/null", O_WRONLY, 0);
+    if (posix_spawnp(&child, words[0], &actions, NULL, words, environ) != 0)
+        fail("cannot run", words[0]);
+    posix_spawn_file_actions_destroy(&actions);
+    if (wait4(child, &status, 0, &used) != child)
+        fail("no end of", words[0]);
+    if (status != 0)
+        return -1;
+    return (double)(used.ru_utime.tv_sec + used.ru_stime.tv_sec) * 1e9 + (double)(used.ru_utime.tv_usec + used.ru_stime.tv_usec) * 1e3;
+}
+
+/* Takes the order of a source: the product's table, glibc's locale and ICU's collator. */
+static void take_order(const struct source *source)
+{
+    compiled = source;
+    table_count = (size_t)product_compile(0);
+    table = area;
+    write_source(folder, source);
+    if (run_localedef(source->name, source->name) < 0)
+        fail("localedef refused", source->name);
+    if (locale != NULL)
+        freelocale(locale);
+    locale = newlocale(LC_ALL_MASK, source->name, NULL);
+    if (locale == NULL)
+        fail("no locale", source->name);
+#ifdef WITH_ICU
+    if (collator != NULL)
+        ucol_close(collator);
+    collator = icu_open(source);
+#endif
+}
+
+/* ---- Tables of figures ---- */
+
+/* A whole number as a cell, thousands apart. */
+static void whole_cell(double x)
+{
+    char digits[32];
+    int count = snprintf(digits, sizeof digits, "%.0f", x);
+    printf(" ");
+    for (int k = 0; k < count; k++)
+        printf(k > 0 && (count - k) % 3 == 0 ? ",%c" : "%c", digits[k]);
+    printf(" |");
+}
+
+/* A figure as a cell: three digits, or a whole number; what is not measured is a dash. */
+static void cell(double x)
+{
+    if (x <= 0)
+        printf(" - |");
+    else if (x < 9.995)
+        printf(" %.2f |", x);
+    else if (x < 99.95)
+        printf(" %.1f |", x);
+    else
+        whole_cell(x);
+}
+
+/* The product's time, the check's part of it, what is left, and how often that takes what peers take. What is left says nothing where it is
+ * less than a twelfth of the check. */
+static void cells_beside(double ours, double check, const double *peers, int count)
+{
+    double left = ours - check;
+    if (left < check / 12)
+        left = 0;
+    cell(ours);
+    printf(" %.0f %% |", 100 * (check < ours ? check / ours : 1));
+    cell(left);
+    for (int k = 0; k < count; k++)
+        cell(peers[k] > 0 ? left / peers[k] : 0);
+}
+
+static const int sizes[] = {100, 1000, 10000, 32000}, lengths[] = {8, 64, 512, 4096};
+enum { SIZES = 4, LENGTHS = 4 };
+
+static struct source forward_tables[SIZES], backward_table;
+static struct line lines[MOST_LINES];
+
+static void check_table(void)
+{
+    printf("## Check\n\nOne check of a table beside one plain pass that adds up the same numbers, in microseconds.\n\n");
+    printf("| lines | numbers | plain pass | check | check / pass |\n|--:|--:|--:|--:|--:|\n");
+    for (int s = 0; s < SIZES; s++) {
+        take_order(&forward_tables[s]);
+        struct timing timings[] = {{.call = plain_pass}, {.call = product_check}};
+        measure(timings, 2, 1);
+        printf("|");
+        whole_cell(sizes[s]);
+        whole_cell((double)table_count);
+        cell(timings[0].best / 1e3);
+        cell(timings[1].best / 1e3);
+        cell(timings[1].best / timings[0].best);
+        printf("\n");
+    }
+}
+
+static int sign(long x)
+{
+    return (x > 0) - (x < 0);
+}
+
+/* All systems order each pair alike, or the row would say nothing. glibc calls strings equal that differ in ignorable characters alone. */
+static void same_order(const struct timing *timings, int count, int pairs)
+{
+    for (int k = 0; k < pairs; k++) {
+        int ours = sign(product_compare(k));
+        for (int s = 0; s < count; s++) {
+            int theirs = timings[s].call == NULL ? ours : sign(timings[s].call(k));
+            if (theirs != ours && theirs != 0)
+                fail("a pair is ordered otherwise", "the row after the last one printed");
+        }
+    }
+}
+
+static void compare_row(int pairs)
+{
+    struct timing timings[] = {{.call = wide_compare}, {.call = byte_compare}, {.call = icu_compare}, {.call = product_check},
+                               {.call = product_compare}};
+    same_order(timings, 3, pairs);
+    measure(timings, 5, pairs);
+    double peers[] = {timings[0].best, timings[2].best};
+    cell(timings[0].best);
+    cell(timings[1].best);
+    cell(timings[2].best);
+    cells_beside(timings[4].best, timings[3].best, peers, 2);
+    printf("\n");
+    fflush(stdout);
+}
+
+static void compare_rows(const struct source *source, int size, const char *second)
+{
+    take_order(source);
+    int count = table_lines(lines, size, RISING);
+    for (int d = 0; d < DIFFERENCES; d++)
+        for (int n = 0; n < LENGTHS; n++) {
+            int pairs = make_pairs((enum difference)d, lengths[n], lines, count, 0);
+            printf("| %s | %s |", second, difference_names[d]);
+            whole_cell(lengths[n]);
+            compare_row(pairs);
+        }
+}
+
+static const char beside[] = "wcscoll | strcoll | ICU | ours | check | left | left / wcscoll | left / ICU |\n";
+static const char beside_line[] = "--:|--:|--:|--:|--:|--:|--:|--:|\n";
+
+static void compare_table(void)
+{
+    printf("\n## Compare, by difference and length\n\nA table of 100 lines, ASCII letters, nanoseconds for one comparison. "
+           "`check` is its share of our time, `left` our time without it, a dash where that is too little to be told.\n\n");
+    printf("| second level | difference | length | %s|---|---|--:|%s", beside, beside_line);
+    compare_rows(&forward_tables[0], sizes[0], "forward");
+    compare_rows(&backward_table, sizes[0], "backward");
+}
+
+static void growth_table(void)
+{
+    printf("\n## Compare, by size of the table\n\nThe last letter differs, all levels forward, nanoseconds for one comparison; "
+           "letters of ASCII, or from all over the table.\n\n");
+    printf("| lines | letters | length | %s|--:|---|--:|%s", beside, beside_line);
+    for (int s = 0; s < SIZES; s++) {
+        take_order(&forward_tables[s]);
+        int count = table_lines(lines, sizes[s], RISING);
+        for (int whole = 0; whole < 2; whole++)
+            for (int n = 0; n < LENGTHS; n++) {
+                int pairs = make_pairs(LAST, lengths[n], lines, count, whole);
+                printf("|");
+                whole_cell(sizes[s]);
+                printf(" %s |", whole ? "all" : "ASCII");
+                whole_cell(lengths[n]);
+                compare_row(pairs);
+            }
+    }
+}
+
+static void key_rows(const struct source *source, int size, const char *second)
+{
+    take_order(source);
+    int count = table_lines(lines, size, RISING);
+    for (int n = 0; n < LENGTHS; n++) {
+        int pairs = make_pairs(LAST, lengths[n], lines, count, 0);
+        struct timing timings[] = {{.call = wide_key}, {.call = byte_key}, {.call = icu_key}, {.call = product_check},
+                                   {.call = product_key}};
+        measure(timings, 5, pairs);
+        double peers[] = {timings[0].best, timings[2].best};
+        printf("|");
+        whole_cell(size);
+        printf(" %s |", second);
+        whole_cell(lengths[n]);
+        cell(timings[0].best);
+        cell(timings[1].best);
+        cell(timings[2].best);
+        cells_beside(timings[4].best, timings[3].best, peers, 2);
+        printf("\n");
+        fflush(stdout);
+    }
+}
+
+static void key_table(void)
+{
+    printf("\n## Key\n\nASCII letters, nanoseconds for one key.\n\n");
+    printf("| lines | second level | length | wcsxfrm | strxfrm | ICU | ours | check | left | left / wcsxfrm | left / ICU |\n"
+           "|--:|---|--:|%s", beside_line);
+    for (int s = 0; s < SIZES; s++)
+        key_rows(&forward_tables[s], sizes[s], "forward");
+    key_rows(&backward_table, sizes[0], "backward");
+}
+
+/* The least time of localedef on a source, less that on the smallest with the same charmap; 0 where it refuses. */
+static double localedef_net(const struct source *source)
+{
+    enum { RUNS = 60 };
+    const double enough = 1.5e9;
+    double best = 1e18, least = 1e18, all = 0;
+    write_source(folder, source);
+    for (int k = 0; k < RUNS && all < enough; k++) {
+        double start = run_localedef("small", source->name), took = run_localedef(source->name, source->name);
+        if (start < 0 || took < 0)
+            return 0;
+        least = start < least ? start : least;
+        best = took < best ? took : best;
+        all += start + took;
+    }
+    return best - least;
+}
+
+static void compile_row(const char *what, const struct source *source, int has_peer)
+{
+    compiled = source;
+    struct timing timings[] = {{.call = product_compile}, {.call = source->rules.count > 0 ? icu_compile : NULL}};
+    measure(timings, 2, 1);
+    double peer = has_peer ? localedef_net(source) : 0;
+    printf("| %s |", what);
+    whole_cell((double)source->text.count);
+    cell(peer / 1e6);
+    cell(timings[1].best / 1e6);
+    cell(timings[0].best / 1e6);
+    cell(peer > 0 ? timings[0].best / peer : 0);
+    printf("\n");
+    fflush(stdout);
+}
+
+static void compile_table(void)
+{
+    static const char *const names[] = {"100 lines, rising", "1,000 lines, rising", "10,000 lines, rising", "32,000 lines, rising"};
+    printf("\n## Compile\n\nOne source, in milliseconds; localedef without its start. It refuses conditionals within conditionals, and lines "
+           "that are nothing but a join.\n\n");
+    printf("| source | bytes | localedef | ICU | ours | ours / localedef |\n|---|--:|--:|--:|--:|--:|\n");
+    struct source small = small_source();
+    write_source(folder, &small);
+    for (int s = 0; s < SIZES; s++)
+        compile_row(names[s], &forward_tables[s], 1);
+    struct source source = table_source("falling", 32000, FALLING, 0);
+    compile_row("32,000 lines, falling", &source, 1);
+    source = table_source("shuffled", 32000, SHUFFLED, 0);
+    compile_row("32,000 lines, shuffled", &source, 1);
+    source = elements_source(8000);
+    compile_row("8,000 elements with one first character", &source, 1);
+    source = comments_source();
+    compile_row("1 MiB of comments", &source, 1);
+    source = joined_source(" /\n");
+    compile_row("1 MiB of one joined line, blanks and joins", &source, 1);
+    source = joined_source("/\n");
+    compile_row("1 MiB of one joined line, joins alone", &source, 0);
+    source = conditionals_source(1);
+    compile_row("32,000 lines, each in a conditional", &source, 1);
+    source = conditionals_source(8);
+    compile_row("1 MiB of lines in conditionals 8 deep", &source, 0);
+    source = names_source(9000);
+    compile_row("9,000 names of 32 bytes that differ in the last", &source, 1);
+    source = colliding_source(2000);
+    compile_row("2,000 names with one hash", &source, 1);
+    source = colliding_source(4000);
+    compile_row("4,000 names with one hash", &source, 1);
+    source = joined_name_source(50);
+    compile_row("50 lines that name a symbol joined over 512 KiB", &source, 0);
+    source = joined_name_source(100);
+    compile_row("100 lines that name a symbol joined over 512 KiB", &source, 0);
+}
+
+int main(int count, char **words)
+{
+    if (count < 3)
+        fail("wants", "FOLDER LOCALEDEF..");
+    folder = words[1];
+    localedef = words + 2;
+    localedef_words = count - 2;
+    setenv("LOCPATH", folder, 1);
+    static const char *const names[] = {"lines100", "lines1000", "lines10000", "lines32000"};
+    for (int s = 0; s < SIZES; s++)
+        forward_tables[s] = table_source(names[s], sizes[s], RISING, 0);
+    backward_table = table_source("backward100", sizes[0], RISING, 1);
+    check_table();
+    compare_table();
+    growth_table();
+    key_table();
+    compile_table();
+    return 0;
+}

@@ -1,0 +1,4 @@
+pub mod PairLaws
+pub mod RunLaws
+pub mod ReportLaws
+pub mod FeedLaws
