@@ -1,5 +1,5 @@
 -- The laws of the definition (CompileLaws in rules) as laws of the code: of every area that `compile` leaves where it answers Done.
-use mathlib.Core.Path.{_≡_, refl, sym, ap, _∙_}
+use mathlib.Core.Path.{_≡_, refl, ap, _∙_}
 use mathlib.Core.Bool.{true, not, _&&_}
 use mathlib.Core.List.{List, []}
 use Prim.Native.Nat.{ℕ, _+_, _≤_}

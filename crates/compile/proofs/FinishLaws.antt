@@ -1,29 +1,23 @@
 -- The end of a source on the paper (Rattle.rules.specs.Compile): what the answer is after the lines, by what was found.
-use mathlib.Core.Path.{_≡_, refl, sym, ap, _∙_, subst}
-use mathlib.Core.Bool.{Bool, true, false, not, _&&_}
-use mathlib.Core.List.{List, [], _∷_, _++_}
-use Prim.Native.Nat.{ℕ, suc, _+_, _*_, _≤_, _<_}
+use mathlib.Core.Path.{_≡_, sym, ap, _∙_}
+use mathlib.Core.Bool.{true, false}
+use mathlib.Core.List.{List, []}
+use Prim.Native.Nat.{ℕ, _+_, _≤_, _<_}
 use native.Mathlib.Omega.{arith}
-use lib.ListN.{length, drop, length-append}
-use lib.Dec.{ltb, leb, eqb}
-use borrow.Author.Tests.{ne-eqb, lt-ltb, le-ltb, le-leb}
-use Rattle.lists.proofs.Bools.{by}
+use lib.ListN.{length}
+use borrow.Author.Tests.{lt-ltb, le-ltb, le-leb}
 use Rattle.rules.specs.Text.{every, Result, granted, refused}
-use Rattle.rules.specs.Meaning.{Rule, Item, item, Meaning, countAll, weightCount, sizeOf, good}
+use Rattle.rules.specs.Meaning.{Meaning, sizeOf, good}
 use Rattle.rules.specs.Table.{storedForm}
-use Rattle.rules.specs.State.{State, OrderLine, undefined, start}
-use Rattle.rules.specs.OrderLines.{rankOf}
+use Rattle.rules.specs.State.{State, start}
 use Rattle.rules.specs.Source.{Ended, ended, linesFrom}
-use Rattle.rules.specs.Compile.{itemsFrom, levelsOfRank, supplied, meaningOf, isRanked, unranked, finish, compileOf}
-use Rattle.rules.specs.Calls.{over, cleared, compiledAs}
-use Rattle.rules.proofs.CompileLaws.{compile-good}
-use Rattle.rules.proofs.TableLaws.{AllStored, meaning-stored}
+use Rattle.rules.specs.Compile.{meaningOf, isRanked, unranked, finish, compileOf}
+use Rattle.rules.specs.Calls.{over, compiledAs}
+use Rattle.rules.proofs.CompileLaws.{finish-line, compile-good}
 use Rattle.units.specs.Numbers.{numberOf}
 use Rattle.units.specs.declared.Refusal.{Refusal}
 use Rattle.skips.specs.Passing.{Refuses}
-use Rattle.compile.specs.declared.Compiled.{Compiled}
 use Rattle.compile.specs.declared.Compiled.the-variants.{Done, Refused}
-use Rattle.compile.specs.Answers.{toldAs}
 use Rattle.compile.specs.Finishing.{AnswerIs}
 
 -- ## The answer on the paper
@@ -31,10 +25,8 @@ use Rattle.compile.specs.Finishing.{AnswerIs}
 module _ (area : ℕ) (e : Ended) where
   -- a line is refused
   pub finish-refused : (r l : ℕ) → Refuses e r l → 2 ≤ r → finish area e ≡ refused r l
-  unfolding finish
   finish-refused r l f h =
-      let z : eqb (e .refusal) 0 ≡ false = ap (λ (x : ℕ). eqb x 0) (f .refusal) ∙ ne-eqb r 0 (λ x. omega (arith, x, h)) in
-      rw (z, f .refusal, f .line)
+      finish-line area e (λ z. let y = f .refusal in omega (arith, z, y, h)) ∙ ap (λ (x : ℕ). refused x (e .line)) (f .refusal) ∙ ap (refused r) (f .line)
 
   module _ (s : State) (i : e ≡ ended 0 0 s) where
     -- a weight has no rank

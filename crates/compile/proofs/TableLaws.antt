@@ -2,7 +2,7 @@
 use mathlib.Core.Path.{_≡_, refl, sym, ap, _∙_, subst}
 use mathlib.Core.Bool.{Bool, true, false}
 use mathlib.Core.List.{List, [], _∷_, _++_, append-nil}
-use Prim.Native.Nat.{ℕ, suc, _+_, _*_, _/_, _≤_, _<_}
+use Prim.Native.Nat.{ℕ, suc, _+_, _≤_, _<_}
 use native.Mathlib.Omega.{arith}
 use lib.ListN.{length, drop, length-append}
 use lib.Dec.{eqb}
@@ -12,7 +12,6 @@ use Rattle.rules.specs.Table.{storedForm}
 use Rattle.rules.specs.State.{OrderLine, undefined}
 use Rattle.rules.specs.OrderLines.{rankOf}
 use Rattle.rules.specs.Compile.{levelsOfRank, supplied, meaningOf, isRanked}
-use Rattle.rules.specs.Calls.{over}
 use Rattle.rules.proofs.SizeLaws.{stored-size}
 use Rattle.rules.proofs.TableLaws.{AllStored, meaning-stored, stored-append}
 use Rattle.lines.specs.declared.Signs.{Signs}

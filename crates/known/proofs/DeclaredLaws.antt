@@ -1,6 +1,6 @@
 -- What is found in the store is what the lines have declared.
 use mathlib.Core.Path.{_≡_, refl, sym, ap, _∙_, subst}
-use mathlib.Core.Bool.{Bool, true, false, _||_}
+use mathlib.Core.Bool.{true, false, _||_}
 use mathlib.Core.List.{List, [], _∷_}
 use Prim.Native.Nat.{ℕ, _≤_}
 use native.Mathlib.Omega.{arith}
@@ -10,14 +10,13 @@ use Rattle.lists.proofs.Bools.{by, or-false-left, or-false-right}
 use Rattle.lists.proofs.Lists.{All}
 use Rattle.rules.specs.Text.{oneOf, same}
 use Rattle.rules.specs.State.{Declaration, symbol, element, character, named}
-use Rattle.rules.specs.Declarations.{declares, declaresSymbol, declaresChars}
+use Rattle.rules.specs.Declarations.{declares, declaresSymbol}
 use Rattle.rules.specs.OrderLines.{sameSubject}
 use Rattle.rules.specs.Compile.{charsNamed}
 use Rattle.rules.proofs.TextLaws.{same-true}
 use Rattle.rows.specs.Cells.{cell}
 use Rattle.subjects.specs.Keys.{Key, item, chars, sameKey}
 use Rattle.store.specs.Store.{Decl, first, isPlace, isFound, knownIn}
-use Rattle.store.specs.declared.Found.{Found}
 use Rattle.store.specs.declared.Found.the-variants.{At, Nothing}
 use Rattle.store.proofs.ListLaws.{isPlace-fresh, isPlace-older}
 use Rattle.listed.specs.Listed.{charsNumber}
@@ -44,18 +43,6 @@ known-declared w n ds cs (elements {n = m} {xs} {v} {q} {ds = es} {cs = fs} z l 
     ∙ found-cons (item (named n)) (declaredAt (item (named m)) v) es ∙ rw (same-swap m n, known-declared w n es fs s)
 known-declared w n ds cs (characters {c = c} {v} {ds = es} {cs = fs} z s) =
     found-cons (item (named n)) (declaredAt (item (character c)) v) es ∙ known-declared w n es fs s
-
--- so is a list of characters
-pub known-chars : (w : List ℕ) (xs : List ℕ) (ds : List Decl) (cs : List Declaration) → Says w ds cs → knownIn (chars xs) ds ≡ oneOf (declaresChars xs) cs
-unfolding oneOf declaresChars sameKey knownIn first
-known-chars w xs ds cs none = refl
-known-chars w xs ds cs (symbols {n = m} {v} {ds = es} {cs = fs} z s) =
-    found-cons (chars xs) (declaredAt (item (named m)) v) es ∙ known-chars w xs es fs s
-known-chars w xs ds cs (elements {n = m} {xs = ys} {v} {q} {ds = es} {cs = fs} z l s) =
-    found-cons (chars xs) (declaredAt (chars ys) q) (declaredAt (item (named m)) v ∷ es)
-    ∙ rw (found-cons (chars xs) (declaredAt (item (named m)) v) es, same-swap ys xs, known-chars w xs es fs s)
-known-chars w xs ds cs (characters {c = c} {v} {ds = es} {cs = fs} z s) =
-    found-cons (chars xs) (declaredAt (item (character c)) v) es ∙ known-chars w xs es fs s
 
 -- a name that is not declared is no symbol's
 pub none-later : (n : List ℕ) (fs : List Declaration) → oneOf (declares n) fs ≡ false → oneOf (declaresSymbol n) fs ≡ false

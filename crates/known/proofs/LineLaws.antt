@@ -50,10 +50,6 @@ module _ (w : List ℕ) (o : Order) (v number place : ℕ) where
   abbrev counted : List ℕ
   counted = set linked (cellAt v lineNumber) number
 
-  line-length : length (withLine w o v number place) ≡ length w
-  unfolding withLine
-  line-length = length-set counted (cellAt v placeNumber) place ∙ length-set linked (cellAt v lineNumber) number ∙ link-length w (o .last) v
-
   -- the other three numbers of all rows
   line-else : (u j : ℕ) → j < 5 → (j ≡ lineNumber → ⊥) → (j ≡ placeNumber → ⊥) → cell (withLine w o v number place) u j ≡ cell linked u j
   unfolding withLine

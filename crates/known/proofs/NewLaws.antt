@@ -16,7 +16,7 @@ use Rattle.rows.specs.Cells.{cellAt, cell}
 use Rattle.subjects.specs.Keys.{Key, item, chars, keyAt}
 use Rattle.store.specs.Store.{Decl, first, isPlace, fresh, Declares}
 use Rattle.store.specs.declared.Found.the-variants.{Nothing}
-use Rattle.store.proofs.AreaLaws.{holds-rise, holds-beyond}
+use Rattle.store.proofs.AreaLaws.{holds-beyond}
 use Rattle.store.proofs.ListLaws.{isPlace-older, place-within}
 use Rattle.listed.specs.declared.Order.{Order}
 use Rattle.listed.specs.Listed.{charsNumber}
@@ -57,12 +57,6 @@ says-on w w′ ds cs e (characters {c = c} {v = v} {ds = es} {cs = fs} z s) =
 module _ (g : Signs) (src w : List ℕ) (o : Order) (rs : List Rule) (n : ℕ) (cs : List Declaration) (ls : List OrderLine) (k : Known g src w o rs n cs ls) where
   abbrev key : ℕ → Key
   key = keyAt g src
-
-  -- rows are passed
-  pub known-rise : (m : ℕ) → n ≤ m → Known g src w o rs m cs ls
-  known-rise m h =
-      known-grown g src w o rs n cs ls k w m (k .ds) cs (holds-rise m h (k .holds)) (k .says) (k .once)
-      (record { long = refl; four = λ u j a b c. refl; rest = λ u a b. refl; rows = h; older = λ u p. p; newer = λ u p q. absurd (false≢true (sym q ∙ p)); some = λ u p q. absurd (false≢true (sym q ∙ p)) })
 
   -- others write behind the rows
   pub known-behind : (w′ : List ℕ) → length w′ ≡ length w → ((i : ℕ) → i < 8 * (length src / 8 + 2) → getD w′ i 0 ≡ getD w i 0) → Known g src w′ o rs n cs ls

@@ -21,7 +21,7 @@ use Rattle.sheet.specs.Sheets.{Open, SomeOpen, StepIs}
 use Rattle.sheet.specs.Names.{operandsFrom}
 use Rattle.sheet.proofs.SheetLaws.{read-whole}
 use Rattle.ordering.specs.declared.Facts.{Facts}
-use Rattle.ordering.specs.Facts.{Rowed, undefinedFacts, OwnRefused, Ready, Lists}
+use Rattle.ordering.specs.Facts.{undefinedFacts, OwnRefused, Ready, Lists}
 use Rattle.sheet.specs.Words.{WordLine}
 use Rattle.ordering.specs.Lines.{Reads}
 use Rattle.sheet.proofs.SheetLaws.{spot-behind}
@@ -38,10 +38,6 @@ undefined-collate s number os = refl
 nine : length (bytes "UNDEFINED") ≡ 9
 unfolding bytes
 nine = refl
-
--- its row stands behind those of the source
-pub undefined-rowed : (src w : List ℕ) (m : ℕ) → m ≡ undefinedMark (length src) → length src + 64 ≤ length w → Rowed w (At m)
-undefined-rowed src w m e h = omega (arith, e, h)
 
 module _ (g : Signs) (src : List ℕ) (at : ℕ) (p : Spot) (e : LineEnd) (l : WordLine g src at p e (bytes "UNDEFINED")) (w : List ℕ) (sh : Sheet) (number m : ℕ)
     (mark : m ≡ undefinedMark (length src)) where

@@ -3,13 +3,11 @@ use mathlib.Core.Path.{_≡_, refl, sym, ap}
 use mathlib.Core.List.{List, [], _∷_, map}
 use Prim.Native.Nat.{ℕ}
 use lib.ListN.{length}
-use lib.Dec.{leb}
-use Rattle.rules.specs.Text.{every}
 use Rattle.rules.specs.Tokens.{Token}
 use Rattle.rules.specs.Meaning.{Rule}
 use Rattle.rules.specs.State.{Subject, OrderLine}
 use Rattle.rules.specs.OrderLines.{subjectOf, weightOf, weightsOf, rankOf}
-use Rattle.rules.specs.Compile.{ranksOf, lineRanks, isRanked}
+use Rattle.rules.specs.Compile.{ranksOf, lineRanks}
 use Rattle.ranks.specs.Ranks.{ranksBy, levelRanks}
 
 -- f gives the ranks of subjects, and own is that of x₀
@@ -40,7 +38,3 @@ module _ (ls : List OrderLine) (x₀ : Subject) (f : Subject → ℕ) (own : ℕ
     pub line-ranks : lineRanks ls (record { number = number; subject = x₀; weights = weightsOf x₀ rs ws }) ≡ levelRanks f own (length rs) ws
     unfolding lineRanks
     line-ranks = weights-ranks rs ws
-
-    pub line-ranked : isRanked ls (record { number = number; subject = x₀; weights = weightsOf x₀ rs ws }) ≡ every (every (leb 1)) (levelRanks f own (length rs) ws)
-    unfolding isRanked
-    line-ranked = ap (every (every (leb 1))) line-ranks

@@ -1,16 +1,16 @@
 -- What is still to be printed: how it changes with the next bytes, and that 4,097 bytes of a text decide it.
 use mathlib.Core.Path.{_≡_, refl, sym, ap, _∙_}
-use mathlib.Core.Bool.{true, false, not}
+use mathlib.Core.Bool.{true, false}
 use mathlib.Core.List.{List, [], _∷_, _++_, map, append-nil, append-assoc}
-use Prim.Native.Nat.{ℕ, zero, suc, _+_, _≤_, _<_}
+use Prim.Native.Nat.{ℕ, zero, suc, _+_, _<_}
 use native.Mathlib.Omega.{arith}
-use lib.ListN.{length, take, length-take}
-use lib.Seq.{take-all, take-nil, length-take-le}
+use lib.ListN.{length, take}
+use lib.Seq.{take-all, length-take-le}
 use lib.Dec.{eqb, ltb}
 use borrow.Author.Tests.{lt-ltb, ltb-true, ltb-false}
 use Rattle.lists.proofs.Bools.{by}
 use Rattle.rules.specs.Meaning.{Meaning}
-use Rattle.rules.specs.Coding.{areaAccepted, decodeOf}
+use Rattle.rules.specs.Coding.{decodeOf}
 use Rattle.rules.specs.Pairs.{textsFrom, textOf, pairLine, pairLines}
 use Rattle.report.specs.Feeding.{plain, reportFrom, endedLine}
 

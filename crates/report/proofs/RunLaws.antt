@@ -1,6 +1,5 @@
 -- A run of a piece, the bytes before the first LF: where it ends, and the loop that keeps it.
-use mathlib.Core.Path.{_≡_, refl, sym, ap, _∙_}
-use mathlib.Core.Bool.{true, false}
+use mathlib.Core.Path.{_≡_, refl, ap, _∙_}
 use mathlib.Core.List.{List, [], _∷_, _++_}
 use Prim.Native.Nat.{ℕ, zero, suc, _+_, _-_, _≤_, _<_}
 use native.Mathlib.Numerals.{add-one}
@@ -10,7 +9,6 @@ use lib.Seq.{drop-cons, take-nil, length-sets}
 use lib.Dec.{eqb}
 use borrow.Author.Tests.{eqb-true, eq-eqb, ne-eqb}
 use Rattle.lists.proofs.Bools.{by}
-use Rattle.keys.specs.Writing.{Puts}
 use Rattle.keys.proofs.PutLaws.{Putting, putting-none, putting-more, putting-all}
 use Rattle.report.specs.Feeding.{plain, KeepsByte, TakesRun}
 

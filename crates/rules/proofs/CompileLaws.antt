@@ -6,9 +6,9 @@ use Prim.Native.Nat.{ℕ, suc, _+_, _≤_, _<_}
 use native.Mathlib.Omega.{arith}
 use lib.ListN.{length, getD, length-append}
 use lib.Dec.{eqb, leb, ltb, lit≤}
-use borrow.Author.Tests.{eqb-true, eq-eqb, ltb-false, not-true, not-false}
+use borrow.Author.Tests.{eqb-true, eq-eqb, ne-eqb, ltb-false, not-true, not-false}
 use Rattle.lists.proofs.Bools.{and-intro, by}
-use Rattle.rules.specs.Text.{within, every, oneOf, same, granted}
+use Rattle.rules.specs.Text.{within, every, oneOf, same, granted, refused}
 use Rattle.rules.specs.Meaning.{Rule, Item, item, Meaning, sizeOf, goodWeights, goodItem, hasChars, noTwoAlike, good}
 use Rattle.rules.specs.State.{Declaration, undefined, OrderLine, State, start}
 use Rattle.rules.specs.OrderLines.{rankOf, stands, isSymbol}
@@ -96,6 +96,13 @@ meaningOf-good s h e =
       apart = g .apart;
       undefined = g .undefined;
     }
+
+-- ## What is refused
+
+-- a refused line is answered by its own number, whatever the weights of the lines before it name: 8 comes after the last line
+pub finish-line : (area : ℕ) (e : Ended) → (e .refusal ≡ 0 → ⊥) → finish area e ≡ refused (e .refusal) (e .line)
+unfolding finish
+finish-line area e h = rw (ne-eqb (e .refusal) 0 h)
 
 -- ## What is granted
 

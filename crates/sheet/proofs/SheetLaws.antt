@@ -43,10 +43,6 @@ rows-rise phase at next n h r =
     (λ t. let a : n ≤ (at + 5) / 8 = rw t at r in rw t (omega (arith, a, h)))
     (λ t. let a : n ≤ (at + 1) / 8 = rw t at r in rw t (omega (arith, a, h)))
 
--- after order_start, whose line is longer than a row
-pub rows-ordered : (at next n : ℕ) → at + 12 ≤ next → n ≤ rowsBefore beforeOrder at → n ≤ rowsBefore inOrder next
-rows-ordered at next n h r = omega (arith, h, r)
-
 -- ## Spots
 
 -- the spot after a line's first token

@@ -2,7 +2,7 @@
 use mathlib.Core.Path.{_≡_, refl, ap, _∙_}
 use mathlib.Core.Bool.{true, false, false≢true}
 use mathlib.Core.List.{List, [], _++_, append-nil}
-use Prim.Native.Nat.{ℕ, zero, suc, _+_, _-_, _*_, _/_, _%_, _≤_, _<_}
+use Prim.Native.Nat.{ℕ, zero, suc, _+_, _*_, _/_, _%_, _≤_, _<_}
 use native.Mathlib.Nat.{mod-lt, add-zero}
 use native.Mathlib.Omega.{arith}
 use lib.ListN.{length, getD, set, drop, replicate, length-set, length-replicate, drop-of-length-le}
@@ -14,7 +14,7 @@ use Rattle.lists.proofs.Bools.{by}
 use Rattle.rows.specs.Cells.{cellAt}
 use Rattle.subjects.specs.Keys.{Key, sameKey, hashKey}
 use Rattle.subjects.proofs.KeyLaws.{sameKey-true}
-use Rattle.store.specs.Store.{Decl, first, isPlace, headsOf, chainOf, latest, Nodes, none, more, Roomy, Holds}
+use Rattle.store.specs.Store.{Decl, isPlace, headsOf, chainOf, latest, Nodes, none, more, Roomy, Holds}
 
 -- ## Clearing
 
@@ -118,10 +118,6 @@ rise {m = m} h (more {d = d} a ns) =
       place = a .place;
     }) ns
 
--- rows may be passed
-pub holds-rise : {key : ℕ → Key} {len : ℕ} {w : List ℕ} {n : ℕ} {ds : List Decl} (m : ℕ) → n ≤ m → Holds key len w n ds → Holds key len w m ds
-holds-rise m h v = record { roomy = v .roomy; heads = v .heads; nodes = rise h (v .nodes) }
-
 -- what is declared lies in a row below the bound
 pub placed : {key : ℕ → Key} {len : ℕ} {w : List ℕ} {n : ℕ} {ds : List Decl} (p : ℕ) → Nodes key len w n ds → isPlace p ds ≡ true → p / 16 < n
 unfolding isPlace
@@ -147,11 +143,6 @@ holds-beyond e f v =
       heads = λ h b. f (8 * h + 1) (omega arith) ∙ v .heads h b;
       nodes = keep (λ r c g o h z. f (8 * r + c) (omega arith)) (v .nodes);
     }
-
--- one number behind the rows
-pub holds-set-beyond : {key : ℕ → Key} {len : ℕ} {w : List ℕ} {n : ℕ} {ds : List Decl} (i x : ℕ) → 8 * headsOf len ≤ i
-    → Holds key len w n ds → Holds key len (set w i x) n ds
-holds-set-beyond {w = w} i x h v = holds-beyond (length-set w i x) (λ j l. other w i j x (λ e. omega arith)) v
 
 -- ## The five numbers of rows
 

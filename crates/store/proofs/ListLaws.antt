@@ -1,17 +1,16 @@
 -- For callers: what the list says after a declaration and after a number is set, and how marks and keys go together.
-use mathlib.Core.Path.{_≡_, refl, sym, ap, _∙_}
+use mathlib.Core.Path.{_≡_, refl, sym, _∙_}
 use mathlib.Core.Bool.{true, false, false≢true}
 use mathlib.Core.List.{List, [], _∷_}
-use Prim.Native.Nat.{ℕ, _-_, _/_, _≤_, _<_}
+use Prim.Native.Nat.{ℕ, _/_, _≤_, _<_}
 use native.Mathlib.Omega.{arith}
-use lib.ListN.{set}
 use lib.Dec.{eqb}
 use borrow.Author.Tests.{eq-eqb, eqb-true, eqb-false}
-use Rattle.lists.proofs.Bools.{by, clash}
+use Rattle.lists.proofs.Bools.{by}
 use Rattle.subjects.specs.Keys.{Key, sameKey}
-use Rattle.subjects.proofs.KeyLaws.{sameKey-true, sameKey-refl, sameKey-equal}
+use Rattle.subjects.proofs.KeyLaws.{sameKey-true, sameKey-refl}
 use Rattle.store.specs.declared.Found.the-variants.{At, Nothing}
-use Rattle.store.specs.Store.{Decl, first, isPlace, Distinct, fresh, Nodes, none, more, Holds}
+use Rattle.store.specs.Store.{Decl, first, isPlace, fresh, Nodes, none, more, Holds}
 use Rattle.store.proofs.AreaLaws.{placed, placed-within}
 
 -- ## Nothing declared
@@ -77,10 +76,6 @@ module _ {key : ℕ → Key} {len : ℕ} {w : List ℕ} where
   new-place : {n : ℕ} {ds : List Decl} (p : ℕ) → Nodes key len w n ds → n ≤ p / 16 → isPlace p ds ≡ false
   new-place {ds = ds} p ns h = by (isPlace p ds) (λ t. let b = placed p ns t in absurd (omega arith)) (λ t. t)
 
-  distinct : {n : ℕ} {ds : List Decl} → Nodes key len w n ds → Distinct ds
-  distinct none = tt
-  distinct (more {d = d} a ns) = (new-place (d .place) ns (omega arith), distinct ns)
-
   one-row : {n : ℕ} {ds : List Decl} (p q : ℕ) → Nodes key len w n ds → isPlace p ds ≡ true → isPlace q ds ≡ true → p / 16 ≡ q / 16 → p ≡ q
   unfolding isPlace
   one-row p q none e f r = absurd (false≢true e)
@@ -91,16 +86,6 @@ module _ {key : ℕ → Key} {len : ℕ} {w : List ℕ} where
       (λ t. by (eqb (d .place) q)
       (λ u. let b = placed p ns (rw t at e) in let z = eqb-true (d .place) q u in absurd (omega arith))
       (λ u. one-row p q ns (rw t at e) (rw u at f) r))
-
-  some-place : {n : ℕ} {ds : List Decl} (p : ℕ) → Nodes key len w n ds → isPlace p ds ≡ true → first (key p) ds ≡ Nothing → ⊥
-  unfolding isPlace first
-  some-place p none e f = false≢true e
-  some-place p (more {d = d} a ns) e f =
-      by (sameKey (d .key) (key p))
-      (λ u. let q : At (d .place) ≡ Nothing = rw u at f in let z : _≡_ {A = ℕ} 0 1 = cc in absurd (omega arith))
-      (λ u. by (eqb (d .place) p)
-      (λ t. let z = eqb-true (d .place) p t in clash (sameKey-equal (sym (a .keyed) ∙ ap key z)) u)
-      (λ t. some-place p ns (rw t at e) (rw u at f)))
 
   module _ {n : ℕ} {ds : List Decl} (v : Holds key len w n ds) where
     -- what is found stands in the source, is declared, and has the key
@@ -113,10 +98,6 @@ module _ {key : ℕ → Key} {len : ℕ} {w : List ℕ} where
     pub found-key : (k : Key) (p : ℕ) → first k ds ≡ At p → key p ≡ k
     found-key k p e = first-key k p (v .nodes) e
 
-    -- what is declared is found
-    pub place-found : (p : ℕ) → isPlace p ds ≡ true → first (key p) ds ≡ Nothing → ⊥
-    place-found p e = some-place p (v .nodes) e
-
     pub place-below : (p : ℕ) → isPlace p ds ≡ true → p / 16 < n
     place-below p e = placed p (v .nodes) e
 
@@ -125,10 +106,6 @@ module _ {key : ℕ → Key} {len : ℕ} {w : List ℕ} where
 
     pub place-new : (p : ℕ) → n ≤ p / 16 → isPlace p ds ≡ false
     place-new p h = new-place p (v .nodes) h
-
-    -- no mark stands twice, nor two in one row
-    pub places-distinct : Distinct ds
-    places-distinct = distinct (v .nodes)
 
     pub place-row : (p q : ℕ) → isPlace p ds ≡ true → isPlace q ds ≡ true → p / 16 ≡ q / 16 → p ≡ q
     place-row p q e f r = one-row p q (v .nodes) e f r

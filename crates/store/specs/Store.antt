@@ -42,11 +42,6 @@ isPlace p (d ∷ ds) =
     let r : Bool = isPlace p ds in
     if eqb (d .place) p then true else r
 
--- no mark stands twice
-abbrev pub Distinct : List Decl → Type 0
-Distinct [] = Unit
-Distinct (d ∷ ds) = (isPlace (d .place) ds ≡ false) × Distinct ds
-
 -- what is declared at a mark
 abbrev pub fresh : (ℕ → Key) → ℕ → Decl
 fresh key v = record { key = key v; place = v }

@@ -45,9 +45,6 @@ use Rattle.stored.proofs.TableLaws.{Levelled, parts-written, items-zero
 -- ## The head
 
 module _ (g : Signs) (src : List ℕ) (place levels items weights : ℕ) (area : List ℕ) (h : HeadFits g src place levels items weights area) where
-  pub head-front : 16 ≤ length area
-  head-front = omega (arith, h .room)
-
   module _ {l i w : ℕ} (el : l ≡ levels) (ei : i ≡ items) (ew : w ≡ weights) {front : List ℕ} (p : front ≡ sets area 0 (frontNumbers l i w)) where
     pub head-rules : RulesFit (operands (tokensLeft g src (behind place))) front 16
     unfolding rulesAt

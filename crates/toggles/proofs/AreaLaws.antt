@@ -1,7 +1,7 @@
 -- Toggles as the numbers of an area: what a number stands for, and what is kept where the area changes elsewhere.
 use mathlib.Core.Path.{_≡_, refl, sym, ap, _∙_}
 use mathlib.Core.Bool.{Bool, true, false}
-use mathlib.Core.List.{List, [], map}
+use mathlib.Core.List.{List, map}
 use Prim.Native.Nat.{ℕ, _+_, _*_, _/_, _%_, _≤_, _<_}
 use native.Mathlib.Omega.{arith}
 use lib.ListN.{length, getD, take, drop, length-map, length-drop, List·getD-map}
@@ -68,14 +68,6 @@ module _ (g : Signs) {src work : List ℕ} {base n : ℕ} (k : Kept src work bas
       ∙ ap (toggleAt g src) (getD-take n (drop base work) i 0 h ∙ getD-drop base work i 0)
 
 -- ## What a caller needs
-
--- before the first toggle is named
-pub no-toggles : (g : Signs) (src work : List ℕ) (base : ℕ) → togglesIn g src work base 0 ≡ []
-unfolding togglesIn
-no-toggles g src work base = refl
-
-pub kept-none : (src work : List ℕ) (base : ℕ) → base + 16 ≤ length work → Kept src work base 0
-kept-none src work base h = record { room = h; few = omega arith; inside = λ i l. absurd (omega arith) }
 
 -- where an area changes elsewhere only, the toggles stay
 module _ {src before : List ℕ} {base n : ℕ} (after : List ℕ) (k : Kept src before base n) (long : length after ≡ length before)

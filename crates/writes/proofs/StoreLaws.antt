@@ -23,9 +23,6 @@ sets-swap area i (x ∷ xs) at ys h =
 
 -- ## Part by part
 
-pub puts-one : (area : List ℕ) (at x : ℕ) → Puts area at (x ∷ []) (set area at x) (at + 1)
-puts-one area at x = record { is = refl; to = refl }
-
 pub puts-none : (area : List ℕ) (at : ℕ) → Puts area at [] area at
 puts-none area at = record { is = refl; to = omega arith }
 

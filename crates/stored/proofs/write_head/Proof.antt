@@ -1,6 +1,6 @@
 -- `stored::write_head` meets its contract.
 use borrow.Author.Needs.{needs}
-use Rattle.stored.proofs.BuildLaws.{head-front, head-rules, head-written}
+use Rattle.stored.proofs.BuildLaws.{head-rules, head-written}
 use Rattle.stored.proofs.write_head.Statement.{statement}
 use Rattle.stored.proofs.write_head.Tie as tie
 
