@@ -4,7 +4,7 @@ use mathlib.Core.List.{List, [], _∷_, _++_, map}
 use Prim.Native.Nat.{ℕ, suc, _+_}
 use lib.ListN.{length}
 use lib.Dec.{ltb, leb, eqb}
-use Rattle.rules.specs.Text.{if_then_else_, every, same, Result, granted, refused}
+use Rattle.rules.specs.Text.{if_then_else_, every, same, lower, Result, granted, refused}
 use Rattle.rules.specs.Meaning.{Rule, Item, item, Meaning, sizeOf}
 use Rattle.rules.specs.State.{Declaration, symbol, element, Subject, character, named, undefined, OrderLine, State, start}
 use Rattle.rules.specs.OrderLines.{isSymbol, rankOf}
@@ -61,12 +61,12 @@ meaningOf s =
 unfoldable pub isRanked : List OrderLine → OrderLine → Bool
 isRanked ls l = every (every (leb 1)) (lineRanks ls l)
 
--- the number of the first line with a weight that has none; 0 for no such line
+-- of the lines with a weight that has none, the number of the one that was written first; 0 for no such line
 unfoldable pub unranked : List OrderLine → List OrderLine → ℕ
 unranked ranked [] = 0
 unranked ranked (l ∷ ls) =
     let r : ℕ = unranked ranked ls in
-    if isRanked ranked l then r else l .number
+    if isRanked ranked l then r else lower (l .number) r
 
 -- ## The whole
 

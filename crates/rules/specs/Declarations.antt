@@ -7,7 +7,7 @@ use lib.Dec.{eqb}
 use Rattle.rules.specs.Text.{within, every, oneOf, same, is, _unless_, lowest}
 use Rattle.rules.specs.Names.{charShaped, codeOf, isCharName}
 use Rattle.rules.specs.Tokens.{name, quote, Token, tokenAt, theName, single}
-use Rattle.rules.specs.State.{beforeOrder, Declaration, symbol, element, State, withDeclared, inPhase, Outcome, gives}
+use Rattle.rules.specs.State.{beforeOrder, afterOrder, Declaration, symbol, element, State, withDeclared, inPhase, Outcome, gives}
 
 -- ## What is declared
 
@@ -32,12 +32,16 @@ isNew ds n = not (charShaped n || oneOf (declares n) ds)
 
 -- ## The two lines
 
+-- "stand before order_start"; "collating-symbol and collating-element lines may stand between" blocks (02, K1): after the order, outside every block
+abbrev pub mayDeclare : State → Bool
+mayDeclare s = inPhase beforeOrder s || inPhase afterOrder s
+
 -- "`collating-symbol <name>`"
 unfoldable pub symbolLine : State → List Token → Outcome
 symbolLine s ts =
     let n : List ℕ = theName (tokenAt ts 0) in
     gives
-    (lowest (3 unless (inPhase beforeOrder s && single name ts) ∷ 5 unless isNew (s .declared) n ∷ []))
+    (lowest (3 unless (mayDeclare s && single name ts) ∷ 5 unless isNew (s .declared) n ∷ []))
     (withDeclared s (symbol n ∷ s .declared))
 
 -- "`collating-element <name> from "<U..><U..>"`"
@@ -57,7 +61,7 @@ elementLine s ts =
     let cs : List ℕ = map codeOf ns in
     gives
     (lowest
-    (3 unless (inPhase beforeOrder s && elementFormed ts)
+    (3 unless (mayDeclare s && elementFormed ts)
     ∷ 5 unless (isNew ds n && not (every isCharName ns && oneOf (declaresChars cs) ds))
     ∷ 6 unless every isCharName ns
     ∷ 7 unless within 2 4 (length cs)

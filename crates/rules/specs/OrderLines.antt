@@ -6,9 +6,9 @@ use lib.ListN.{length}
 use lib.Dec.{ltb, leb, eqb}
 use Rattle.rules.specs.Text.{if_then_else_, within, every, oneOf, same, is, _unless_, lowest}
 use Rattle.rules.specs.Names.{charShaped, codeOf, isCharacter}
-use Rattle.rules.specs.Tokens.{semi, comma, word, name, quote, Token, tokenAt, isSolid}
+use Rattle.rules.specs.Tokens.{semi, comma, word, name, quote, Token, tokenAt, theName, single, isSolid}
 use Rattle.rules.specs.Meaning.{Rule}
-use Rattle.rules.specs.State.{beforeOrder, inOrder, Declaration, Subject, character, named, undefined, OrderLine, Ordered, State, withOrdered, inPhase, toPhase, Outcome, gives}
+use Rattle.rules.specs.State.{beforeOrder, inOrder, afterOrder, inBlock, Declaration, Subject, character, named, undefined, OrderLine, Ordered, State, withOrdered, inPhase, toPhase, Outcome, gives}
 use Rattle.rules.specs.Declarations.{declares, declaresSymbol}
 
 -- ## Operands
@@ -68,7 +68,7 @@ orderStartLine s ts =
     let cs : List ℕ = ruleCodes ts in
     gives
     (lowest (3 unless (inPhase beforeOrder s && rulesFormed false ts) ∷ 4 unless every (leb 1) cs ∷ 7 unless leb (length cs) 8 ∷ []))
-    (withOrdered (toPhase s inOrder) (record { rules = map ruleOf cs; lines = [] }))
+    (withOrdered (toPhase s inOrder) (record { rules = map ruleOf cs; lines = []; block = [] }))
 
 -- ## Subjects
 
@@ -144,22 +144,72 @@ rankFrom k x (l ∷ ls) =
 abbrev pub rankOf : List OrderLine → Subject → ℕ
 rankOf ls x = rankFrom 1 x ls
 
--- "An order line is a declared symbol alone, or a character, a collating element or `UNDEFINED` with weights separated by `;`"; "two
--- order lines for one item or symbol" (5); "undeclared name; a name or code that is no character" (6); "operands beyond L" and "at most 32,767" (7)
+-- ## Where an order line comes to stand
+
+-- "an item or symbol that already had a line leaves its old place" (02, K1): the lines of other subjects
+unfoldable pub takenOut : Subject → List OrderLine → List OrderLine
+takenOut x [] = []
+takenOut x (l ∷ ls) =
+    let r : List OrderLine = takenOut x ls in
+    if sameSubject x (l .subject) then r else l ∷ r
+
+-- directly after the line of this subject
+unfoldable pub putAfter : Subject → OrderLine → List OrderLine → List OrderLine
+putAfter x l [] = []
+putAfter x l (m ∷ ls) =
+    let r : List OrderLine = putAfter x l ls in
+    if sameSubject x (m .subject) then m ∷ l ∷ ls else m ∷ r
+
+-- the lines with one more: at the end of the order; in a block "directly after the named line, in their written order" (02, K1), so after the block's last line
+unfoldable pub placed : List Subject → OrderLine → List OrderLine → List OrderLine
+placed [] l ls = ls ++ l ∷ []
+placed (x ∷ xs) l ls = putAfter x l (takenOut (l .subject) ls)
+
+-- the open block with one line more, if one is open
+abbrev pub blockWith : List Subject → Subject → List Subject
+blockWith [] y = []
+blockWith (x ∷ xs) y = y ∷ x ∷ xs
+
+-- "two order lines for one item or symbol"; in a block "an item or symbol twice in one block, or a block that moves its own named line" (5; 02, K1)
+unfoldable pub again : List Subject → Subject → List OrderLine → Bool
+again [] y ls = not (eqb (rankOf ls y) 0)
+again (x ∷ xs) y ls = oneOf (sameSubject y) (x ∷ xs)
+
+-- "An order line is a declared symbol alone, or a character, a collating element or `UNDEFINED` with weights separated by `;`", in the order or in a block;
+-- "undeclared name; a name or code that is no character" (6); "operands beyond L" and "at most 32,767" (7), where a line that moves is not one more
 unfoldable pub orderLine : State → ℕ → Subject → List Token → Outcome
 orderLine s number x ts =
     let o : Ordered = s .ordered in
     let ws : List (List Token) = operandList ts in
     gives
     (lowest
-    (3 unless (inPhase inOrder s && (eqb (length ts) 0 || not (isSymbol (s .declared) x)))
+    (3 unless ((inPhase inOrder s || inPhase inBlock s) && (eqb (length ts) 0 || not (isSymbol (s .declared) x)))
     ∷ weightsRefusal (s .declared) ws
-    ∷ 5 unless eqb (rankOf (o .lines) x) 0
+    ∷ 5 unless not (again (o .block) x (o .lines))
     ∷ 6 unless stands (s .declared) x
-    ∷ 7 unless (leb (length ws) (length (o .rules)) && ltb (length (o .lines)) 32767)
+    ∷ 7 unless (leb (length ws) (length (o .rules)) && ltb (length (takenOut x (o .lines))) 32767)
     ∷ []))
     (withOrdered s
     (record {
       rules = o .rules;
-      lines = o .lines ++ record { number = number; subject = x; weights = weightsOf x (o .rules) ws } ∷ [];
+      lines = placed (o .block) (record { number = number; subject = x; weights = weightsOf x (o .rules) ws }) (o .lines);
+      block = blockWith (o .block) x;
     }))
+
+-- ## Blocks (02, K1): "Between order_end and END we need blocks `reorder-after <name>`, order lines, `reorder-end`"
+
+-- `reorder-after <name>`, which also ends the block before it; "6 for a named line that does not stand"
+unfoldable pub reorderAfterLine : State → List Token → Outcome
+reorderAfterLine s ts =
+    let o : Ordered = s .ordered in
+    let x : Subject = subjectOf (theName (tokenAt ts 0)) in
+    gives
+    (lowest (3 unless ((inPhase afterOrder s || inPhase inBlock s) && single name ts) ∷ 6 unless leb 1 (rankOf (o .lines) x) ∷ []))
+    (withOrdered (toPhase s inBlock) (record { rules = o .rules; lines = o .lines; block = x ∷ [] }))
+
+-- `reorder-end`
+unfoldable pub reorderEndLine : State → List Token → Outcome
+reorderEndLine s ts =
+    gives
+    (3 unless (inPhase inBlock s && eqb (length ts) 0))
+    (withOrdered (toPhase s afterOrder) (record { rules = s .ordered .rules; lines = s .ordered .lines; block = [] }))

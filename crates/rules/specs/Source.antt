@@ -10,7 +10,7 @@ use Rattle.rules.specs.Lines.{Signs, Scan, lineOf, signRefusal, signSet}
 use Rattle.rules.specs.State.{beforeCategories, betweenCategories, inOtherCategory, beforeOrder, inOrder, afterOrder, undefined, Blocks, State, withChars, withPlace, withBlocks, inPhase, toPhase, isOutside, inCollate, Outcome, gives}
 use Rattle.rules.specs.Conditionals.{blocks, defineLine, ifLine, elifLine, elseLine, endifLine, isUnused}
 use Rattle.rules.specs.Declarations.{symbolLine, elementLine}
-use Rattle.rules.specs.OrderLines.{orderStartLine, subjectOf, orderLine}
+use Rattle.rules.specs.OrderLines.{orderStartLine, subjectOf, orderLine, reorderAfterLine, reorderEndLine}
 
 -- ## Lines outside LC_COLLATE
 
@@ -44,7 +44,7 @@ outsideLine s w ts =
 abbrev pub orderEndLine : State → List Token → Outcome
 orderEndLine s ts = gives (3 unless (inPhase inOrder s && eqb (length ts) 0)) (toPhase s afterOrder)
 
--- END LC_COLLATE, after the order and outside every chain ("open conditional" is 3)
+-- END LC_COLLATE, after the order and outside every block and every chain ("open conditional" is 3)
 unfoldable pub endLine : State → List Token → Outcome
 endLine s ts =
     gives
@@ -66,6 +66,8 @@ collateLine s number w ts =
     else if is w "order_start" then orderStartLine s ts
     else if is w "order_end" then orderEndLine s ts
     else if is w "UNDEFINED" then orderLine s number undefined ts
+    else if is w "reorder-after" then reorderAfterLine s ts
+    else if is w "reorder-end" then reorderEndLine s ts
     else if is w "END" then endLine s ts
     else gives 3 s
 

@@ -6,7 +6,7 @@ use lib.Dec.{leb, eqb}
 use Rattle.rules.specs.Lines.{Chars, defaults}
 use Rattle.rules.specs.Meaning.{Rule}
 
--- ## Where the next line stands: before any category; between categories; in another one; in LC_COLLATE before, in and after the order
+-- ## Where the next line stands: before any category; between categories; in another one; in LC_COLLATE before, in and after the order; after it, in a block (02, K1)
 
 abbrev pub beforeCategories : ℕ
 beforeCategories = 0
@@ -25,6 +25,9 @@ inOrder = 4
 
 abbrev pub afterOrder : ℕ
 afterOrder = 5
+
+abbrev pub inBlock : ℕ
+inBlock = 6
 
 -- The phase, the name of the category that was opened last, and whether LC_COLLATE has stood.
 pub record Place : Type 0 where
@@ -70,10 +73,12 @@ pub record OrderLine : Type 0 where
   pub subject : Subject
   pub weights : List (List Subject)
 
--- The levels' rules, and the used order lines so far, in order.
+-- The levels' rules; the used order lines so far, in order; the subjects of the open block's lines, the last one's first, and at the end that of the named
+-- line: none where no block is open.
 pub record Ordered : Type 0 where
   pub rules : List Rule
   pub lines : List OrderLine
+  pub block : List Subject
 
 -- ## The whole state
 
@@ -92,7 +97,7 @@ start = record {
   place = record { phase = beforeCategories; category = []; collated = false };
   blocks = record { chains = []; inner = 0; toggles = [] };
   declared = [];
-  ordered = record { rules = []; lines = [] };
+  ordered = record { rules = []; lines = []; block = [] };
 }
 
 -- the state with other characters in force
