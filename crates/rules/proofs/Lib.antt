@@ -9,6 +9,7 @@ pub mod AlikeLaws
 pub mod LinearLaws
 pub mod WidthLaws
 pub mod RankLaws
+pub mod PlacedLaws
 pub mod StateLaws
 pub mod SourceLaws
 pub mod ItemLaws

@@ -7,15 +7,15 @@ use lib.ListN.{length, getD}
 use lib.Dec.{eqb, lit<}
 use native.Mathlib.Omega.{arith}
 use borrow.Author.Tests.{eq-eqb, eqb-true, le-leb, ne-eqb}
-use Rattle.lists.proofs.Bools.{and-left, and-right, clash, cond-both, cond-by}
+use Rattle.lists.proofs.Bools.{and-left, and-right, clash, by, cond-both, cond-by}
 use Rattle.rules.specs.Text.{if_then_else_, within, is, same}
 use Rattle.rules.specs.Tokens.{word, name, Token, tokenAt, theName, single, tokensOf, operands, tokensRefusal, plainMarks, wordsOf}
 use Rattle.rules.specs.Lines.{lineOf}
-use Rattle.rules.specs.State.{betweenCategories, inOtherCategory, beforeOrder, inOrder, afterOrder, undefined, State, start, inPhase, toPhase, inCollate, gives}
+use Rattle.rules.specs.State.{betweenCategories, inOtherCategory, beforeOrder, inOrder, afterOrder, inBlock, undefined, Subject, State, start, withOrdered, inPhase, toPhase, inCollate, gives}
 use Rattle.rules.specs.Conditionals.{defineLine, ifLine, elifLine, isUnused}
-use Rattle.rules.specs.OrderLines.{subjectOf}
+use Rattle.rules.specs.OrderLines.{rankOf, subjectOf, reorderAfterLine, reorderEndLine}
 use Rattle.rules.specs.Source.{categoryLine, signLine, outsideLine, orderEndLine, endLine, collateLine, tokenLine, wholeLine, otherLine, unusedLine, lineOutcome, Ended, signs, linesFrom}
-use Rattle.rules.proofs.TextLaws.{unless-none, lower-none}
+use Rattle.rules.proofs.TextLaws.{unless-none, lower-none, lowest-unless}
 use Rattle.rules.proofs.StateLaws.{IsSound, LeavesSound, symbolLine-sound, elementLine-sound, orderStartLine-sound, orderLine-sound}
 
 -- a line that leaves a sound state
@@ -62,6 +62,27 @@ endLine-sound s ts h e =
     let t = unless-none 3 test (lit< tt) e in
     toPhase-sound s betweenCategories h (inPhase-other s afterOrder beforeOrder (and-left _ _ (and-left _ _ (and-left _ _ t))) refl)
 
+-- the lines and the rules stay, whatever block is open
+block-sound : (s : State) (b : List Subject) → IsSound s → IsSound (withOrdered s (record { rules = s .ordered .rules; lines = s .ordered .lines; block = b }))
+block-sound s b h = record { elements = h .elements; lines = h .lines; few = h .few; ruled = h .ruled }
+
+reorderEndLine-sound : (s : State) (ts : List Token) → IsSound s → LeavesSound (reorderEndLine s ts)
+unfolding LeavesSound reorderEndLine
+reorderEndLine-sound s ts h e =
+    let t = unless-none 3 (inPhase inBlock s && eqb (length ts) 0) (lit< tt) e in
+    block-sound (toPhase s afterOrder) [] (toPhase-sound s afterOrder h (inPhase-other s inBlock beforeOrder (and-left _ _ t) refl))
+
+reorderAfterLine-sound : (s : State) (ts : List Token) → IsSound s → LeavesSound (reorderAfterLine s ts)
+unfolding LeavesSound reorderAfterLine
+reorderAfterLine-sound s ts h e =
+    let x = subjectOf (theName (tokenAt ts 0)) in
+    let t = lowest-unless 3 ((inPhase afterOrder s || inPhase inBlock s) && single name ts) _ (lit< tt) e in
+    let before : inPhase beforeOrder s ≡ false =
+    by (inPhase afterOrder s)
+    (λ p. inPhase-other s afterOrder beforeOrder p refl)
+    (λ p. inPhase-other s inBlock beforeOrder (rw p at (and-left (inPhase afterOrder s || inPhase inBlock s) (single name ts) (t .0))) refl) in
+    block-sound (toPhase s inBlock) (x ∷ []) (toPhase-sound s inBlock h before)
+
 -- ## Lines outside LC_COLLATE
 
 -- no line outside LC_COLLATE stands before its order
@@ -107,7 +128,9 @@ collateLine-sound s number w ts h =
     (cond-both LeavesSound (is w "order_start") (orderStartLine-sound s ts h)
     (cond-both LeavesSound (is w "order_end") (orderEndLine-sound s ts h)
     (cond-both LeavesSound (is w "UNDEFINED") (orderLine-sound s number undefined ts h)
-    (cond-both LeavesSound (is w "END") (endLine-sound s ts h) (gives-sound _ _ h)))))))))))))
+    (cond-both LeavesSound (is w "reorder-after") (reorderAfterLine-sound s ts h)
+    (cond-both LeavesSound (is w "reorder-end") (reorderEndLine-sound s ts h)
+    (cond-both LeavesSound (is w "END") (endLine-sound s ts h) (gives-sound _ _ h)))))))))))))))
 
 -- ## A line that is read whole
 

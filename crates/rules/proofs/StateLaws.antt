@@ -1,22 +1,23 @@
 -- What holds of the state between two lines of a locale source (specs/State), and that each declaration and order line keeps it.
-use mathlib.Core.Path.{_≡_, refl, ap}
+use mathlib.Core.Path.{_≡_, refl, ap, _∙_}
 use mathlib.Core.Bool.{Bool, true, false, not, _&&_, _||_, or-true}
 use mathlib.Core.List.{List, [], _∷_, _++_, map}
-use Prim.Native.Nat.{ℕ, suc, _≤_}
+use Prim.Native.Nat.{ℕ, suc, _≤_, _<_}
 use native.Mathlib.Omega.{arith}
 use lib.ListN.{length, length-map, length-append}
 use lib.Dec.{eqb, leb, ltb, lit<, lit≤}
 use borrow.Author.Tests.{leb-true, ltb-true, not-true}
-use Rattle.lists.proofs.Bools.{and-left, and-right, and-intro, or-false-intro, cond-by}
+use Rattle.lists.proofs.Bools.{and-left, and-right, and-intro, or-false-intro, not-intro, clash, by, cond-by}
 use Rattle.rules.specs.Text.{within, every, oneOf, is}
 use Rattle.rules.specs.Names.{codeOf, isCharacter, isCharName, charShaped}
 use Rattle.rules.specs.Tokens.{semi, Token, tokenAt, theName}
 use Rattle.rules.specs.Meaning.{Rule}
-use Rattle.rules.specs.State.{beforeOrder, inOrder, Place, Declaration, symbol, element, Subject, character, named, undefined, OrderLine, Ordered, State, inPhase, Outcome}
-use Rattle.rules.specs.Declarations.{declares, declaresChars, isNew, symbolLine, elementFormed, elementLine}
-use Rattle.rules.specs.OrderLines.{splitAt, operandList, ruleCodes, rulesFormed, orderStartLine, stands, isSymbol, subjectOf, sameSubject, isNames, weightRefusal, weightsRefusal, weightOf, weightsOf, rankOf, orderLine}
+use Rattle.rules.specs.State.{beforeOrder, inOrder, inBlock, Place, Declaration, symbol, element, Subject, character, named, undefined, OrderLine, Ordered, State, inPhase, Outcome}
+use Rattle.rules.specs.Declarations.{declares, declaresChars, isNew, mayDeclare, symbolLine, elementFormed, elementLine}
+use Rattle.rules.specs.OrderLines.{splitAt, operandList, ruleCodes, rulesFormed, orderStartLine, stands, isSymbol, subjectOf, sameSubject, isNames, weightRefusal, weightsRefusal, weightOf, weightsOf, rankOf, takenOut, putAfter, placed, blockWith, again, orderLine, reorderAfterLine, reorderEndLine}
 use Rattle.rules.proofs.TextLaws.{every-cons, oneOf-head-false, oneOf-tail-false, oneOf-append, lowest-none, lowest-unless, within-low, within-high, within-intro}
 use Rattle.rules.proofs.RankLaws.{isLineOf, rankFrom-zero, sameSubject-swap-false}
+use Rattle.rules.proofs.PlacedLaws.{takenOut-none, takenOut-without, takenOut-same, putAfter-length, putAfter-without}
 
 -- ## The invariant
 
@@ -103,7 +104,7 @@ elementLine-sound s ts h e =
     let ns = tokenAt ts 2 .names in
     let cs : List ℕ = map codeOf ns in
     let old : Bool = oneOf (declaresChars cs) ds in
-    let three = lowest-unless 3 (inPhase beforeOrder s && elementFormed ts) _ (lit< tt) e in
+    let three = lowest-unless 3 (mayDeclare s && elementFormed ts) _ (lit< tt) e in
     let five = lowest-unless 5 (isNew ds n && not (every isCharName ns && old)) _ (lit< tt) (three .1) in
     let six = lowest-unless 6 (every isCharName ns) _ (lit< tt) (five .1) in
     let seven = lowest-unless 7 (within 2 4 (length cs)) [] (lit< tt) (six .1) in
@@ -190,6 +191,51 @@ Lines-append ds n (m ∷ ls) l h k e =
       Lines-append ds n ls l (h .2) k (oneOf-tail-false (isLineOf y) m ls e),
     )
 
+-- a line taken out
+Lines-takenOut : (x : Subject) (ds : List Declaration) (n : ℕ) (ls : List OrderLine) → Lines ds n ls → Lines ds n (takenOut x ls)
+unfolding takenOut
+Lines-takenOut x ds n [] h = tt
+Lines-takenOut x ds n (l ∷ ls) h =
+    by (sameSubject x (l .subject))
+    (λ t. rw t (Lines-takenOut x ds n ls (h .2)))
+    (λ t. rw t (h .0, takenOut-without x (l .subject) ls (h .1), Lines-takenOut x ds n ls (h .2)))
+
+-- a line more, after another
+Lines-putAfter : (x : Subject) (ds : List Declaration) (n : ℕ) (ls : List OrderLine) (l : OrderLine)
+    → Lines ds n ls → OneLine ds n l → oneOf (isLineOf (l .subject)) ls ≡ false → Lines ds n (putAfter x l ls)
+unfolding putAfter oneOf isLineOf
+Lines-putAfter x ds n [] l h k e = tt
+Lines-putAfter x ds n (m ∷ ls) l h k e =
+    let y = l .subject in
+    let rest = oneOf-tail-false (isLineOf y) m ls e in
+    let apart : sameSubject (m .subject) y ≡ false = sameSubject-swap-false y (m .subject) (oneOf-head-false (isLineOf y) m ls e) in
+    by (sameSubject x (m .subject))
+    (λ t. rw t (h .0, or-false-intro apart (h .1), (k, rest, h .2)))
+    (λ t. rw t (h .0, putAfter-without x (m .subject) l ls apart (h .1), Lines-putAfter x ds n ls l (h .2) k rest))
+
+-- in the order there is no line of the subject yet
+again-none : (x : Subject) (ls : List OrderLine) → again [] x ls ≡ false → oneOf (isLineOf x) ls ≡ false
+unfolding again
+again-none x ls e = by (oneOf (isLineOf x) ls) (λ t. clash (not-intro (rankFrom-zero 1 x ls (lit≤ tt) ∙ rw t)) e) (λ t. t)
+
+-- a line that may be listed, wherever it comes to stand
+Lines-placed : (b : List Subject) (ds : List Declaration) (n : ℕ) (ls : List OrderLine) (l : OrderLine)
+    → Lines ds n ls → OneLine ds n l → again b (l .subject) ls ≡ false → Lines ds n (placed b l ls)
+unfolding placed again
+Lines-placed [] ds n ls l h k e =
+    Lines-append ds n ls l h k (again-none (l .subject) ls e)
+Lines-placed (x ∷ xs) ds n ls l h k e =
+    Lines-putAfter x ds n (takenOut (l .subject) ls) l (Lines-takenOut (l .subject) ds n ls h) k (takenOut-none (l .subject) ls)
+
+-- a line that moves is not one more
+placed-few : (b : List Subject) (ls : List OrderLine) (l : OrderLine) → again b (l .subject) ls ≡ false → length (takenOut (l .subject) ls) < 32767
+    → length (placed b l ls) ≤ 32767
+unfolding placed again
+placed-few [] ls l e h =
+    let same = ap length (takenOut-same (l .subject) ls (again-none (l .subject) ls e)) in
+    rw length-append (omega (arith, same, h))
+placed-few (x ∷ xs) ls l e h = omega (arith, putAfter-length x l (takenOut (l .subject) ls), h)
+
 pub orderLine-sound : (s : State) (number : ℕ) (x : Subject) (ts : List Token) → IsSound s → LeavesSound (orderLine s number x ts)
 unfolding LeavesSound orderLine
 orderLine-sound s number x ts h e =
@@ -197,17 +243,19 @@ orderLine-sound s number x ts h e =
     let rs = s .ordered .rules in
     let ls = s .ordered .lines in
     let ws : List (List Token) = operandList ts in
-    let three = lowest-unless 3 (inPhase inOrder s && (eqb (length ts) 0 || not (isSymbol ds x))) _ (lit< tt) e in
+    let b = s .ordered .block in
+    let three = lowest-unless 3 ((inPhase inOrder s || inPhase inBlock s) && (eqb (length ts) 0 || not (isSymbol ds x))) _ (lit< tt) e in
     let weights = lowest-none (weightsRefusal ds ws) _ (three .1) in
-    let five = lowest-unless 5 (eqb (rankOf ls x) 0) _ (lit< tt) (weights .1) in
+    let five = lowest-unless 5 (not (again b x ls)) _ (lit< tt) (weights .1) in
+    let new = not-true (again b x ls) (five .0) in
     let six = lowest-unless 6 (stands ds x) _ (lit< tt) (five .1) in
-    let seven = lowest-unless 7 (leb (length ws) (length rs) && ltb (length ls) 32767) [] (lit< tt) (six .1) in
+    let seven = lowest-unless 7 (leb (length ws) (length rs) && ltb (length (takenOut x ls)) 32767) [] (lit< tt) (six .1) in
     let line : OrderLine = record { number = number; subject = x; weights = weightsOf x rs ws } in
     let one : OneLine ds (length rs) line =
     record { standing = six .0; levels = weightsOf-length x rs ws; short = weightsOf-short ds x rs ws (weights .0) } in
     record {
       elements = h .elements;
-      lines = Lines-append ds (length rs) ls line (h .lines) one (not-true _ (rw (rankFrom-zero 1 x ls (lit≤ tt)) at (five .0)));
-      few = rw length-append (omega (arith, ltb-true (length ls) 32767 (and-right (leb (length ws) (length rs)) (ltb (length ls) 32767) (seven .0))));
+      lines = Lines-placed b ds (length rs) ls line (h .lines) one new;
+      few = placed-few b ls line new (ltb-true (length (takenOut x ls)) 32767 (and-right (leb (length ws) (length rs)) (ltb (length (takenOut x ls)) 32767) (seven .0)));
       ruled = h .ruled;
     }

@@ -1,0 +1,69 @@
+-- Laws of where an order line comes to stand (specs/OrderLines): a line taken out, a line put after another.
+use mathlib.Core.Path.{_≡_, refl, ap, _∙_}
+use mathlib.Core.Bool.{Bool, true, false, not}
+use mathlib.Core.List.{List, [], _∷_, _++_}
+use Prim.Native.Nat.{ℕ, suc, _≤_}
+use native.Mathlib.Omega.{arith}
+use lib.ListN.{length}
+use Rattle.lists.proofs.Bools.{by, clash, or-false-intro}
+use Rattle.rules.specs.Text.{oneOf}
+use Rattle.rules.specs.State.{Subject, OrderLine}
+use Rattle.rules.specs.OrderLines.{sameSubject, takenOut, putAfter}
+use Rattle.rules.proofs.TextLaws.{oneOf-head-false, oneOf-tail-false}
+use Rattle.rules.proofs.RankLaws.{isLineOf, sameSubject-true, sameSubject-refl, sameSubject-swap-false}
+
+-- ## Taken out
+
+-- no line of that subject is left
+pub takenOut-none : (x : Subject) (ls : List OrderLine) → oneOf (isLineOf x) (takenOut x ls) ≡ false
+unfolding takenOut oneOf isLineOf
+takenOut-none x [] = refl
+takenOut-none x (l ∷ ls) =
+    by (sameSubject x (l .subject)) (λ t. rw t (takenOut-none x ls)) (λ t. rw t (or-false-intro t (takenOut-none x ls)))
+
+-- and of no other where there was none
+pub takenOut-without : (x y : Subject) (ls : List OrderLine) → oneOf (isLineOf y) ls ≡ false → oneOf (isLineOf y) (takenOut x ls) ≡ false
+unfolding takenOut oneOf
+takenOut-without x y [] h = refl
+takenOut-without x y (l ∷ ls) h =
+    let r = takenOut-without x y ls (oneOf-tail-false (isLineOf y) l ls h) in
+    by (sameSubject x (l .subject)) (λ t. rw t r) (λ t. rw t (or-false-intro (oneOf-head-false (isLineOf y) l ls h) r))
+
+-- where there was no line of that subject, all stay
+pub takenOut-same : (x : Subject) (ls : List OrderLine) → oneOf (isLineOf x) ls ≡ false → takenOut x ls ≡ ls
+unfolding takenOut isLineOf
+takenOut-same x [] h = refl
+takenOut-same x (l ∷ ls) h = rw (oneOf-head-false (isLineOf x) l ls h) (ap (λ (r : List OrderLine). l ∷ r) (takenOut-same x ls (oneOf-tail-false (isLineOf x) l ls h)))
+
+-- ## Put after another
+
+-- there is one line more, where the other stands
+pub putAfter-length : (x : Subject) (l : OrderLine) (ls : List OrderLine) → length (putAfter x l ls) ≤ suc (length ls)
+unfolding putAfter
+putAfter-length x l [] = omega arith
+putAfter-length x l (m ∷ ls) =
+    by (sameSubject x (m .subject)) (λ t. rw t (omega arith)) (λ t. rw t (omega (arith, putAfter-length x l ls)))
+
+-- a subject that is not the new line's has none where it had none
+pub putAfter-without : (x y : Subject) (l : OrderLine) (ls : List OrderLine) → isLineOf y l ≡ false → oneOf (isLineOf y) ls ≡ false
+    → oneOf (isLineOf y) (putAfter x l ls) ≡ false
+unfolding putAfter oneOf
+putAfter-without x y l [] n h = refl
+putAfter-without x y l (m ∷ ls) n h =
+    let a = oneOf-head-false (isLineOf y) m ls h in
+    let b = oneOf-tail-false (isLineOf y) m ls h in
+    by (sameSubject x (m .subject))
+    (λ t. rw t (or-false-intro a (or-false-intro n b)))
+    (λ t. rw t (or-false-intro a (putAfter-without x y l ls n b)))
+
+-- lines of other subjects keep their order among themselves: without the new line's subject, all is as it was without it
+pub putAfter-others : (x : Subject) (l : OrderLine) (ls : List OrderLine) → takenOut (l .subject) (putAfter x l ls) ≡ takenOut (l .subject) ls
+unfolding takenOut putAfter
+putAfter-others x l [] = refl
+putAfter-others x l (m ∷ ls) =
+    by (sameSubject x (m .subject))
+    (λ t. by (sameSubject (l .subject) (m .subject)) (λ u. rw (t, u, sameSubject-refl (l .subject))) (λ u. rw (t, u, sameSubject-refl (l .subject))))
+    (λ t. by (sameSubject (l .subject) (m .subject)) (λ u. rw (t, u) (putAfter-others x l ls)) (λ u. rw (t, u) (ap (λ (r : List OrderLine). m ∷ r) (putAfter-others x l ls))))
+
+pub takenOut-twice : (x : Subject) (ls : List OrderLine) → takenOut x (takenOut x ls) ≡ takenOut x ls
+takenOut-twice x ls = takenOut-same x (takenOut x ls) (takenOut-none x ls)
