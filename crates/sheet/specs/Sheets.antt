@@ -1,14 +1,14 @@
 -- The paper's state inside LC_COLLATE (Rattle.rules.specs.State), as the work area and a sheet hold it, and what a line does to it.
 use mathlib.Core.Path.{_≡_}
-use mathlib.Core.Bool.{Bool, true, false}
-use mathlib.Core.List.{List, [], _∷_, map}
+use mathlib.Core.Bool.{Bool, true, false, _||_}
+use mathlib.Core.List.{List, [], _∷_, _++_, map}
 use Prim.Native.Nat.{ℕ, _+_, _*_, _/_, _≤_, _<_}
-use lib.ListN.{length}
+use lib.ListN.{length, getD}
 use lib.Dec.{eqb}
-use Rattle.rules.specs.Text.{if_then_else_}
+use Rattle.rules.specs.Text.{if_then_else_, oneOf}
 use Rattle.rules.specs.Tokens.{operands}
 use Rattle.rules.specs.Meaning.{Rule}
-use Rattle.rules.specs.State.{beforeOrder, betweenCategories, Chain, State, inCollate, toPhase, Outcome, gives}
+use Rattle.rules.specs.State.{beforeOrder, afterOrder, inBlock, betweenCategories, Chain, Subject, State, inCollate, toPhase, Outcome, gives}
 use Rattle.rules.specs.Conditionals.{chain}
 use Rattle.rules.specs.OrderLines.{ruleOf, ruleCodes}
 use Rattle.rules.specs.Source.{lineOutcome}
@@ -17,7 +17,10 @@ use Rattle.lines.specs.Stream.{lineLeft, marksLeft, lineStart}
 use Rattle.tokens.specs.Left.{tokensLeft}
 use Rattle.levels.specs.Levels.{startRefusal}
 use Rattle.toggles.specs.Kept.{togglesIn, Kept}
-use Rattle.known.specs.Known.{behind, Known}
+use Rattle.rows.specs.Cells.{cell}
+use Rattle.listed.specs.Listed.{placeNumber}
+use Rattle.known.specs.Known.{subjectAt, behind, Known}
+use Rattle.sheet.specs.declared.Block.{Block}
 use Rattle.sheet.specs.declared.Sheet.{Sheet}
 use Rattle.sheet.specs.Words.{TurnLine}
 use Rattle.sheet.specs.declared.Step.{Step}
@@ -34,9 +37,19 @@ unfoldable pub rulesAt : Signs → List ℕ → ℕ → List Rule
 rulesAt g src at = map ruleOf (ruleCodes (operands (tokensLeft g src (behind at))))
 
 -- The rows below this one may be in use before the line at a place: a declaration's keyword is longer than a row, an order line of a character
--- is as long as one.
+-- is as long as one. Between a declaration and an order line stands order_start or reorder-after.
 abbrev pub rowsBefore : ℕ → ℕ → ℕ
-rowsBefore phase at = if eqb phase beforeOrder then (at + 5) / 8 else (at + 1) / 8
+rowsBefore phase at = if eqb phase beforeOrder || eqb phase afterOrder then (at + 5) / 8 else (at + 1) / 8
+
+-- The open block, whose lines and named line have these subjects: its own lines, the last one first, are those that are written from the block's place on.
+pub record InBlock (g : Signs) (src w marks : List ℕ) (b : Block) (xs : List Subject) : Type 0 where
+  pub own : List ℕ
+  pub subjects : xs ≡ map (subjectAt g src) (own ++ b .named ∷ [])
+  pub last : b .last ≡ getD (own ++ b .named ∷ []) 0 0
+  pub named : oneOf (eqb (b .named)) marks ≡ true
+  pub before : cell w (b .named) placeNumber < b .from
+  pub listed : (v : ℕ) → oneOf (eqb v) own ≡ true → (oneOf (eqb v) marks ≡ true) × (b .from ≤ cell w v placeNumber)
+  pub all : (v : ℕ) → oneOf (eqb v) marks ≡ true → b .from ≤ cell w v placeNumber → oneOf (eqb v) own ≡ true
 
 -- The area and the sheet hold the state of the paper before the line at a place, with these chains open.
 pub record Open (g : Signs) (src w : List ℕ) (sh : Sheet) (cs : List Chain) (at : ℕ) (s : State) : Type 0 where
@@ -58,6 +71,10 @@ pub record Open (g : Signs) (src w : List ℕ) (sh : Sheet) (cs : List Chain) (a
   pub ruled : sh .rules ≤ length src
   pub levels : length (s .ordered .rules) ≡ sh .levels
   pub few : sh .order .count ≤ 32767
+  pub places : (v : ℕ) → oneOf (eqb v) (known .marks) ≡ true → cell w v placeNumber ≤ at
+  pub from : eqb (sh .phase) inBlock ≡ true → sh .block .from ≤ at
+  pub block : eqb (sh .phase) inBlock ≡ true → InBlock g src w (known .marks) (sh .block) (s .ordered .block)
+  pub closed : eqb (sh .phase) inBlock ≡ false → s .ordered .block ≡ []
 
 -- Some state is held, whatever chains are open.
 pub record SomeOpen (g : Signs) (src w : List ℕ) (sh : Sheet) (at depth : ℕ) : Type 0 where

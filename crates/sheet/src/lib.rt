@@ -1,14 +1,23 @@
 // What is known between two lines in LC_COLLATE beside the work area, and what a line may do to it.
 use listed::Order;
 
-// Where the next line stands (3 before, 4 in, 5 after the order; 1 after END LC_COLLATE); how many toggles are named; the place after the
-// word order_start, and how many levels there are; the order lines.
+// The open block: the mark of its named line, the mark of the line after which the next one comes to stand, and the place from which on its own lines are
+// written. Outside a block the three say nothing.
+pub struct Block {
+    pub named: usize,
+    pub last: usize,
+    pub from: usize,
+}
+
+// Where the next line stands (3 before, 4 in, 5 after the order, 6 in a block; 1 after END LC_COLLATE); how many toggles are named; the place after the
+// word order_start, and how many levels there are; the order lines; the open block.
 pub struct Sheet {
     pub phase: u8,
     pub toggles: usize,
     pub rules: usize,
     pub levels: usize,
     pub order: Order,
+    pub block: Block,
 }
 
 // What a line in a used branch does.
