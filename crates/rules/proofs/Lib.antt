@@ -25,4 +25,3 @@ pub mod EntryLaws
 pub mod KeyLaws
 pub mod ElementLaws
 pub mod PassedLaws
-pub mod OneAnswer
