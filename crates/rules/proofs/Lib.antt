@@ -10,6 +10,7 @@ pub mod LinearLaws
 pub mod WidthLaws
 pub mod RankLaws
 pub mod StateLaws
+pub mod ChainLaws
 pub mod SourceLaws
 pub mod ItemLaws
 pub mod CompileLaws
