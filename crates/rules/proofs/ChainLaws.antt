@@ -1,6 +1,6 @@
 -- Conditional chains (specs/Conditionals), 01: "Of one chain at most one branch is used, the first whose test holds. No branch may follow `else`."
 use mathlib.Core.Path.{_≡_, refl, sym, ap, _∙_}
-use mathlib.Core.Bool.{Bool, true, false, not, _&&_, _||_, or-true, false≢true}
+use mathlib.Core.Bool.{Bool, true, false, not, _&&_, _||_, and-true, or-true, false≢true}
 use mathlib.Core.List.{List, [], _∷_, map}
 use Prim.Native.Nat.{ℕ, suc, _≤_}
 use native.Mathlib.Omega.{arith}
@@ -100,16 +100,12 @@ opening-taken s (opening wanted ts) h = refl
 opening-taken s (further ts) h = absurd (false≢true h)
 opening-taken s (last ts) h = absurd (false≢true h)
 
-and-yes : (t : Bool) → t ≡ (t && true)
-and-yes true = refl
-and-yes false = refl
-
 -- a further branch is used where none was taken and its test holds
 further-used : (s : State) (b : Branch) → isOpening b ≡ false → not (isUnused (branchLine s b .state)) ≡ (not (inmost s .taken) && holds s b)
 unfolding elifLine
 further-used s (opening wanted ts) h = absurd (false≢true (sym h))
 further-used s (further ts) h = open-used (length (drop 1 (s .blocks .chains))) (not (inmost s .taken) && isDefined s ts)
-further-used s (last ts) h = open-used (length (drop 1 (s .blocks .chains))) (not (inmost s .taken)) ∙ and-yes (not (inmost s .taken))
+further-used s (last ts) h = open-used (length (drop 1 (s .blocks .chains))) (not (inmost s .taken)) ∙ sym (and-true (not (inmost s .taken)))
 
 -- and then one is taken; what was taken stays so
 further-taken : (s : State) (b : Branch) → isOpening b ≡ false → inmost (branchLine s b .state) .taken ≡ (inmost s .taken || holds s b)

@@ -11,6 +11,7 @@ pub mod WidthLaws
 pub mod RankLaws
 pub mod StateLaws
 pub mod ChainLaws
+pub mod ChainLines
 pub mod SourceLaws
 pub mod ItemLaws
 pub mod CompileLaws
