@@ -1,8 +1,8 @@
 -- Conditional chains in a source, line after line (specs/Source): a line changes at most the inmost chain, and of one chain at most one branch is used.
 use mathlib.Core.Path.{_≡_, refl, sym, ap, _∙_}
-use mathlib.Core.Bool.{Bool, true, false, not, _&&_, _||_, and-true, or-true}
+use mathlib.Core.Bool.{Bool, true, false, not, _&&_, _||_, and-true, or-true, false≢true}
 use mathlib.Core.List.{List, [], _∷_}
-use Prim.Native.Nat.{ℕ, _<_}
+use Prim.Native.Nat.{ℕ, suc, _<_}
 use native.Mathlib.Omega.{arith}
 use lib.ListN.{length, getD, drop}
 use lib.Dec.{eqb}
@@ -16,7 +16,7 @@ use Rattle.rules.specs.Declarations.{symbolLine, elementLine}
 use Rattle.rules.specs.OrderLines.{orderStartLine, subjectOf, orderLine}
 use Rattle.rules.specs.Source.{categoryLine, signLine, outsideLine, endLine, collateLine, tokenLine, wholeLine, otherLine, unusedLine, lineOutcome}
 use Rattle.rules.proofs.TextLaws.{lower-none}
-use Rattle.rules.proofs.ChainLaws.{Branch, opening, further, last, branchLine, isDefined}
+use Rattle.rules.proofs.ChainLaws.{Branch, opening, further, last, isOpening, branchLine, isDefined}
 
 -- ## What a line does to the chains
 
@@ -165,12 +165,12 @@ pub record Line : Type 0 where
   pub number : ℕ
   pub marks : List ℕ
 
-abbrev pub lineFrom : State → Line → Outcome
-lineFrom s l = lineOutcome s (l .number) (l .marks)
+abbrev pub readLine : State → Line → Outcome
+readLine s l = lineOutcome s (l .number) (l .marks)
 
 abbrev pub afterLines : State → List Line → State
 afterLines s [] = s
-afterLines s (l ∷ ls) = afterLines (lineFrom s l .state) ls
+afterLines s (l ∷ ls) = afterLines (readLine s l .state) ls
 
 -- in this state the chain on n others is open
 abbrev pub IsOpen : ℕ → State → Type 0
@@ -183,7 +183,7 @@ chainIn n s = chainOn n (s .blocks .chains)
 -- no line is refused, and the chain on n others is open all the while
 abbrev pub StaysOpen : ℕ → State → List Line → Type 0
 StaysOpen n s [] = IsOpen n s
-StaysOpen n s (l ∷ ls) = IsOpen n s × (lineFrom s l .refusal ≡ 0) × StaysOpen n (lineFrom s l .state) ls
+StaysOpen n s (l ∷ ls) = IsOpen n s × (readLine s l .refusal ≡ 0) × StaysOpen n (readLine s l .state) ls
 
 -- Such lines lead from one state to another.
 pub record Reads (n : ℕ) (s after : State) : Type 0 where
@@ -199,6 +199,13 @@ pub record Opens (n : ℕ) (s : State) : Type 0 where
   pub under : length (before .blocks .chains) ≡ n
   pub is : s ≡ ifLine before wanted operands .state
 
+-- A line begins a further branch of the chain on n others, which is the inmost.
+pub record Begins (n : ℕ) (s after : State) : Type 0 where
+  pub branch : Branch
+  pub not-opening : isOpening branch ≡ false
+  pub is-inmost : length (s .blocks .chains) ≡ suc n
+  pub is : after .blocks .chains ≡ branchLine s branch .state .blocks .chains
+
 stays-here : (n : ℕ) (s : State) (ls : List Line) → StaysOpen n s ls → IsOpen n s
 stays-here n s [] h = h
 stays-here n s (l ∷ ls) h = h .0
@@ -208,7 +215,7 @@ kept-lines : (P : Chain → Type 0) → ((c d : Chain) → Step c d → P c → 
     → (n : ℕ) (s : State) (ls : List Line) → StaysOpen n s ls → P (chainIn n s) → P (chainIn n (afterLines s ls))
 kept-lines P f n s [] h p = p
 kept-lines P f n s (l ∷ ls) h p =
-    let after : State = lineFrom s l .state in
+    let after : State = readLine s l .state in
     let k : IsOpen n after = stays-here n after ls (h .2) in
     kept-lines P f n after ls (h .2) (f (chainIn n s) (chainIn n after) (turn-step n s after (h .0) k (line-turn s (l .number) (l .marks) (h .1))) p)
 
@@ -231,7 +238,7 @@ step-taken : (c d : Chain) → Step c d → IsTaken c → IsTaken d
 step-taken c d (stays e) h = rw e h
 step-taken c d (branches t p q) h = p ∙ rw h
 
--- a used branch is over
+-- A used branch is over.
 pub record IsOver (c : Chain) : Type 0 where
   pub taken : c .taken ≡ true
   pub unused : c .used ≡ false
@@ -244,9 +251,27 @@ opened-used : (n : ℕ) (s : State) → Opens n s → UsedTaken (chainIn n s)
 unfolding ifLine
 opened-used n s o = rw (o .is, ← o .under, chain-top) (λ u. u)
 
--- In a source, where a used branch of a chain is over, no other branch of the chain is used.
-pub used-once : (n : ℕ) (a b c d : State) → Opens n a → Reads n a b → Reads n b c → Reads n c d
-    → chainIn n b .used ≡ true → chainIn n c .used ≡ false → chainIn n d .used ≡ false
-used-once n a b c d o ab bc cd used unused =
-    let taken : chainIn n b .taken ≡ true = kept UsedTaken step-used ab (opened-used n a o) used in
-    kept IsOver step-over cd (record { taken = kept IsTaken step-taken bc taken; unused = unused }) .unused
+-- a further branch of an inmost chain, of which one was taken
+over-top : (n : ℕ) (cs : List Chain) (d : Chain) (t : Bool) → length cs ≡ suc n → chainOn n cs .taken ≡ true
+    → d .taken ≡ (getD cs 0 noChain .taken || t) → d .used ≡ (not (getD cs 0 noChain .taken) && t) → IsOver (chainOn n (d ∷ drop 1 cs))
+over-top n [] d t l h p q = absurd (omega arith)
+over-top n (c ∷ cs) d t l h p q =
+    let m : length cs ≡ n = omega arith in
+    let k : c .taken ≡ true = rw (← m, chain-top) at h in
+    rw (← m, chain-top) (record { taken = p ∙ rw k; unused = q ∙ rw k })
+
+over-branch : (n : ℕ) (s : State) (b : Branch) → isOpening b ≡ false → length (s .blocks .chains) ≡ suc n → chainIn n s .taken ≡ true
+    → IsOver (chainOn n (branchLine s b .state .blocks .chains))
+unfolding elifLine
+over-branch n s (opening wanted ts) o l h = absurd (false≢true (sym o))
+over-branch n s (further ts) o l h = over-top n (s .blocks .chains) _ (isDefined s ts) l h refl refl
+over-branch n s (last ts) o l h =
+    over-top n (s .blocks .chains) _ true l h (sym (or-true (inmost s .taken))) (sym (and-true (not (inmost s .taken))))
+
+-- In a source, once a branch of a chain was used, no later branch of the chain is: opened in a, used in b, the next branch from c to d, read on to e.
+pub used-once : (n : ℕ) (a b c d e : State) → Opens n a → Reads n a b → chainIn n b .used ≡ true → Reads n b c → Begins n c d → Reads n d e
+    → chainIn n e .used ≡ false
+used-once n a b c d e o ab used bc cd de =
+    let taken : chainIn n c .taken ≡ true = kept IsTaken step-taken bc (kept UsedTaken step-used ab (opened-used n a o) used) in
+    let over : IsOver (chainIn n d) = rw (cd .is) (over-branch n c (cd .branch) (cd .not-opening) (cd .is-inmost) taken) in
+    kept IsOver step-over de over .unused
