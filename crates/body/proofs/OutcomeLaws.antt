@@ -18,6 +18,7 @@ use Rattle.rules.proofs.CharmapLaws.{area-length}
 use Rattle.tokens.proofs.RefusalLaws.{lower-none-left, lower-none-right, lower-assoc}
 use Rattle.giving.specs.Giving.{withRange, anyTaken}
 use Rattle.giving.proofs.KeptLaws.{any-given-area, range-area}
+use Rattle.units.specs.declared.CodePoint.{CodePoint}
 use Rattle.names.specs.declared.Code.{Code}
 use Rattle.names.specs.declared.Code.the-variants as code
 use Rattle.names.specs.Named.{CodeIs}
@@ -34,16 +35,16 @@ module _ (n : List ℕ) {s : Code} (w : CodeIs n s) where
   unfolding isCharName
   char-other e = let h : charShaped n ≡ false = subst (CodeIs n) e w in rw h
 
-  module _ {c : ℕ} {t : Bool} (e : s ≡ code.Char c) (f : t ≡ isCharacter c) where
-    pub char-yes : t ≡ true → CharOf n c
+  module _ {c : CodePoint} {t : Bool} (e : s ≡ code.Char c) (f : t ≡ isCharacter (c .0)) where
+    pub char-yes : t ≡ true → CharOf n (c .0)
     unfolding isCharName
     char-yes h =
         let k = subst (CodeIs n) e w in
-        let i : isCharacter c ≡ true = sym f ∙ h in
+        let i : isCharacter (c .0) ≡ true = sym f ∙ h in
         record {
           shaped = rw (k .shaped, ← k .code) i;
           code = k .code;
-          small = leb-true c 0x10FFFF (and-left (leb c 0x10FFFF) (not (leb 0xD800 c && leb c 0xDFFF)) i);
+          small = leb-true (c .0) 0x10FFFF (and-left (leb (c .0) 0x10FFFF) (not (leb 0xD800 (c .0) && leb (c .0) 0xDFFF)) i);
         }
 
     pub char-no : t ≡ false → isCharName n ≡ false
@@ -63,23 +64,23 @@ module _ (first last : List ℕ) {s : Code} (w : CharIs first s) where
   unfolding areChars every
   codes-first e = let h : isCharName first ≡ false = subst (CharIs first) e w in rw h
 
-  module _ {low : ℕ} (t : Code) (e : s ≡ code.Char low) (x : CharIs last t) where
-    one : CharOf first low
+  module _ {low : CodePoint} (t : Code) (e : s ≡ code.Char low) (x : CharIs last t) where
+    one : CharOf first (low .0)
     one = subst (CharIs first) e w
 
     pub codes-last : t ≡ code.Other → areChars first last ≡ false
     unfolding areChars every
     codes-last f = let h : isCharName last ≡ false = subst (CharIs last) f x in rw (one .shaped, h)
 
-    module _ {high : ℕ} {u : Bool} (f : t ≡ code.Char high) (k : u ≡ (ltb low 0xD800 && ltb 0xDFFF high)) where
-      two : CharOf last high
+    module _ {high : CodePoint} {u : Bool} (f : t ≡ code.Char high) (k : u ≡ (ltb (low .0) 0xD800 && ltb 0xDFFF (high .0))) where
+      two : CharOf last (high .0)
       two = subst (CharIs last) f x
 
       pub codes-span : u ≡ true → areChars first last ≡ false
       unfolding areChars every
       codes-span h = rw (one .shaped, two .shaped, ← one .code, ← two .code, ← k, h)
 
-      pub codes-both : u ≡ false → CodesBetween first last low high
+      pub codes-both : u ≡ false → CodesBetween first last (low .0) (high .0)
       unfolding areChars every
       codes-both h = record {
         chars = rw (one .shaped, two .shaped, ← one .code, ← two .code, ← k, h);
@@ -88,8 +89,8 @@ module _ (first last : List ℕ) {s : Code} (w : CharIs first s) where
         small = two .small;
       }
 
-pub codes-small : (first last : List ℕ) {s : Codes} {low high : ℕ} → CodesAre first last s → s ≡ codes.Between low high → high ≤ 0x10FFFF
-codes-small first last {low = low} {high} w e = let k : CodesBetween first last low high = subst (CodesAre first last) e w in k .small
+pub codes-small : (first last : List ℕ) {s : Codes} {low high : CodePoint} → CodesAre first last s → s ≡ codes.Between low high → high .0 ≤ 0x10FFFF
+codes-small first last {low = low} {high} w e = let k : CodesBetween first last (low .0) (high .0) = subst (CodesAre first last) e w in k .small
 
 -- ## A range
 
@@ -109,38 +110,38 @@ unfolding rangeRefusal lower
 fitting low high byte gs true h k = rw (h, k)
 fitting low high byte gs false h k = rw (h, k)
 
-module _ (area : List ℕ) (low high byte : ℕ) where
-  pub range-back : high < low → RangeIs area low high byte (outcome.Refused 7)
-  range-back h = λ gs x. record { same = not-fitting low high byte gs (rw (lt-leb low high h)); some = omega arith }
+module _ (area : List ℕ) (low : CodePoint) (high byte : ℕ) where
+  pub range-back : high < low .0 → RangeIs area (low .0) high byte (outcome.Refused 7)
+  range-back h = λ gs x. record { same = not-fitting (low .0) high byte gs (rw (lt-leb (low .0) high h)); some = omega arith }
 
-  module _ (up : low ≤ high) where
-    pub range-past : 255 < byte + (high - low) → RangeIs area low high byte (outcome.Refused 7)
+  module _ (up : low .0 ≤ high) where
+    pub range-past : 255 < byte + (high - low .0) → RangeIs area (low .0) high byte (outcome.Refused 7)
     range-past h = λ gs x. record {
-      same = not-fitting low high byte gs (rw (le-leb low high up, lt-leb (byte + (high - low)) 255 h));
+      same = not-fitting (low .0) high byte gs (rw (le-leb (low .0) high up, lt-leb (byte + (high - low .0)) 255 h));
       some = omega arith;
     }
 
-    module _ (short : byte + (high - low) ≤ 255) {t : Bool} (f : t ≡ anyTaken area byte (high - low + 1)) where
-      fits : fitsIn low high byte ≡ true
-      fits = rw (le-leb low high up, le-leb (byte + (high - low)) 255 short)
+    module _ (short : byte + (high - low .0) ≤ 255) {t : Bool} (f : t ≡ anyTaken area byte (high - low .0 + 1)) where
+      fits : fitsIn (low .0) high byte ≡ true
+      fits = rw (le-leb (low .0) high up, le-leb (byte + (high - low .0)) 255 short)
 
-      twice : (gs : List Given) → Holds area gs → givenTwice low high byte gs ≡ t
+      twice : (gs : List Given) → Holds area gs → givenTwice (low .0) high byte gs ≡ t
       twice gs x =
-          let n : suc (high - low) ≡ high - low + 1 = sym (add-one (high - low)) in
-          sym (any-given-area gs byte low (suc (high - low)) (x .kept) (omega arith))
+          let n : suc (high - low .0) ≡ high - low .0 + 1 = sym (add-one (high - low .0)) in
+          sym (any-given-area gs byte (low .0) (suc (high - low .0)) (x .kept) (omega arith))
           ∙ ap (λ (k : ℕ). anyTaken (areaOf gs) byte k) n
-          ∙ ap (λ (a : List ℕ). anyTaken a byte (high - low + 1)) (sym (x .same))
+          ∙ ap (λ (a : List ℕ). anyTaken a byte (high - low .0 + 1)) (sym (x .same))
           ∙ sym f
 
-      pub range-taken : t ≡ true → RangeIs area low high byte (outcome.Refused 10)
-      range-taken h = λ gs x. record { same = fitting low high byte gs true fits (twice gs x ∙ h); some = omega arith }
+      pub range-taken : t ≡ true → RangeIs area (low .0) high byte (outcome.Refused 10)
+      range-taken h = λ gs x. record { same = fitting (low .0) high byte gs true fits (twice gs x ∙ h); some = omega arith }
 
-      pub range-gives : high ≤ 0x10FFFF → t ≡ false → RangeIs area low high byte (outcome.Gives byte low (high - low + 1))
+      pub range-gives : high ≤ 0x10FFFF → t ≡ false → RangeIs area (low .0) high byte (outcome.Gives byte low (high - low .0 + 1))
       range-gives k h = λ gs x. record {
-        none = fitting low high byte gs false fits (twice gs x ∙ h);
+        none = fitting (low .0) high byte gs false fits (twice gs x ∙ h);
         from = refl;
         code = refl;
-        many = add-one (high - low);
+        many = add-one (high - low .0);
         bytes = omega arith;
         codes = omega arith;
       }
@@ -197,32 +198,32 @@ module _ (text : Bool) (names : ℕ) (first last : List ℕ) (byte : ℕ) (area 
         some = let h = lower-some before 6 (omega arith) in omega arith;
       }
 
-  module _ {low high : ℕ} (e : s ≡ codes.Between low high) where
-    found : CodesBetween first last low high
+  module _ {low high : CodePoint} (e : s ≡ codes.Between low high) where
+    found : CodesBetween first last (low .0) (high .0)
     found = subst (CodesAre first last) e w
 
     -- where the codes are characters, the bytes decide
-    entry-codes : (gs : List Given) → entryRefusal (2 unless text) names first last byte gs ≡ lower before (rangeRefusal low high byte gs)
+    entry-codes : (gs : List Given) → entryRefusal (2 unless text) names first last byte gs ≡ lower before (rangeRefusal (low .0) (high .0) byte gs)
     entry-codes gs =
         entry-split text names first last byte gs
         ∙ ap (λ (c : Bool). lower (beforeCodes text names) (lower (6 unless c) (rangeRefusal (codeOf first) (codeOf last) byte gs))) (found .chars)
         ∙ ap (λ (k : ℕ). lower (beforeCodes text names) k) (lower-none-left (rangeRefusal (codeOf first) (codeOf last) byte gs))
         ∙ ap (λ (k : ℕ). lower k (rangeRefusal (codeOf first) (codeOf last) byte gs)) (sym b)
         ∙ ap (λ (k : ℕ). lower before (rangeRefusal k (codeOf last) byte gs)) (sym (found .low-code))
-        ∙ ap (λ (k : ℕ). lower before (rangeRefusal low k byte gs)) (sym (found .high-code))
+        ∙ ap (λ (k : ℕ). lower before (rangeRefusal (low .0) k byte gs)) (sym (found .high-code))
 
-    module _ {t : Outcome} (y : RangeIs area low high byte t) where
+    module _ {t : Outcome} (y : RangeIs area (low .0) (high .0) byte t) where
       pub entry-refused : {n r : ℕ} → t ≡ outcome.Refused n → r ≡ lower before n → EntryIs text names first last byte area (outcome.Refused r)
       entry-refused {n} {r} q f = λ gs x.
-          let z : Refusing (rangeRefusal low high byte gs) n = subst (RangeIs area low high byte) q y gs x in
+          let z : Refusing (rangeRefusal (low .0) (high .0) byte gs) n = subst (RangeIs area (low .0) (high .0) byte) q y gs x in
           record {
             same = entry-codes gs ∙ ap (λ (k : ℕ). lower before k) (z .same) ∙ sym f;
             some = let h = lower-some before n (z .some) in omega arith;
           }
 
-      module _ {from c n : ℕ} (q : t ≡ outcome.Gives from c n) where
-        given : (gs : List Given) → Holds area gs → Giving (rangeRefusal low high byte gs) low high byte from c n
-        given gs x = subst (RangeIs area low high byte) q y gs x
+      module _ {from n : ℕ} {c : CodePoint} (q : t ≡ outcome.Gives from c n) where
+        given : (gs : List Given) → Holds area gs → Giving (rangeRefusal (low .0) (high .0) byte gs) (low .0) (high .0) byte from (c .0) n
+        given gs x = subst (RangeIs area (low .0) (high .0) byte) q y gs x
 
         whole : (gs : List Given) → Holds area gs → entryRefusal (2 unless text) names first last byte gs ≡ before
         whole gs x = entry-codes gs ∙ ap (λ (k : ℕ). lower before k) (given gs x .none) ∙ lower-none-right before
@@ -233,7 +234,7 @@ module _ (text : Bool) (names : ℕ) (first last : List ℕ) (byte : ℕ) (area 
               none = whole gs x ∙ h;
               from = z .from;
               code = z .code ∙ found .low-code;
-              many = z .many ∙ ap (λ (k : ℕ). suc (k - low)) (found .high-code) ∙ ap (λ (k : ℕ). suc (codeOf last - k)) (found .low-code);
+              many = z .many ∙ ap (λ (k : ℕ). suc (k - low .0)) (found .high-code) ∙ ap (λ (k : ℕ). suc (codeOf last - k)) (found .low-code);
               bytes = z .bytes;
               codes = z .codes;
             }
@@ -274,13 +275,13 @@ module _ (text : Bool) (names : ℕ) (first last : List ℕ) (byte : ℕ) {area 
         untouched = λ z. refl;
       }
 
-  module _ {b c n : ℕ} (e : s ≡ outcome.Gives b c n) where
-    pub enter-room : Area area → (length area ≡ 512) × (b + n ≤ 256) × (c + n ≤ 0x110000)
+  module _ {b n : ℕ} {c : CodePoint} (e : s ≡ outcome.Gives b c n) where
+    pub enter-room : Area area → (length area ≡ 512) × (b + n ≤ 256) × (c .0 + n ≤ 0x110000)
     enter-room a =
         let k = subst (EntryIs text names first last byte area) e w (a .given) (a .holds) in
         (held-length a, k .bytes, k .codes)
 
-    pub enter-gives : {after : List ℕ} → after ≡ withRange n area b c → EnterIs text names first last byte area after 0
+    pub enter-gives : {after : List ℕ} → after ≡ withRange n area b (c .0) → EnterIs text names first last byte area after 0
     enter-gives {after} f = λ gs x.
         let k = subst (EntryIs text names first last byte area) e w gs x in
         let low = codeOf first in
@@ -291,7 +292,7 @@ module _ (text : Bool) (names : ℕ) (first last : List ℕ) (byte : ℕ) {area 
         record {
           same = k .none;
           given = λ z. record {
-            same = f ∙ ap (λ (y : ℕ). withRange y area b c) (k .many) ∙ ap (λ (y : ℕ). withRange m area y c) (k .from)
+            same = f ∙ ap (λ (y : ℕ). withRange y area b (c .0)) (k .many) ∙ ap (λ (y : ℕ). withRange m area y (c .0)) (k .from)
                 ∙ ap (λ (y : ℕ). withRange m area byte y) (k .code) ∙ ap (λ (y : List ℕ). withRange m y byte low) (x .same) ∙ r .area;
             kept = r .kept;
           };

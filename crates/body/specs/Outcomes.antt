@@ -69,7 +69,7 @@ pub record CharOf (n : List ℕ) (c : ℕ) : Type 0 where
   pub small : c ≤ 0x10FFFF
 
 abbrev pub CharIs : List ℕ → Code → Type 0
-CharIs n (code.Char c) = CharOf n c
+CharIs n (code.Char c) = CharOf n (c .0)
 CharIs n code.Other = isCharName n ≡ false
 
 -- The codes of two characters with no other numbers between them.
@@ -80,7 +80,7 @@ pub record CodesBetween (first last : List ℕ) (low high : ℕ) : Type 0 where
   pub small : high ≤ 0x10FFFF
 
 abbrev pub CodesAre : List ℕ → List ℕ → Codes → Type 0
-CodesAre first last (codes.Between low high) = CodesBetween first last low high
+CodesAre first last (codes.Between low high) = CodesBetween first last (low .0) (high .0)
 CodesAre first last codes.Other = areChars first last ≡ false
 
 -- With no refusal: n bytes from b on, and codes from c on, which areas have room for.
@@ -99,7 +99,7 @@ pub record Refusing (refusal n : ℕ) : Type 0 where
 
 -- by a refusal, or none: what the codes from low to high give
 abbrev pub OutcomeIs : ℕ → ℕ → ℕ → ℕ → Outcome → Type 0
-OutcomeIs refusal low high byte (outcome.Gives b c n) = Giving refusal low high byte b c n
+OutcomeIs refusal low high byte (outcome.Gives b c n) = Giving refusal low high byte b (c .0) n
 OutcomeIs refusal low high byte (outcome.Refused n) = Refusing refusal n
 
 -- whatever is given that the area holds

@@ -31,17 +31,18 @@ use tokens::lower_of;
 use tokens::next_token;
 use tokens::skip_gaps;
 use tokens::word_is;
+use units::CodePoint;
 use units::is_character;
 
 // The codes of an entry's two names, where these are characters and no other number lies between them.
 pub enum Codes {
-    Between(u32, u32),
+    Between(CodePoint, CodePoint),
     Other,
 }
 
 // What an entry gives: its first byte, the code of that, and how many bytes and codes in a row; or its refusal.
 pub enum Outcome {
-    Gives(usize, u32, usize),
+    Gives(usize, CodePoint, usize),
     Refused(u8),
 }
 
@@ -83,11 +84,11 @@ fn char_code(src: &[u8], g: Signs, p: Spot) -> Code
 }
 
 // Whether D800 to DFFF lie between two codes.
-fn spans(low: u32, high: u32) -> bool
-    ensures { λ r. ⌜ r ≡ (ltb low 0xD800 && ltb 0xDFFF high) ⌝ }
+fn spans(low: CodePoint, high: CodePoint) -> bool
+    ensures { λ r. ⌜ r ≡ (ltb (low .0) 0xD800 && ltb 0xDFFF (high .0)) ⌝ }
 {
-    if low < 0xD800 {
-        return 0xDFFF < high;
+    if low.0 < 0xD800 {
+        return 0xDFFF < high.0;
     }
     false
 }
@@ -116,15 +117,15 @@ fn codes_of(src: &[u8], g: Signs, first: Spot, last: Spot) -> Codes
 }
 
 // What the codes from low to high give, from a byte on.
-fn range_outcome(low: u32, high: u32, byte: u8, area: &[u32]) -> Outcome
-    requires { ⌜ Area (now area) × (high ≤ 0x10FFFF) ⌝ }
-    ensures { λ r. ⌜ RangeIs (now (area .entry)) low high byte r ⌝ }
+fn range_outcome(low: CodePoint, high: CodePoint, byte: u8, area: &[u32]) -> Outcome
+    requires { ⌜ Area (now area) × (high .0 ≤ 0x10FFFF) ⌝ }
+    ensures { λ r. ⌜ RangeIs (now (area .entry)) (low .0) (high .0) byte r ⌝ }
 {
-    if high < low {
+    if high.0 < low.0 {
         return Outcome::Refused(7); // backwards
     }
     let from = byte as usize;
-    let more = (high - low) as usize;
+    let more = (high.0 - low.0) as usize;
     if 255 < from + more {
         return Outcome::Refused(7); // past FF
     }

@@ -11,6 +11,7 @@ ghost use Rattle.rules.specs.Coding.{isCode, goodOnes, onesOf, oneEach, areaAcc
 ghost use Rattle.rules.specs.Calls.{over, areaCall, decodeCall, encodeCall};
 ghost use Rattle.coding.specs.Answers.{numberIs, writtenIs};
 ghost use Rattle.coding.specs.Tables.{Counted, Indexed};
+use units::CodePoint;
 use units::Refusal;
 use units::good_string;
 use units::is_character;
@@ -34,7 +35,7 @@ fn is_code(c: u32) -> bool
     if c == 0x110000 {
         return true;
     }
-    is_character(c)
+    is_character(CodePoint(c))
 }
 
 // Whether each number is a code.

@@ -14,6 +14,7 @@ use Rattle.lines.specs.Stream.{marksLeft}
 use Rattle.tokens.specs.declared.Closing.{Closing}
 use Rattle.tokens.specs.declared.Closing.the-variants as closing
 use Rattle.tokens.specs.Left.{isInside, namesFrom, namesIn, ClosingIs}
+use Rattle.units.specs.declared.CodePoint.{CodePoint}
 use Rattle.names.specs.declared.Code.{Code}
 use Rattle.names.specs.declared.Code.the-variants as code
 use Rattle.names.specs.declared.Named.{Named}
@@ -27,9 +28,9 @@ use Rattle.subjects.proofs.CharsLaws.{after-closed, after-open}
 -- ## One name
 
 module _ (n : List ℕ) {c : Code} (v : CodeIs n c) where
-  pub char-is : {x : ℕ} {t : Bool} → c ≡ code.Char x → t ≡ isCharacter x → t ≡ isCharName n
+  pub char-is : {x : CodePoint} {t : Bool} → c ≡ code.Char x → t ≡ isCharacter (x .0) → t ≡ isCharName n
   unfolding isCharName
-  char-is {x} e f = let z : CharIs n x = subst (CodeIs n) e v in f ∙ sym (rw (z .shaped, ← z .code))
+  char-is {x} e f = let z : CharIs n (x .0) = subst (CodeIs n) e v in f ∙ sym (rw (z .shaped, ← z .code))
 
   pub char-not : c ≡ code.Other → false ≡ isCharName n
   unfolding isCharName

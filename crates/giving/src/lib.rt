@@ -4,15 +4,16 @@ ghost use Prim.Native.Nat.{_+_, _≤_, _<_};
 ghost use lib.ListN.{length};
 ghost use Rattle.rules.specs.Calls.{over};
 ghost use Rattle.giving.specs.Giving.{hasCode, oneFor, with, withRange, anyTaken};
+use units::CodePoint;
 
 // Whether a byte has the code already.
-fn has_code(area: &[u32], code: u32) -> bool
+fn has_code(area: &[u32], code: CodePoint) -> bool
     requires { ⌜ length (now area) ≡ 512 ⌝ }
-    ensures { λ r. ⌜ r ≡ hasCode (now (area .entry)) code ⌝ }
+    ensures { λ r. ⌜ r ≡ hasCode (now (area .entry)) (code .0) ⌝ }
 {
     let mut i: usize = 0;
     while i < 256 {
-        if area[i] == code {
+        if area[i] == code.0 {
             return true;
         }
         i += 1;
@@ -21,9 +22,9 @@ fn has_code(area: &[u32], code: u32) -> bool
 }
 
 // 1 where no byte has the code yet, else 0.
-fn one_for(area: &[u32], code: u32) -> u32
+fn one_for(area: &[u32], code: CodePoint) -> u32
     requires { ⌜ length (now area) ≡ 512 ⌝ }
-    ensures { λ r. ⌜ r ≡ oneFor (now (area .entry)) code ⌝ }
+    ensures { λ r. ⌜ r ≡ oneFor (now (area .entry)) (code .0) ⌝ }
 {
     if has_code(area, code) {
         return 0;
@@ -32,25 +33,25 @@ fn one_for(area: &[u32], code: u32) -> u32
 }
 
 // One byte more has a code: the first of a code encodes it.
-pub fn give(area: &mut [u32], byte: usize, code: u32)
+pub fn give(area: &mut [u32], byte: usize, code: CodePoint)
     requires { ⌜ (length (now area) ≡ 512) × (byte < 256) ⌝ }
-    ensures { λ _. ⌜ now (area .exit) ≡ with (now (area .entry)) byte code ⌝ }
+    ensures { λ _. ⌜ now (area .exit) ≡ with (now (area .entry)) byte (code .0) ⌝ }
 {
     let one = one_for(area, code);
-    area[byte] = code;
+    area[byte] = code.0;
     area[256 + byte] = one;
 }
 
 // n bytes more, and their codes, in a row.
-pub fn give_range(area: &mut [u32], byte: usize, code: u32, n: usize)
-    requires { ⌜ (length (now area) ≡ 512) × (byte + n ≤ 256) × (code + n ≤ 0x110000) ⌝ }
-    ensures { λ _. ⌜ now (area .exit) ≡ withRange n (now (area .entry)) byte code ⌝ }
+pub fn give_range(area: &mut [u32], byte: usize, code: CodePoint, n: usize)
+    requires { ⌜ (length (now area) ≡ 512) × (byte + n ≤ 256) × (code .0 + n ≤ 0x110000) ⌝ }
+    ensures { λ _. ⌜ now (area .exit) ≡ withRange n (now (area .entry)) byte (code .0) ⌝ }
 {
     let mut b = byte;
-    let mut c = code;
+    let mut c = code.0;
     let mut left = n;
     while 0 < left {
-        give(area, b, c);
+        give(area, b, CodePoint(c));
         b += 1;
         c += 1;
         left -= 1;

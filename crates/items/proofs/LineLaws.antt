@@ -7,6 +7,7 @@ use lib.ListN.{length}
 use borrow.Author.Tests.{le-leb, lt-leb, ne-eqb, eq-eqb}
 use Rattle.rules.specs.Names.{charShaped}
 use Rattle.lines.specs.declared.Signs.{Signs}
+use Rattle.units.specs.declared.CodePoint.{CodePoint}
 use Rattle.names.specs.declared.Code.{Code}
 use Rattle.names.specs.declared.Code.the-variants.{Char, Other}
 use Rattle.names.specs.Named.{nameLeft, CharIs, CodeIs}
@@ -19,8 +20,8 @@ use Rattle.store.specs.Store.{undefinedMark}
 -- ## A name
 
 module _ (n : List ℕ) {c : Code} (w : CodeIs n c) where
-  pub shaped-char : {x : ℕ} → c ≡ Char x → true ≡ charShaped n
-  shaped-char {x} e = let k : CharIs n x = subst (CodeIs n) e w in sym (k .shaped)
+  pub shaped-char : {x : CodePoint} → c ≡ Char x → true ≡ charShaped n
+  shaped-char {x} e = let k : CharIs n (x .0) = subst (CodeIs n) e w in sym (k .shaped)
 
   pub shaped-other : c ≡ Other → false ≡ charShaped n
   shaped-other e = let k : charShaped n ≡ false = subst (CodeIs n) e w in sym k

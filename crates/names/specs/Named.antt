@@ -37,7 +37,7 @@ areDigits ds = isMany (length ds) && every isHex ds
 
 -- n digits that make x, as a code
 abbrev pub MadeIs : ℕ → ℕ → Code → Type 0
-MadeIs n x (Char c) = (isMany n ≡ true) × (c ≡ x)
+MadeIs n x (Char c) = (isMany n ≡ true) × (c .0 ≡ x)
 MadeIs n x Other = isMany n ≡ false
 
 -- Digits that make a character, and their number.
@@ -46,7 +46,7 @@ pub record Digits (ds : List ℕ) (c : ℕ) : Type 0 where
   pub value : c ≡ hexValue 0 ds
 
 abbrev pub DigitsAre : List ℕ → Code → Type 0
-DigitsAre ds (Char c) = Digits ds c
+DigitsAre ds (Char c) = Digits ds (c .0)
 DigitsAre ds Other = areDigits ds ≡ false
 
 -- A name that is shaped as a character, and its code.
@@ -55,7 +55,7 @@ pub record CharIs (n : List ℕ) (c : ℕ) : Type 0 where
   pub code : c ≡ codeOf n
 
 abbrev pub CodeIs : List ℕ → Code → Type 0
-CodeIs n (Char c) = CharIs n c
+CodeIs n (Char c) = CharIs n (c .0)
 CodeIs n Other = charShaped n ≡ false
 
 -- ## A number for each name, the same for the same name

@@ -11,10 +11,11 @@ use lines::Step;
 use lines::next_mark;
 use tokens::NameStep;
 use tokens::name_byte;
+use units::CodePoint;
 
 // The code of a name that is shaped as a character; it may be no character.
 pub enum Code {
-    Char(u32),
+    Char(CodePoint),
     Other,
 }
 
@@ -83,10 +84,10 @@ fn made(n: usize, x: u32) -> Code
     ensures { λ r. ⌜ MadeIs n x r ⌝ }
 {
     if n == 4 {
-        return Code::Char(x);
+        return Code::Char(CodePoint(x));
     }
     if n == 8 {
-        return Code::Char(x);
+        return Code::Char(CodePoint(x));
     }
     Code::Other
 }

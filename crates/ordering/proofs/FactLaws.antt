@@ -14,6 +14,7 @@ use Rattle.rules.specs.OrderLines.{subjectOf, stands, isSymbol}
 use Rattle.lines.specs.declared.Signs.{Signs}
 use Rattle.lines.specs.declared.Spot.{Spot}
 use Rattle.tokens.specs.Left.{isInside}
+use Rattle.units.specs.declared.CodePoint.{CodePoint}
 use Rattle.names.specs.declared.Code.{Code}
 use Rattle.names.specs.declared.Code.the-variants.{Char, Other}
 use Rattle.names.specs.Named.{nameLeft, CharIs, CodeIs}
@@ -114,10 +115,10 @@ module _ (g : Signs) (src w : List ℕ) (p : Spot) (f : Found) (i : isInside (p 
       };
     }
 
-    pub facts-char : {c : Code} {x : ℕ} → CodeIs (nameLeft g src p) c → c ≡ Char x → FactsOf g src w (subjectLeft g src p) (record { symbol = false; ordered = ordered; stands = stood })
+    pub facts-char : {c : Code} {x : CodePoint} → CodeIs (nameLeft g src p) c → c ≡ Char x → FactsOf g src w (subjectLeft g src p) (record { symbol = false; ordered = ordered; stands = stood })
     unfolding isSymbol subjectOf
     facts-char {c} {x} v e =
-        let z : CharIs (nameLeft g src p) x = subst (CodeIs (nameLeft g src p)) e v in
+        let z : CharIs (nameLeft g src p) (x .0) = subst (CodeIs (nameLeft g src p)) e v in
         facts-with false (λ o rs n cs ls k. rw (z .shaped))
 
     pub facts-other : {c : Code} {symbol : Bool} → CodeIs (nameLeft g src p) c → c ≡ Other → symbol ≡ isBare w f → FactsOf g src w (subjectLeft g src p) (record { symbol = symbol; ordered = ordered; stands = stood })

@@ -20,6 +20,7 @@ use Rattle.tokens.specs.declared.Tok.{Tok}
 use Rattle.tokens.specs.declared.Closing.{Closing}
 use Rattle.tokens.specs.declared.Closing.the-variants as closing
 use Rattle.tokens.specs.Left.{isClose, isInside, afterName, namesFrom, namesIn, NameEnds, ClosingIs}
+use Rattle.units.specs.declared.CodePoint.{CodePoint}
 use Rattle.names.specs.declared.Code.{Code}
 use Rattle.names.specs.declared.Code.the-variants.{Char, Other}
 use Rattle.names.specs.declared.Named.{Named}
@@ -43,10 +44,10 @@ unfolding subjectOf
 subject-named n e = rw e
 
 module _ (g : Signs) (src w : List ℕ) (p : Spot) {c : Code} (v : CodeIs (nameLeft g src p) c) where
-  pub stands-char : {x : ℕ} {r : Bool} → c ≡ Char x → r ≡ isCharacter x → Stands g src w p r
+  pub stands-char : {x : CodePoint} {r : Bool} → c ≡ Char x → r ≡ isCharacter (x .0) → Stands g src w p r
   unfolding standsIn
   stands-char {x} {r} e f =
-      let z : CharIs (nameLeft g src p) x = subst (CodeIs (nameLeft g src p)) e v in
+      let z : CharIs (nameLeft g src p) (x .0) = subst (CodeIs (nameLeft g src p)) e v in
       record { is = λ n ds h. f ∙ sym (ap (λ (s : Subject). standsIn ds s) (subject-char (nameLeft g src p) z)) }
 
   module _ (e : c ≡ Other) (i : isInside (p .mode) ≡ true) {f : Found} (k : Finds (keyAt g src) (length src) w (keyAt g src (2 * p .at)) f) where

@@ -1,7 +1,7 @@
 -- How many items and weights a table has, and numbers written into it: one of them again and again, the front, and the record of the supplied item.
-use mathlib.Core.Path.{_≡_, refl, sym, ap, _∙_}
+use mathlib.Core.Path.{_≡_, refl, sym, ap, _∙_, subst}
 use mathlib.Core.Bool.{Bool, true, false}
-use mathlib.Core.List.{List}
+use mathlib.Core.List.{List, [], _∷_}
 use Prim.Native.Nat.{ℕ, suc, _+_, _-_, _≤_, _<_}
 use native.Mathlib.Numerals.{add-one}
 use native.Mathlib.Omega.{arith}
@@ -11,6 +11,7 @@ use lib.ListN.{length, set, replicate, length-set}
 use lib.Seq.{sets, length-sets}
 use Rattle.layout.specs.Parts.{recordAt}
 use Rattle.layout.proofs.LayoutLaws.{recordAt-bound}
+use Rattle.writes.specs.Writing.{Puts}
 use Rattle.stored.specs.Building.{allItems, allWeights, tableSize, frontNumbers, suppliedNumbers}
 
 -- ## How many
@@ -80,6 +81,12 @@ module _ {area : List ℕ} {at n x : ℕ} {now : List ℕ} {i left : ℕ} (v : R
         inside = omega (arith, v .inside);
         long = l ∙ v .long;
       }
+
+  -- a weight was written by put_rank
+  pub repeating-put : {after : List ℕ} {next : ℕ} → 0 < left → Puts now i (x ∷ []) after next → Repeating area at n x after next (left - 1)
+  repeating-put {after} {next} h p =
+      subst (λ (a : List ℕ). Repeating area at n x a next (left - 1)) (sym (p .is))
+      (subst (λ (k : ℕ). Repeating area at n x (set now i x) k (left - 1)) (sym (p .to)) (repeating-more h))
 
   pub repeating-all : left ≤ 0 → now ≡ sets area at (replicate n x)
   repeating-all h =

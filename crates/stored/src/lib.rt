@@ -14,6 +14,8 @@ use lines::Signs;
 use lines::Spot;
 use permute::permute_items;
 use sheet::Sheet;
+use units::Rank;
+use writes::put_rank;
 
 fn narrow(n: usize) -> u32
     requires { ⌜ n < 4294967296 ⌝ }
@@ -68,6 +70,19 @@ fn fill(area: &mut [u32], at: usize, n: usize, x: u32)
     }
 }
 
+// One weight, n times, from a place on.
+fn fill_rank(area: &mut [u32], at: usize, n: usize, r: Rank)
+    requires { ⌜ at + n ≤ length (now area) ⌝ }
+    ensures { λ _. ⌜ now (area .exit) ≡ sets (now (area .entry)) at (replicate n (r .0)) ⌝ }
+{
+    let mut i = at;
+    let mut left = n;
+    while 0 < left {
+        i = put_rank(area, i, r);
+        left -= 1;
+    }
+}
+
 // The 16 numbers in front of a table: how many levels, items and weights it has, and zeros.
 fn write_front(area: &mut [u32], levels: u32, items: u32, weights: u32)
     requires { ⌜ 16 ≤ length (now area) ⌝ }
@@ -91,12 +106,12 @@ fn write_record(area: &mut [u32], levels: usize, start: u32, from: usize)
 }
 
 // UNDEFINED where it is supplied: its record, and its rank at each level.
-fn write_supplied(area: &mut [u32], levels: usize, rank: u32, start: u32, from: usize, at: usize)
+fn write_supplied(area: &mut [u32], levels: usize, rank: Rank, start: u32, from: usize, at: usize)
     requires { ⌜ (from + 6 + levels ≤ at) × (at + levels ≤ length (now area)) ⌝ }
-    ensures { λ _. ⌜ now (area .exit) ≡ sets (sets (now (area .entry)) from (suppliedNumbers levels start)) at (replicate levels rank) ⌝ }
+    ensures { λ _. ⌜ now (area .exit) ≡ sets (sets (now (area .entry)) from (suppliedNumbers levels start)) at (replicate levels (rank .0)) ⌝ }
 {
     write_record(area, levels, start, from);
-    fill(area, at, levels, rank);
+    fill_rank(area, at, levels, rank);
 }
 
 // The front of a table, and the rules that stand at a place.
@@ -146,7 +161,7 @@ fn write_table(
         write_supplied(
             area,
             levels,
-            narrow(sh.order.count + 1),
+            Rank(narrow(sh.order.count + 1)),
             narrow(weights),
             from,
             at + weights,

@@ -23,6 +23,7 @@ use Rattle.tokens.specs.Left.{isClose, isInside, afterName, namesIn, NameEnds, 
 use Rattle.names.specs.declared.Named.{Named}
 use Rattle.names.specs.declared.Named.the-variants.{Name, Close}
 use Rattle.names.specs.Named.{nameLeft, hashFrom, hashOf, NameAt, NamedIs}
+use Rattle.units.specs.declared.CodePoint.{CodePoint}
 use Rattle.subjects.specs.declared.NextChar.{NextChar}
 use Rattle.subjects.specs.declared.NextChar.the-variants.{Char, End}
 use Rattle.subjects.specs.Keys.{quoteSpot, charOf, charsLeft, AfterName, CharNext, NextIs}
@@ -78,23 +79,23 @@ module _ (g : Signs) (src : List ℕ) (p : Spot) {n : Named} (w : NamedIs g src 
     pub next-inside : p .mode ≡ quoted → isInside (q .mode) ≡ true
     next-inside h = rw (there .mode h)
 
-    pub next-char : {c : ℕ} {r : Spot} → p .mode ≡ quoted → c ≡ charOf (nameLeft g src q) → AfterName g src q r → CharNext g src p c r
+    pub next-char : {c : CodePoint} {r : Spot} → p .mode ≡ quoted → c .0 ≡ charOf (nameLeft g src q) → AfterName g src q r → CharNext g src p (c .0) r
     unfolding charsLeft
     next-char h f a = record { chars = rw (there .names, f, a .names); mode = a .mode (there .mode h); to = a .to }
 
 -- ## The turns of the loops
 
 module _ (g : Signs) (src : List ℕ) (q : Spot) {s : NextChar} (w : NextIs g src q s) where
-  step-char : {c : ℕ} {r : Spot} → s ≡ Char c r → CharNext g src q c r
+  step-char : {c : CodePoint} {r : Spot} → s ≡ Char c r → CharNext g src q (c .0) r
   step-char e = subst (NextIs g src q) e w
 
   step-end : s ≡ End → charsLeft g src q ≡ []
   step-end e = subst (NextIs g src q) e w
 
-  pub step-less : {c : ℕ} {r : Spot} → s ≡ Char c r → length (charsLeft g src r) < length (charsLeft g src q)
+  pub step-less : {c : CodePoint} {r : Spot} → s ≡ Char c r → length (charsLeft g src r) < length (charsLeft g src q)
   step-less e = let x = step-char e in rw (x .chars) (omega arith)
 
-  pub ends-more : {c : ℕ} {r : Spot} → s ≡ Char c r → false ≡ same [] (charsLeft g src q)
+  pub ends-more : {c : CodePoint} {r : Spot} → s ≡ Char c r → false ≡ same [] (charsLeft g src q)
   unfolding same
   ends-more e = let x = step-char e in sym (rw (x .chars))
 
@@ -117,10 +118,10 @@ module _ {g : Signs} {src : List ℕ} {p q : Spot} {h : ℕ} {s : NextChar} (v :
   unfolding hashFrom
   summing-end e = rw (step-end g src q w e) at (v .rest)
 
-  pub summing-more : {c x : ℕ} {r : Spot} → s ≡ Char c r → x ≡ c → Summing g src p r ((h * 10368889 + x) % 16777216)
+  pub summing-more : {c : CodePoint} {x : ℕ} {r : Spot} → s ≡ Char c r → x ≡ c .0 → Summing g src p r ((h * 10368889 + x) % 16777216)
   unfolding hashFrom
   summing-more {c} {x} {r} e f =
-      let y : CharNext g src q c r = step-char g src q w e in
+      let y : CharNext g src q (c .0) r = step-char g src q w e in
       record { rest = rw f (rw (y .chars) at (v .rest)); small = omega arith; mode = y .mode; to = y .to }
 
 -- The quotes agree before i and before j.
@@ -139,27 +140,27 @@ module _ {g : Signs} {src : List ℕ} {p q i j : Spot} (v : Agree g src p q i j)
   pub agree-end : {t : Bool} → s ≡ End → t ≡ same [] (charsLeft g src j) → t ≡ same (charsLeft g src p) (charsLeft g src q)
   agree-end e f = f ∙ sym (v .rest ∙ rw (step-end g src i w e))
 
-  module _ {a : ℕ} {k : Spot} (e : s ≡ Char a k) (t : NextChar) (x : NextIs g src j t) where
-    one : CharNext g src i a k
+  module _ {a : CodePoint} {k : Spot} (e : s ≡ Char a k) (t : NextChar) (x : NextIs g src j t) where
+    one : CharNext g src i (a .0) k
     one = step-char g src i w e
 
     pub agree-longer : t ≡ End → false ≡ same (charsLeft g src p) (charsLeft g src q)
     unfolding same
     agree-longer f = sym (v .rest ∙ rw (one .chars, step-end g src j x f))
 
-    module _ {b : ℕ} {l : Spot} (f : t ≡ Char b l) where
-      two : CharNext g src j b l
+    module _ {b : CodePoint} {l : Spot} (f : t ≡ Char b l) where
+      two : CharNext g src j (b .0) l
       two = step-char g src j x f
 
-      pub agree-not : (a ≡ b → ⊥) → false ≡ same (charsLeft g src p) (charsLeft g src q)
+      pub agree-not : (a .0 ≡ b .0 → ⊥) → false ≡ same (charsLeft g src p) (charsLeft g src q)
       unfolding same
-      agree-not n = sym (v .rest ∙ rw (one .chars, two .chars) (simp (ne-eqb a b n)))
+      agree-not n = sym (v .rest ∙ rw (one .chars, two .chars) (simp (ne-eqb (a .0) (b .0) n)))
 
-      pub agree-more : a ≡ b → Agree g src p q k l
+      pub agree-more : a .0 ≡ b .0 → Agree g src p q k l
       unfolding same
       agree-more h =
           record {
-            rest = v .rest ∙ rw (one .chars, two .chars) (simp (eq-eqb a b h));
+            rest = v .rest ∙ rw (one .chars, two .chars) (simp (eq-eqb (a .0) (b .0) h));
             first = one .to;
             first-mode = one .mode;
             second = two .to;

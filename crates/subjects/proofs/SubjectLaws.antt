@@ -8,6 +8,7 @@ use Rattle.rules.specs.Text.{same}
 use Rattle.rules.specs.Names.{charShaped}
 use Rattle.rules.specs.State.{character, named}
 use Rattle.rules.specs.OrderLines.{subjectOf, sameSubject}
+use Rattle.units.specs.declared.CodePoint.{CodePoint}
 use Rattle.names.specs.declared.Code.{Code}
 use Rattle.names.specs.declared.Code.the-variants.{Char, Other}
 use Rattle.names.specs.Named.{CharIs, CodeIs, hashOf}
@@ -16,13 +17,13 @@ use Rattle.subjects.specs.Keys.{charOf, hashSubject}
 -- ## One name
 
 module _ (n : List ℕ) {c : Code} (w : CodeIs n c) where
-  shaped : {x : ℕ} → c ≡ Char x → CharIs n x
+  shaped : {x : CodePoint} → c ≡ Char x → CharIs n (x .0)
   shaped e = subst (CodeIs n) e w
 
   other : c ≡ Other → charShaped n ≡ false
   other e = subst (CodeIs n) e w
 
-  pub char-code : {x : ℕ} → c ≡ Char x → x ≡ charOf n
+  pub char-code : {x : CodePoint} → c ≡ Char x → x .0 ≡ charOf n
   unfolding charOf
   char-code e = let k = shaped e in k .code ∙ sym (rw (k .shaped))
 
@@ -30,7 +31,7 @@ module _ (n : List ℕ) {c : Code} (w : CodeIs n c) where
   unfolding charOf
   char-none e = sym (rw (other e))
 
-  subject-char : {x : ℕ} → c ≡ Char x → subjectOf n ≡ character x
+  subject-char : {x : CodePoint} → c ≡ Char x → subjectOf n ≡ character (x .0)
   unfolding subjectOf
   subject-char e = let k = shaped e in rw (k .shaped) (ap character (sym (k .code)))
 
@@ -38,7 +39,7 @@ module _ (n : List ℕ) {c : Code} (w : CodeIs n c) where
   unfolding subjectOf
   subject-name e = rw (other e)
 
-  pub hash-char : {x h : ℕ} → c ≡ Char x → h ≡ x → h % 16777216 ≡ hashSubject (subjectOf n)
+  pub hash-char : {x : CodePoint} {h : ℕ} → c ≡ Char x → h ≡ x .0 → h % 16777216 ≡ hashSubject (subjectOf n)
   unfolding hashSubject
   hash-char e f = ap (λ (y : ℕ). y % 16777216) f ∙ sym (ap hashSubject (subject-char e))
 
@@ -49,15 +50,15 @@ module _ (n : List ℕ) {c : Code} (w : CodeIs n c) where
 -- ## Two names
 
 module _ (m n : List ℕ) {c d : Code} (v : CodeIs m c) (w : CodeIs n d) where
-  pub alike-chars : {x y : ℕ} → c ≡ Char x → d ≡ Char y → eqb x y ≡ sameSubject (subjectOf m) (subjectOf n)
+  pub alike-chars : {x y : CodePoint} → c ≡ Char x → d ≡ Char y → eqb (x .0) (y .0) ≡ sameSubject (subjectOf m) (subjectOf n)
   unfolding sameSubject
   alike-chars e f = sym (rw (subject-char m v e, subject-char n w f))
 
-  pub alike-char-name : {x : ℕ} → c ≡ Char x → d ≡ Other → false ≡ sameSubject (subjectOf m) (subjectOf n)
+  pub alike-char-name : {x : CodePoint} → c ≡ Char x → d ≡ Other → false ≡ sameSubject (subjectOf m) (subjectOf n)
   unfolding sameSubject
   alike-char-name e f = sym (rw (subject-char m v e, subject-name n w f))
 
-  pub alike-name-char : {y : ℕ} → c ≡ Other → d ≡ Char y → false ≡ sameSubject (subjectOf m) (subjectOf n)
+  pub alike-name-char : {y : CodePoint} → c ≡ Other → d ≡ Char y → false ≡ sameSubject (subjectOf m) (subjectOf n)
   unfolding sameSubject
   alike-name-char e f = sym (rw (subject-name m v e, subject-char n w f))
 

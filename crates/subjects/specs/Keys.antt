@@ -83,5 +83,5 @@ pub record CharNext (g : Signs) (src : List ℕ) (p : Spot) (c : ℕ) (q : Spot)
   pub to : q .at ≤ length src
 
 abbrev pub NextIs : Signs → List ℕ → Spot → NextChar → Type 0
-NextIs g src p (Char c q) = CharNext g src p c q
+NextIs g src p (Char c q) = CharNext g src p (c .0) q
 NextIs g src p End = charsLeft g src p ≡ []

@@ -20,10 +20,11 @@ use names::next_name;
 use names::same_name;
 use tokens::Closing;
 use tokens::end_of_name;
+use units::CodePoint;
 
 // The next character in quotes, with the spot after its name.
 pub enum NextChar {
-    Char(u32, Spot),
+    Char(CodePoint, Spot),
     End,
 }
 
@@ -49,21 +50,21 @@ fn quote_spot(v: usize) -> Spot
     }
 }
 
-fn wide(x: u32) -> usize
-    ensures { λ r. ⌜ (r ≡ x) × (r < 4294967296) ⌝ }
+fn wide(c: CodePoint) -> usize
+    ensures { λ r. ⌜ (r ≡ c .0) × (r < 4294967296) ⌝ }
 {
-    x as usize
+    c.0 as usize
 }
 
 // The code of a name in quotes, 0 for one that is not shaped as a character.
-pub fn char_at(src: &[u8], g: Signs, p: Spot) -> u32
+pub fn char_at(src: &[u8], g: Signs, p: Spot) -> CodePoint
     requires { ⌜ p .at ≤ length (now src) ⌝ }
-    ensures { λ r. ⌜ r ≡ charOf (nameLeft g (now (src .entry)) p) ⌝ }
+    ensures { λ r. ⌜ r .0 ≡ charOf (nameLeft g (now (src .entry)) p) ⌝ }
 {
     let c = name_char(src, g, p);
     match c {
         Code::Char(x) => return x,
-        Code::Other => return 0,
+        Code::Other => return CodePoint(0),
     }
 }
 
@@ -147,7 +148,7 @@ fn same_chars(src: &[u8], g: Signs, p: Spot, q: Spot) -> bool
                 let t = next_char(src, g, j);
                 match t {
                     NextChar::Char(b, l) => {
-                        if a == b {
+                        if a.0 == b.0 {
                             i = k;
                             j = l;
                         } else {
@@ -194,7 +195,7 @@ pub fn same_subject(src: &[u8], g: Signs, p: Spot, q: Spot) -> bool
     let d = name_char(src, g, q);
     match c {
         Code::Char(x) => match d {
-            Code::Char(y) => return x == y,
+            Code::Char(y) => return x.0 == y.0,
             Code::Other => return false,
         },
         Code::Other => match d {

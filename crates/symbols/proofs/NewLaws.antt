@@ -11,6 +11,7 @@ use Rattle.rules.specs.OrderLines.{subjectOf}
 use Rattle.lines.specs.declared.Signs.{Signs}
 use Rattle.lines.specs.declared.Spot.{Spot}
 use Rattle.tokens.specs.Left.{isInside}
+use Rattle.units.specs.declared.CodePoint.{CodePoint}
 use Rattle.names.specs.declared.Code.{Code}
 use Rattle.names.specs.declared.Code.the-variants.{Char, Other}
 use Rattle.names.specs.Named.{nameLeft, CharIs, CodeIs}
@@ -55,9 +56,9 @@ unfolding knownIn
 known-is v m ds h = ap isFound (sym (v .is m ds h))
 
 module _ (g : Signs) (src w : List ℕ) (i : Spot) {c : Code} (v : CodeIs (nameLeft g src i) c) where
-  pub new-shaped : {x : ℕ} → c ≡ Char x → NewIs (keyAt g src) (length src) w (nameLeft g src i) false
+  pub new-shaped : {x : CodePoint} → c ≡ Char x → NewIs (keyAt g src) (length src) w (nameLeft g src i) false
   new-shaped {x} e =
-      let z : CharIs (nameLeft g src i) x = subst (CodeIs (nameLeft g src i)) e v in
+      let z : CharIs (nameLeft g src i) (x .0) = subst (CodeIs (nameLeft g src i)) e v in
       record { is = λ m ds h. new-shaped-not ds (nameLeft g src i) (z .shaped) }
 
   module _ (e : c ≡ Other) (inside : isInside (i .mode) ≡ true) {f : Found} (u : Finds (keyAt g src) (length src) w (keyAt g src (2 * i .at)) f) where

@@ -54,7 +54,7 @@ fn chars_pass(t: &[u32], at: usize) -> bool
         if c == 0x110000 {
             return all_within(t, i, end - i, 0x110000, 0x110000);
         }
-        if units::is_character(c) {
+        if units::is_character(units::CodePoint(c)) {
             i += 1;
         } else {
             return false;

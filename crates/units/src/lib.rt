@@ -7,7 +7,7 @@ ghost use Rattle.units.specs.Numbers.{numberOf};
 // The place of an order line among the used ones, from 1: what a weight is.
 pub struct Rank(pub u32);
 
-// A character of a string, by its code.
+// A character of a string, a name or a charmap, by its code: `is_character` tells whether it is one. 110000 hex stands for none.
 pub struct CodePoint(pub u32);
 
 // How the first of two strings stands to the second.
@@ -49,17 +49,18 @@ pub enum Refusal {
     NotMapped,
 }
 
-// Whether a number is a character.
-pub fn is_character(c: u32) -> bool
-    ensures { λ r. ⌜ r ≡ isCharacter c ⌝ }
+// Whether a code is a character's.
+pub fn is_character(c: CodePoint) -> bool
+    ensures { λ r. ⌜ r ≡ isCharacter (c .0) ⌝ }
 {
-    if 0x10FFFF < c {
+    let n = c.0;
+    if 0x10FFFF < n {
         return false;
     }
-    if c < 0xD800 {
+    if n < 0xD800 {
         return true;
     }
-    0xDFFF < c
+    0xDFFF < n
 }
 
 // Whether a string is not too long, and each of its numbers is a character.
@@ -71,7 +72,8 @@ pub fn good_string(s: &[u32]) -> bool
     }
     let mut i = 0;
     while i < s.len() {
-        let character = is_character(s[i]);
+        let n = s[i];
+        let character = is_character(CodePoint(n));
         if character {
             i += 1;
         } else {

@@ -14,6 +14,7 @@ use Rattle.lines.specs.declared.Spot.{Spot}
 use Rattle.names.specs.Named.{nameLeft}
 use Rattle.rows.specs.Cells.{cell}
 use Rattle.listed.specs.Listed.{charsNumber, placeNumber, rankNumber}
+use Rattle.units.specs.declared.CodePoint.{CodePoint}
 use Rattle.subjects.specs.declared.NextChar.{NextChar}
 use Rattle.subjects.specs.declared.NextChar.the-variants.{Char, End}
 use Rattle.subjects.specs.Keys.{nameSpot, quoteSpot, charOf, charsLeft, keyAt, CharNext, NextIs}
@@ -26,12 +27,12 @@ use Rattle.writes.specs.Writing.{CodeIs, itemChars, CharsReady, LineRoom
 -- ## Four characters
 
 module _ (g : Signs) (src : List ℕ) (p : Spot) {s : NextChar} (v : NextIs g src p s) where
-  pub code-next : {c : ℕ} {q : Spot} → s ≡ Char c q → CodeIs g src p (record { code = c; next = q })
+  pub code-next : {c : CodePoint} {q : Spot} → s ≡ Char c q → CodeIs g src p (record { code = c; next = q })
   code-next {c} {q} e =
-      let x : CharNext g src p c q = subst (NextIs g src p) e v in
+      let x : CharNext g src p (c .0) q = subst (NextIs g src p) e v in
       record { code = sym (rw (x .chars)); rest = sym (rw (x .chars)); mode = x .mode; to = x .to }
 
-  pub code-end : p .at ≤ length src → p .mode ≡ quoted → s ≡ End → CodeIs g src p (record { code = 0x110000; next = p })
+  pub code-end : p .at ≤ length src → p .mode ≡ quoted → s ≡ End → CodeIs g src p (record { code = record { 0 = 0x110000 }; next = p })
   code-end h m e =
       let x : charsLeft g src p ≡ [] = subst (NextIs g src p) e v in
       record { code = sym (rw x); rest = rw x; mode = m; to = h }
@@ -48,15 +49,15 @@ getD-drop (x ∷ xs) i d = refl
 
 module _ {g : Signs} {src : List ℕ} {p : Spot} {a b c d : Coded} (v₀ : CodeIs g src p a) (v₁ : CodeIs g src (a .next) b) (v₂ : CodeIs g src (b .next) c)
     (v₃ : CodeIs g src (c .next) d) where
-  pub four-quoted : (area : List ℕ) {after : List ℕ} (at : ℕ) → after ≡ sets area at (a .code ∷ b .code ∷ c .code ∷ d .code ∷ [])
+  pub four-quoted : (area : List ℕ) {after : List ℕ} (at : ℕ) → after ≡ sets area at (a .code .0 ∷ b .code .0 ∷ c .code .0 ∷ d .code .0 ∷ [])
       → after ≡ sets area at (padded (charsLeft g src p) [])
   four-quoted area at e =
       let cs : List ℕ = charsLeft g src p in
-      let e₁ : b .code ≡ getD cs 1 pad = v₁ .code ∙ ap (λ (xs : List ℕ). getD xs 0 pad) (v₀ .rest) ∙ getD-drop cs 0 pad in
+      let e₁ : b .code .0 ≡ getD cs 1 pad = v₁ .code ∙ ap (λ (xs : List ℕ). getD xs 0 pad) (v₀ .rest) ∙ getD-drop cs 0 pad in
       let r₂ : charsLeft g src (b .next) ≡ drop 1 (drop 1 cs) = v₁ .rest ∙ ap (λ (xs : List ℕ). drop 1 xs) (v₀ .rest) in
-      let e₂ : c .code ≡ getD cs 2 pad = v₂ .code ∙ ap (λ (xs : List ℕ). getD xs 0 pad) r₂ ∙ getD-drop (drop 1 cs) 0 pad ∙ getD-drop cs 1 pad in
+      let e₂ : c .code .0 ≡ getD cs 2 pad = v₂ .code ∙ ap (λ (xs : List ℕ). getD xs 0 pad) r₂ ∙ getD-drop (drop 1 cs) 0 pad ∙ getD-drop cs 1 pad in
       let r₃ : charsLeft g src (c .next) ≡ drop 1 (drop 1 (drop 1 cs)) = v₂ .rest ∙ ap (λ (xs : List ℕ). drop 1 xs) r₂ in
-      let e₃ : d .code ≡ getD cs 3 pad =
+      let e₃ : d .code .0 ≡ getD cs 3 pad =
       v₃ .code ∙ ap (λ (xs : List ℕ). getD xs 0 pad) r₃ ∙ getD-drop (drop 1 (drop 1 cs)) 0 pad ∙ getD-drop (drop 1 cs) 1 pad ∙ getD-drop cs 2 pad in
       e ∙ rw (v₀ .code, e₁, e₂, e₃)
 

@@ -82,7 +82,7 @@ pub record CharsReady (len : ℕ) (w : List ℕ) (mark : ℕ) : Type 0 where
 
 -- The first of the characters still to come in quotes, or padding, and the spot before the others.
 pub record CodeIs (g : Signs) (src : List ℕ) (p : Spot) (r : Coded) : Type 0 where
-  pub code : r .code ≡ getD (charsLeft g src p) 0 pad
+  pub code : r .code .0 ≡ getD (charsLeft g src p) 0 pad
   pub rest : charsLeft g src (r .next) ≡ drop 1 (charsLeft g src p)
   pub mode : r .next .mode ≡ quoted
   pub to : r .next .at ≤ length src

@@ -22,16 +22,17 @@ use rows::told;
 use subjects::NextChar;
 use subjects::char_at;
 use subjects::next_char;
+use units::CodePoint;
 use units::Rank;
 
 // The next of an item's characters, 110000 hex where none is left, and the spot after it.
 struct Coded {
-    code: u32,
+    code: CodePoint,
     next: Spot,
 }
 
 // A weight; the place behind it.
-fn put_rank(area: &mut [u32], at: usize, r: Rank) -> usize
+pub fn put_rank(area: &mut [u32], at: usize, r: Rank) -> usize
     requires { ⌜ at < length (now area) ⌝ }
     ensures { λ r′. ⌜ Puts (now (area .entry)) at (r .0 ∷ []) (now (area .exit)) r′ ⌝ }
 {
@@ -160,21 +161,21 @@ fn next_code(src: &[u8], g: Signs, p: Spot) -> Coded
         }
         NextChar::End => {
             return Coded {
-                code: 0x110000,
+                code: CodePoint(0x110000),
                 next: p,
             };
         }
     }
 }
 
-fn put_four(area: &mut [u32], at: usize, a: u32, b: u32, c: u32, d: u32)
+fn put_four(area: &mut [u32], at: usize, a: CodePoint, b: CodePoint, c: CodePoint, d: CodePoint)
     requires { ⌜ at + 4 ≤ length (now area) ⌝ }
-    ensures { λ _. ⌜ now (area .exit) ≡ sets (now (area .entry)) at (a ∷ b ∷ c ∷ d ∷ []) ⌝ }
+    ensures { λ _. ⌜ now (area .exit) ≡ sets (now (area .entry)) at (a .0 ∷ b .0 ∷ c .0 ∷ d .0 ∷ []) ⌝ }
 {
-    area[at] = a;
-    area[at + 1] = b;
-    area[at + 2] = c;
-    area[at + 3] = d;
+    area[at] = a.0;
+    area[at + 1] = b.0;
+    area[at + 2] = c.0;
+    area[at + 3] = d.0;
 }
 
 // The first four characters in quotes, filled up with 110000 hex.
@@ -205,8 +206,9 @@ pub fn write_chars(src: &[u8], g: Signs, work: &[u32], mark: usize, area: &mut [
     requires { ⌜ at + 4 ≤ length (now area) ⌝ }
     ensures { λ _. ⌜ now (area .exit) ≡ sets (now (area .entry)) at (padded (itemChars g (now (src .entry)) (now (work .entry)) mark) []) ⌝ }
 {
+    let none = CodePoint(0x110000);
     if mark >= 16 * (src.len() / 8 + 1) {
-        put_four(area, at, 0x110000, 0x110000, 0x110000, 0x110000);
+        put_four(area, at, none, none, none, none);
         return;
     }
     let q = wide(told(work, mark, 0));
@@ -217,7 +219,7 @@ pub fn write_chars(src: &[u8], g: Signs, work: &[u32], mark: usize, area: &mut [
             fresh: false,
         };
         let c = char_at(src, g, p);
-        put_four(area, at, c, 0x110000, 0x110000, 0x110000);
+        put_four(area, at, c, none, none, none);
         return;
     }
     let p = Spot {

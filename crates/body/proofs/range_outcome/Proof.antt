@@ -20,7 +20,7 @@ add-n : tie.Need-add-n
 add-n c = search needs
 
 any-given-requires : tie.Need-any-given-requires
-any-given-requires c κs = range-room _ _ _ (c .before .before .before .pre .0) (search needs)
+any-given-requires c κs = range-room _ _ _ (c .before .before .before .before .before .before .before .pre .0) (search needs)
 
 returns-3 : tie.Need-returns-3
 returns-3 c = search range-taken

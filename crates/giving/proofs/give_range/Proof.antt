@@ -5,10 +5,10 @@ use Rattle.giving.proofs.give_range.Statement.{statement}
 use Rattle.giving.proofs.give_range.Tie as tie
 
 abbrev Inv-loop : tie.InvT-loop
-Inv-loop area₀ byte code n b₀ c₀ left₀ area b c left = Ranging area₀ byte code n area b c left
+Inv-loop area₀ byte n b₀ c₀ left₀ area b c left = Ranging area₀ byte c₀ n area b c left
 
 abbrev μ-loop : tie.MeasureT-loop
-μ-loop area₀ byte code n b₀ c₀ left₀ area b c left = left
+μ-loop area₀ byte n b₀ c₀ left₀ area b c left = left
 
 loop-holds : tie.Need-loop-holds Inv-loop μ-loop
 loop-holds c = search ranging-start

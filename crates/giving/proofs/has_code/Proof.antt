@@ -6,7 +6,7 @@ use Rattle.giving.proofs.has_code.Statement.{statement}
 use Rattle.giving.proofs.has_code.Tie as tie
 
 abbrev Inv-loop : tie.InvT-loop
-Inv-loop area code i₀ i = CodeSought area code i
+Inv-loop area code i₀ i = CodeSought area (code .0) i
 
 abbrev μ-loop : tie.MeasureT-loop
 μ-loop area code i₀ i = 256 - i

@@ -7,8 +7,8 @@ use Rattle.stored.proofs.write_supplied.Tie as tie
 write-record-requires : tie.Need-write-record-requires
 write-record-requires c κs = search needs
 
-fill-requires : tie.Need-fill-requires
-fill-requires c κs = search needs
+fill-rank-requires : tie.Need-fill-rank-requires
+fill-rank-requires c κs = search needs
 
 same-length : tie.Need-same-length
 same-length c = search needs
@@ -17,4 +17,4 @@ returns : tie.Need-returns
 returns c = search supplied-written
 
 pub write-supplied-spec : {M : Type 1} → statement M
-write-supplied-spec = tie.close (tie.spec write-record-requires fill-requires same-length returns)
+write-supplied-spec = tie.close (tie.spec write-record-requires fill-rank-requires same-length returns)

@@ -18,11 +18,11 @@ returns c = search string-long
 loop-holds : tie.Need-loop-holds Inv-loop μ-loop
 loop-holds c = search characters-none
 
-mul-is-character : tie.Need-mul-is-character Inv-loop μ-loop
-mul-is-character c = search needs
+mul-n : tie.Need-mul-n Inv-loop μ-loop
+mul-n c = search needs
 
-shared-slice-read-is-character : tie.Need-shared-slice-read-is-character Inv-loop μ-loop
-shared-slice-read-is-character c = search needs
+shared-slice-read-n : tie.Need-shared-slice-read-n Inv-loop μ-loop
+shared-slice-read-n c = search needs
 
 is-character-requires : tie.Need-is-character-requires Inv-loop μ-loop
 is-character-requires c κs = search needs
@@ -50,8 +50,8 @@ good-string-spec =
     μ-loop
     returns
     loop-holds
-    mul-is-character
-    shared-slice-read-is-character
+    mul-n
+    shared-slice-read-n
     is-character-requires
     add-i
     loop-less

@@ -1,0 +1,150 @@
+-- Demand 1: "Bad input gets the numbered refusal of document 01, in its order": of each public operation, for every answer, its refusal is the first
+-- that is given of 01's list for it, and there is none on any other ground.
+use mathlib.Core.Path.{_≡_, ap, _∙_}
+use mathlib.Core.Bool.{not, _&&_}
+use mathlib.Core.List.{List, [], _∷_, map}
+use Prim.Native.Nat.{ℕ, _+_}
+use lib.ListN.{length}
+use lib.Dec.{eqb, leb, ltb}
+use borrow.Author.Tests.{ltb-true, ltb-false, le-leb, lt-leb}
+use Rattle.lists.proofs.Bools.{by}
+use Rattle.rules.specs.Text.{_unless_, within, every}
+use Rattle.rules.specs.Names.{isCharacter}
+use Rattle.rules.specs.Meaning.{sizeOf}
+use Rattle.rules.specs.State.{start}
+use Rattle.rules.specs.Source.{Ended, linesFrom}
+use Rattle.rules.specs.Compile.{isRanked, meaningOf, finish, compileOf}
+use Rattle.rules.specs.Order.{goodString, keyOf}
+use Rattle.rules.specs.Table.{accepted, meaningIn}
+use Rattle.rules.specs.Charmap.{MapEnded, mapStart, mapLinesFrom, charmapOf}
+use Rattle.rules.specs.Coding.{areaAccepted, codeAt, byteAt, decodeOf, encodeOf}
+use Rattle.rules.specs.Calls as calls
+use Rattle.rules.specs.Calls.{compiledAs, compileCall, checkCall, stepCall, compareCall, keyFor, keyCall, writtenAs, mappedAs, charmapCall, areaCall, decodeCall, encodeCall}
+use Rattle.compile.specs.Answers.{toldAs}
+use Rattle.compile.specs.declared.Compiled.{Compiled}
+use Rattle.table.specs.Answers.{checkedAs}
+use Rattle.table.specs.declared.Verdict.{Verdict}
+use Rattle.order.specs.Answers.{steppedAs, comparedAs}
+use Rattle.order.specs.declared.Stepping.{Stepping}
+use Rattle.order.specs.declared.Comparison.{Comparison}
+use Rattle.keys.specs.Answers.{keyedAs}
+use Rattle.keys.specs.declared.Keyed.{Keyed}
+use Rattle.charmap.specs.Answers.{readAs}
+use Rattle.charmap.specs.declared.Mapped.{Mapped}
+use Rattle.coding.specs.Answers.{numberIs, writtenIs}
+use Rattle.coding.specs.declared.AreaVerdict.{AreaVerdict}
+use Rattle.coding.specs.declared.Coded.{Coded}
+use Rattle.demands.specs.Answered.{Compiles, Checks, Steps, Compares, Keys, Reads, ChecksArea, Decodes, Encodes, first}
+
+-- the two ways to say that n is not above m
+not-above : (n m : ℕ) → leb n m ≡ not (ltb m n)
+not-above n m = by (ltb m n) (λ t. rw t (lt-leb n m (ltb-true m n t))) (λ t. rw t (le-leb n m (ltb-false m n t)))
+
+-- ## Tables
+
+pub check-refusal : (t : List ℕ) (r : Verdict) → Checks t r → checkedAs r .refusal ≡ first (11 unless accepted t ∷ [])
+unfolding checkCall first
+check-refusal t r e = ap (λ (c : calls.Checked). c .refusal) e ∙ by (accepted t) (λ p. rw p) (λ p. rw p)
+
+pub step-refusal : (t s : List ℕ) (at : ℕ) (r : Stepping) → Steps t s at r → steppedAs r .refusal ≡ first (11 unless accepted t ∷ 12 unless goodString s ∷ [])
+unfolding stepCall first
+step-refusal t s at r e =
+    ap (λ (c : calls.Stepped). c .refusal) e
+    ∙ by (accepted t) (λ p. by (goodString s) (λ q. rw (p, q)) (λ q. rw (p, q))) (λ p. rw p)
+
+-- "the first string before the second"
+pub compare-refusal : (t a b : List ℕ) (r : Comparison) → Compares t a b r
+    → comparedAs r .refusal ≡ first (11 unless accepted t ∷ 12 unless goodString a ∷ 12 unless goodString b ∷ [])
+unfolding compareCall first
+compare-refusal t a b r e =
+    ap (λ (c : calls.Compared). c .refusal) e
+    ∙ by (accepted t)
+    (λ p. by (goodString a) (λ x. by (goodString b) (λ y. rw (p, x, y)) (λ y. rw (p, x, y))) (λ x. rw (p, x)))
+    (λ p. rw p)
+
+pub key-refusal : (t s room : List ℕ) (r : Keyed) (room₁ : List ℕ) → Keys t s room r room₁
+    → keyedAs r room₁ .refusal ≡ first (11 unless accepted t ∷ 12 unless goodString s ∷ 13 unless leb (length (keyOf (meaningIn t) s)) (length room) ∷ [])
+unfolding keyCall keyFor writtenAs first
+key-refusal t s room r room₁ e =
+    ap (λ (c : calls.Written). c .refusal) e
+    ∙ by (accepted t)
+    (λ p. by (goodString s)
+    (λ q. rw (not-above (length (keyOf (meaningIn t) s)) (length room))
+    (by (ltb (length room) (length (keyOf (meaningIn t) s))) (λ k. rw (p, q, k)) (λ k. rw (p, q, k))))
+    (λ q. rw (p, q)))
+    (λ p. rw p)
+
+-- ## Charmap areas
+
+pub area-refusal : (area : List ℕ) (r : AreaVerdict) → ChecksArea area r → numberIs r ≡ first (11 unless areaAccepted area ∷ [])
+unfolding areaCall first
+area-refusal area r e = e ∙ by (areaAccepted area) (λ p. rw p) (λ p. rw p)
+
+pub decode-refusal : (area bs room : List ℕ) (r : Coded) (room₁ : List ℕ) → Decodes area bs room r room₁
+    → writtenIs r room₁ .refusal
+    ≡ first (11 unless areaAccepted area ∷ 12 unless leb (length bs) 4096 ∷ 14 unless every isCharacter (map (codeAt area) bs)
+    ∷ 13 unless leb (length (map (codeAt area) bs)) (length room) ∷ [])
+unfolding decodeCall decodeOf writtenAs first
+decode-refusal area bs room r room₁ e =
+    let text : List ℕ = map (codeAt area) bs in
+    ap (λ (c : calls.Written). c .refusal) e
+    ∙ rw (not-above (length bs) 4096, not-above (length text) (length room))
+    (by (areaAccepted area)
+    (λ p. by (ltb 4096 (length bs))
+    (λ q. rw (p, q))
+    (λ q. by (every isCharacter text)
+    (λ k. by (ltb (length room) (length text)) (λ z. rw (p, q, k, z)) (λ z. rw (p, q, k, z)))
+    (λ k. rw (p, q, k))))
+    (λ p. rw p))
+
+pub encode-refusal : (area s room : List ℕ) (r : Coded) (room₁ : List ℕ) → Encodes area s room r room₁
+    → writtenIs r room₁ .refusal
+    ≡ first (11 unless areaAccepted area ∷ 12 unless goodString s ∷ 14 unless every (within 0 255) (map (byteAt area) s)
+    ∷ 13 unless leb (length (map (byteAt area) s)) (length room) ∷ [])
+unfolding encodeCall encodeOf writtenAs first
+encode-refusal area s room r room₁ e =
+    let bs : List ℕ = map (byteAt area) s in
+    ap (λ (c : calls.Written). c .refusal) e
+    ∙ rw (not-above (length bs) (length room))
+    (by (areaAccepted area)
+    (λ p. by (goodString s)
+    (λ q. by (every (within 0 255) bs)
+    (λ k. by (ltb (length room) (length bs)) (λ z. rw (p, q, k, z)) (λ z. rw (p, q, k, z)))
+    (λ k. rw (p, q, k)))
+    (λ q. rw (p, q)))
+    (λ p. rw p))
+
+-- ## Sources: "1 comes first. Then lines in order; .. Then 8, by line, then 9."
+
+pub read-refusal : (src area : List ℕ) (r : Mapped) (area₁ : List ℕ) → Reads src area r area₁
+    → readAs r area₁ .refusal
+    ≡ first (1 unless leb (length src) 1048576 ∷ mapLinesFrom mapStart 1 0 src .refusal ∷ 9 unless leb 512 (length area) ∷ [])
+unfolding charmapCall charmapOf mappedAs first
+read-refusal src area r area₁ e =
+    let m : MapEnded = mapLinesFrom mapStart 1 0 src in
+    ap (λ (c : calls.Mapped). c .refusal) e
+    ∙ rw (not-above (length src) 1048576, not-above 512 (length area))
+    (by (ltb 1048576 (length src))
+    (λ p. rw p)
+    (λ p. by (eqb (m .refusal) 0)
+    (λ q. by (ltb (length area) 512) (λ k. rw (p, q, k)) (λ k. rw (p, q, k)))
+    (λ q. rw (p, q))))
+
+pub compile-refusal : (src area work : List ℕ) (r : Compiled) (area₁ work₁ : List ℕ) → Compiles src area work r area₁ work₁
+    → let e : Ended = linesFrom start 1 0 src in
+    toldAs r area₁ work₁ .refusal
+    ≡ first (1 unless (leb (length src) 1048576 && leb (length src + 64) (length work)) ∷ e .refusal
+    ∷ 8 unless every (isRanked (e .state .ordered .lines)) (e .state .ordered .lines) ∷ 9 unless leb (sizeOf (meaningOf (e .state))) (length area) ∷ [])
+unfolding compileCall compileOf finish compiledAs first
+compile-refusal src area work r area₁ work₁ h =
+    let e : Ended = linesFrom start 1 0 src in
+    let ls = e .state .ordered .lines in
+    ap (λ (c : calls.Compiled). c .refusal) h
+    ∙ rw (not-above (sizeOf (meaningOf (e .state))) (length area))
+    (by (leb (length src) 1048576 && leb (length src + 64) (length work))
+    (λ p. by (eqb (e .refusal) 0)
+    (λ q. by (every (isRanked ls) ls)
+    (λ k. by (ltb (length area) (sizeOf (meaningOf (e .state)))) (λ z. rw (p, q, k, z)) (λ z. rw (p, q, k, z)))
+    (λ k. rw (p, q, k)))
+    (λ q. rw (p, q)))
+    (λ p. rw p))

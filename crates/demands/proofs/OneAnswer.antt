@@ -1,0 +1,47 @@
+-- Of each public operation: two answers, with the areas that they leave, that meet its contract for the same lent input are equal.
+use mathlib.Core.Path.{_≡_, sym, _∙_}
+use mathlib.Core.List.{List}
+use Prim.Native.Nat.{ℕ}
+use Rattle.compile.specs.declared.Compiled.{Compiled}
+use Rattle.compile.proofs.AnswerLaws.{toldAs-unique}
+use Rattle.table.specs.declared.Verdict.{Verdict}
+use Rattle.table.proofs.AnswerLaws.{checkedAs-unique}
+use Rattle.order.specs.declared.Stepping.{Stepping}
+use Rattle.order.specs.declared.Comparison.{Comparison}
+use Rattle.order.proofs.AnswerLaws.{steppedAs-unique, comparedAs-unique}
+use Rattle.keys.specs.declared.Keyed.{Keyed}
+use Rattle.keys.proofs.AnswerLaws.{keyedAs-unique}
+use Rattle.charmap.specs.declared.Mapped.{Mapped}
+use Rattle.charmap.proofs.AnswerLaws.{readAs-unique}
+use Rattle.coding.specs.declared.AreaVerdict.{AreaVerdict}
+use Rattle.coding.specs.declared.Coded.{Coded}
+use Rattle.coding.proofs.AnswerLaws.{numberIs-unique, writtenIs-unique}
+use Rattle.demands.specs.Answered.{Compiles, Checks, Steps, Compares, Keys, Reads, ChecksArea, Decodes, Encodes}
+
+pub one-compile : (src area work : List ℕ) (x y : Compiled) (a b v w : List ℕ) → Compiles src area work x a v → Compiles src area work y b w
+    → (x ≡ y) × (a ≡ b) × (v ≡ w)
+one-compile src area work x y a b v w e f = toldAs-unique x y a b v w (e ∙ sym f)
+
+pub one-check : (t : List ℕ) (x y : Verdict) → Checks t x → Checks t y → x ≡ y
+one-check t x y e f = checkedAs-unique x y (e ∙ sym f)
+
+pub one-step : (t s : List ℕ) (at : ℕ) (x y : Stepping) → Steps t s at x → Steps t s at y → x ≡ y
+one-step t s at x y e f = steppedAs-unique x y (e ∙ sym f)
+
+pub one-compare : (t a b : List ℕ) (x y : Comparison) → Compares t a b x → Compares t a b y → x ≡ y
+one-compare t a b x y e f = comparedAs-unique x y (e ∙ sym f)
+
+pub one-key : (t s room : List ℕ) (x y : Keyed) (a b : List ℕ) → Keys t s room x a → Keys t s room y b → (x ≡ y) × (a ≡ b)
+one-key t s room x y a b e f = keyedAs-unique x y a b (e ∙ sym f)
+
+pub one-read : (src area : List ℕ) (x y : Mapped) (a b : List ℕ) → Reads src area x a → Reads src area y b → (x ≡ y) × (a ≡ b)
+one-read src area x y a b e f = readAs-unique x y a b (e ∙ sym f)
+
+pub one-check-area : (area : List ℕ) (x y : AreaVerdict) → ChecksArea area x → ChecksArea area y → x ≡ y
+one-check-area area x y e f = numberIs-unique x y (e ∙ sym f)
+
+pub one-decode : (area bs room : List ℕ) (x y : Coded) (a b : List ℕ) → Decodes area bs room x a → Decodes area bs room y b → (x ≡ y) × (a ≡ b)
+one-decode area bs room x y a b e f = writtenIs-unique x y a b (e ∙ sym f)
+
+pub one-encode : (area s room : List ℕ) (x y : Coded) (a b : List ℕ) → Encodes area s room x a → Encodes area s room y b → (x ≡ y) × (a ≡ b)
+one-encode area s room x y a b e f = writtenIs-unique x y a b (e ∙ sym f)
