@@ -10,6 +10,8 @@ pub mod LinearLaws
 pub mod WidthLaws
 pub mod RankLaws
 pub mod StateLaws
+pub mod ChainLaws
+pub mod ChainLines
 pub mod SourceLaws
 pub mod ItemLaws
 pub mod CompileLaws
