@@ -13,7 +13,7 @@ use Rattle.rules.specs.Tokens.{word, name, Token, theName, tokensOf, ope
 use Rattle.rules.specs.State.{inOtherCategory, Chain, Subject, undefined, State, inPhase, inCollate, Outcome, gives}
 use Rattle.rules.specs.Conditionals.{defineLine, ifLine, elifLine, endifLine, noChain, inmost, isUnused}
 use Rattle.rules.specs.Declarations.{symbolLine, elementLine}
-use Rattle.rules.specs.OrderLines.{orderStartLine, subjectOf, orderLine}
+use Rattle.rules.specs.OrderLines.{orderStartLine, subjectOf, orderLine, reorderAfterLine, reorderEndLine}
 use Rattle.rules.specs.Source.{categoryLine, signLine, outsideLine, endLine, collateLine, tokenLine, wholeLine, otherLine, unusedLine, lineOutcome}
 use Rattle.rules.proofs.TextLaws.{lower-none}
 use Rattle.rules.proofs.ChainLaws.{Branch, opening, further, last, isOpening, branchLine, isDefined}
@@ -60,7 +60,7 @@ unfolding orderLine
 turns-order s number x ts = turns-nothing s _ refl
 
 turns-collate : (s : State) (number : ℕ) (w : List ℕ) (ts : List Token) → Turns s (collateLine s number w ts)
-unfolding collateLine defineLine symbolLine elementLine orderStartLine endLine
+unfolding collateLine defineLine symbolLine elementLine orderStartLine reorderAfterLine reorderEndLine endLine
 turns-collate s number w ts =
     cond-both (Turns s) (is w "define") (turns-nothing s _ refl)
     (cond-both (Turns s) (is w "undef") (turns-nothing s _ refl)
@@ -74,7 +74,9 @@ turns-collate s number w ts =
     (cond-both (Turns s) (is w "order_start") (turns-nothing s _ refl)
     (cond-both (Turns s) (is w "order_end") (turns-nothing s _ refl)
     (cond-both (Turns s) (is w "UNDEFINED") (turns-order s number undefined ts)
-    (cond-both (Turns s) (is w "END") (turns-nothing s _ refl) (turns-nothing s _ refl)))))))))))))
+    (cond-both (Turns s) (is w "reorder-after") (turns-nothing s _ refl)
+    (cond-both (Turns s) (is w "reorder-end") (turns-nothing s _ refl)
+    (cond-both (Turns s) (is w "END") (turns-nothing s _ refl) (turns-nothing s _ refl)))))))))))))))
 
 turns-token : (s : State) (number : ℕ) (ts : List Token) → Turns s (tokenLine s number ts)
 unfolding Turns tokenLine
