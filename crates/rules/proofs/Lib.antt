@@ -10,6 +10,7 @@ pub mod LinearLaws
 pub mod WidthLaws
 pub mod RankLaws
 pub mod PlacedLaws
+pub mod BlockLaws
 pub mod StateLaws
 pub mod ChainLaws
 pub mod ChainLines
