@@ -14,11 +14,10 @@ use Rattle.rules.specs.Meaning.{Rule}
 use Rattle.rules.specs.State.{afterOrder, inBlock, Chain, Subject, Declaration, OrderLine, State, withOrdered, toPhase}
 use Rattle.lines.specs.declared.Signs.{Signs}
 use Rattle.rows.specs.Cells.{cell}
-use Rattle.subjects.specs.Keys.{keyAt}
-use Rattle.store.specs.Store.{Decl, Holds}
+use Rattle.store.specs.Store.{Decl}
 use Rattle.listed.specs.declared.Order.{Order}
 use Rattle.listed.specs.Listed.{placeNumber, nextNumber, Linked, ends, goes}
-use Rattle.known.specs.Known.{subjectAt, IsListed, Known}
+use Rattle.known.specs.Known.{subjectAt, isRow, IsListed, Known}
 use Rattle.known.proofs.MarkLaws.{row-in}
 use Rattle.sheet.specs.declared.Block.{Block}
 use Rattle.sheet.specs.declared.Sheet.{Sheet}
@@ -33,15 +32,15 @@ all-one P [] v a h = absurd (false≢true h)
 all-one P (u ∷ us) v a h = by (eqb v u) (λ t. subst P (sym (eqb-true v u t)) (a .0)) (λ t. all-one P us v (a .1) (rw t at h))
 
 -- the rows that were listed keep their links, so that the same are linked
-linked-same : (g : Signs) (src w w′ : List ℕ) (n : ℕ) (ds : List Decl) → Holds (keyAt g src) (length src) w n ds
+linked-same : (g : Signs) (src w w′ : List ℕ) (ds : List Decl) → ((u : ℕ) → isRow (length src) ds u ≡ true → u / 16 ≤ length src / 8 + 1)
     → ((u : ℕ) → u / 16 ≤ length src / 8 + 1 → cell w′ u nextNumber ≡ cell w u nextNumber)
     → (p : ℕ) (us vs : List ℕ) → All (IsListed g src w ds) us → Linked w p us → Linked w′ p vs → vs ≡ us
-linked-same g src w w′ n ds h e p [] [] a ends ends = refl
-linked-same g src w w′ n ds h e p [] (v ∷ vs) a ends (goes r m) = absurd (let s = r .some in omega (arith, s))
-linked-same g src w w′ n ds h e p (u ∷ us) [] a (goes r m) ends = absurd (let s = r .some in omega (arith, s))
-linked-same g src w w′ n ds h e p (u ∷ us) (v ∷ vs) a (goes r m) (goes q k) =
+linked-same g src w w′ ds h e p [] [] a ends ends = refl
+linked-same g src w w′ ds h e p [] (v ∷ vs) a ends (goes r m) = absurd (let s = r .some in omega (arith, s))
+linked-same g src w w′ ds h e p (u ∷ us) [] a (goes r m) ends = absurd (let s = r .some in omega (arith, s))
+linked-same g src w w′ ds h e p (u ∷ us) (v ∷ vs) a (goes r m) (goes q k) =
     ap (λ (x : List ℕ). u ∷ x)
-    (linked-same g src w w′ n ds h e (cell w u nextNumber) us vs (a .1) m (subst (λ (x : ℕ). Linked w′ x vs) (e u (row-in h u (a .0 .row))) k))
+    (linked-same g src w w′ ds h e (cell w u nextNumber) us vs (a .1) m (subst (λ (x : ℕ). Linked w′ x vs) (e u (h u (a .0 .row))) k))
 
 module _ (g : Signs) (src w w′ : List ℕ) (o : Order) (rs rs′ : List Rule) (n n′ : ℕ) (cs cs′ : List Declaration) (ls ls′ : List OrderLine)
     (k : Known g src w o rs n cs ls) (k′ : Known g src w′ o rs′ n′ cs′ ls′)
@@ -49,7 +48,7 @@ module _ (g : Signs) (src w w′ : List ℕ) (o : Order) (rs rs′ : List Rule) 
   -- the same lines are listed
   pub marks-same : k′ .marks ≡ k .marks
   marks-same =
-      linked-same g src w w′ n (k .ds) (k .holds) (λ u i. same u nextNumber i (omega arith) (omega arith)) (o .first) (k .marks) (k′ .marks)
+      linked-same g src w w′ (k .ds) (λ u r. row-in (k .holds) u r) (λ u i. same u nextNumber i (omega arith) (omega arith)) (o .first) (k .marks) (k′ .marks)
       (k .listed) (k .lines .linked) (k′ .lines .linked)
 
   pub mark-older : (v : ℕ) → oneOf (eqb v) (k′ .marks) ≡ true → oneOf (eqb v) (k .marks) ≡ true

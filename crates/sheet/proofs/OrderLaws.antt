@@ -41,29 +41,29 @@ module _ (g : Signs) (src w : List ℕ) (sh : Sheet) (cs : List Chain) (at : ℕ
   open-ordered place l rs p e c i m far =
       let known′ = known-rules g src w (sh .order) (s .ordered .rules) rs (o .n) (s .declared) (s .ordered .lines) (o .known) (o .unordered (rw p)) in
       record {
-    comment = o .comment;
-    escape = o .escape;
-    phase = refl;
-    inside = refl;
-    collated = o .collated;
-    chains = o .chains;
-    inner = o .inner;
-    toggles = o .toggles;
-    kept = o .kept;
-    n = o .n;
-    known = known′;
-    rows = λ h. let r : o .n ≤ (at + 5) / 8 = rw p at (o .rows inside) in let f = far h in omega (arith, r, f);
-    unordered = λ x. absurd (false≢true x);
-    rules = λ x. e;
-    started = λ x. c;
-    ruled = i;
-    levels = m;
-    few = o .few;
-    places = λ v h. absurd (false≢true (subst (λ (x : List ℕ). oneOf (eqb v) x ≡ true) (length-zero (known′ .marks) (sym (known′ .lines .count) ∙ o .unordered (rw p))) h));
-    from = λ x. absurd (false≢true x);
-    block = λ x. absurd (false≢true x);
-    closed = λ x. refl;
-  }
+        comment = o .comment;
+        escape = o .escape;
+        phase = refl;
+        inside = refl;
+        collated = o .collated;
+        chains = o .chains;
+        inner = o .inner;
+        toggles = o .toggles;
+        kept = o .kept;
+        n = o .n;
+        known = known′;
+        rows = λ h. let r : o .n ≤ (at + 5) / 8 = rw p at (o .rows inside) in let f = far h in omega (arith, r, f);
+        unordered = λ x. absurd (false≢true x);
+        rules = λ x. e;
+        started = λ x. c;
+        ruled = i;
+        levels = m;
+        few = o .few;
+        places = λ v h. absurd (false≢true (subst (λ (x : List ℕ). oneOf (eqb v) x ≡ true) (length-zero (known′ .marks) (sym (known′ .lines .count) ∙ o .unordered (rw p))) h));
+        from = λ x. absurd (false≢true x);
+        block = λ x. absurd (false≢true x);
+        closed = λ x. refl;
+      }
 
   -- a declaration, in an area that keeps what stands behind the rows
   pub open-declared : (w′ : List ℕ) (n′ : ℕ) (ds : List Declaration) → (eqb (sh .phase) beforeOrder || eqb (sh .phase) afterOrder) ≡ true → at ≤ next

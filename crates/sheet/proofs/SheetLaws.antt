@@ -90,32 +90,32 @@ module _ (g : Signs) (src w : List ℕ) (sh : Sheet) (cs : List Chain) (at : ℕ
   open-turned w′ m ds k l b =
       let known′ = known-behind g src w (sh .order) (s .ordered .rules) (o .n) (s .declared) (s .ordered .lines) (o .known) w′ l b in
       record {
-    comment = o .comment;
-    escape = o .escape;
-    phase = o .phase;
-    inside = o .inside;
-    collated = o .collated;
-    chains = refl;
-    inner = refl;
-    toggles = refl;
-    kept = k;
-    n = o .n;
-    known = known′;
-    rows = λ h. rows-rise (sh .phase) at next (o .n) on (o .rows inside);
-    unordered = o .unordered;
-    rules = o .rules;
-    started = o .started;
-    ruled = o .ruled;
-    levels = o .levels;
-    few = o .few;
-    places = λ v h. let p = mark-older g src w w′ (sh .order) (s .ordered .rules) (s .ordered .rules) (o .n) (o .n) (s .declared) (s .declared) (s .ordered .lines) (s .ordered .lines) (o .known) known′ five v h in
-        let a = o .places v p in
-        let e = place-same g src w w′ (sh .order) (s .ordered .rules) (s .ordered .rules) (o .n) (o .n) (s .declared) (s .declared) (s .ordered .lines) (s .ordered .lines) (o .known) known′ five v p in
-        omega (arith, a, e, on);
-    from = λ e. let a = o .from e in omega (arith, a, on);
-    block = λ e. block-same g src w w′ (sh .order) (s .ordered .rules) (s .ordered .rules) (o .n) (o .n) (s .declared) (s .declared) (s .ordered .lines) (s .ordered .lines) (o .known) known′ five (sh .block) (s .ordered .block) (o .block e);
-    closed = o .closed;
-  }
+        comment = o .comment;
+        escape = o .escape;
+        phase = o .phase;
+        inside = o .inside;
+        collated = o .collated;
+        chains = refl;
+        inner = refl;
+        toggles = refl;
+        kept = k;
+        n = o .n;
+        known = known′;
+        rows = λ h. rows-rise (sh .phase) at next (o .n) on (o .rows inside);
+        unordered = o .unordered;
+        rules = o .rules;
+        started = o .started;
+        ruled = o .ruled;
+        levels = o .levels;
+        few = o .few;
+        places = λ v h. let p = mark-older g src w w′ (sh .order) (s .ordered .rules) (s .ordered .rules) (o .n) (o .n) (s .declared) (s .declared) (s .ordered .lines) (s .ordered .lines) (o .known) known′ five v h in
+            let a = o .places v p in
+            let e = place-same g src w w′ (sh .order) (s .ordered .rules) (s .ordered .rules) (o .n) (o .n) (s .declared) (s .declared) (s .ordered .lines) (s .ordered .lines) (o .known) known′ five v p in
+            omega (arith, a, e, on);
+        from = λ e. let a = o .from e in omega (arith, a, on);
+        block = λ e. block-same g src w w′ (sh .order) (s .ordered .rules) (s .ordered .rules) (o .n) (o .n) (s .declared) (s .declared) (s .ordered .lines) (s .ordered .lines) (o .known) known′ five (sh .block) (s .ordered .block) (o .block e);
+        closed = o .closed;
+      }
     where
       five : (u j : ℕ) → u / 16 ≤ length src / 8 + 1 → 1 ≤ j → j < 5 → cell w′ u j ≡ cell w u j
       five u j i p q = b (cellAt u j) (omega (arith, i, q))
