@@ -92,7 +92,7 @@ module _ {g : Signs} {src : List ℕ} {at : ℕ} {p : Spot} {e : LineEnd} (l : O
             record { is = λ depth. record { is = λ w number. line-foul l w sh number depth x } }
 
         pub order-end-done : e .text ≡ true
-            → Still g src sh at (Next (record { phase = 5; toggles = sh .toggles; rules = sh .rules; levels = sh .levels; order = sh .order }) (e .next) (e .feeds))
+            → Still g src sh at (Next (record { phase = 5; toggles = sh .toggles; rules = sh .rules; levels = sh .levels; order = sh .order; block = sh .block }) (e .next) (e .feeds))
         order-end-done x =
             record {
               is = λ depth. record {
