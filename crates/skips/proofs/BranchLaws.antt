@@ -1,6 +1,6 @@
 -- The lines of an unused branch: what each kind of line does there, and the turns of the loop over them.
 use mathlib.Core.Path.{_≡_, refl, sym, ap, _∙_, subst}
-use mathlib.Core.Bool.{Bool, true, false, and-false, or-true}
+use mathlib.Core.Bool.{Bool, true, false, and-false, or-true, true≢false}
 use mathlib.Core.List.{List, [], _∷_}
 use Prim.Native.Nat.{ℕ, suc, pred, _+_, _-_, _≤_, _<_}
 use native.Mathlib.Omega.{arith}
@@ -21,7 +21,10 @@ use Rattle.skips.specs.declared.Kind.{Kind}
 use Rattle.skips.specs.declared.Kind.the-variants as kind
 use Rattle.skips.specs.declared.Turn.{Turn}
 use Rattle.skips.specs.declared.Turn.the-variants as turn
-use Rattle.skips.specs.Passing.{Unused, Begins, opens, branches, turns, KindIs, opened, TurnOn, TurnOwn, TurnDeep, TurnIs, BranchStops, BranchRefused}
+use Rattle.skips.specs.declared.Branch.{Branch}
+use Rattle.skips.specs.declared.Skip.{Skip}
+use Rattle.skips.specs.declared.Skip.the-variants as skip
+use Rattle.skips.specs.Passing.{Unused, Begins, opens, branches, turns, KindIs, opened, TurnOn, TurnOwn, TurnDeep, TurnIs, BranchStops, BranchRefused, BranchIs, InBranch, BranchBegins, BranchTurns}
 use Rattle.skips.proofs.LineRuns.{collate-signs, run-passed, run-refuses, run-unended, refuses-from}
 
 -- ## States in an unused branch
@@ -212,14 +215,6 @@ total-some depth total d h = omega arith
 
 -- ## Line after line
 
--- From the place `at` to i only lines of the branch are passed over.
-pub record InBranch (g : Signs) (src : List ℕ) (at number depth i n total : ℕ) : Type 0 where
-  pub from : at ≤ i
-  pub to : i ≤ length src
-  pub few : n ≤ i + 1
-  pub deep : depth ≤ total
-  pub run : (s : State) → Unused g depth s → linesFrom s number 0 (drop at src) ≡ linesFrom (opened depth total s) n 0 (drop i src)
-
 pub branch-begins : (g : Signs) (src : List ℕ) (at number depth : ℕ) → Begins src at number → InBranch g src at number depth at number depth
 branch-begins g src at number depth h =
     record {
@@ -272,3 +267,66 @@ module _ {g : Signs} {src : List ℕ} {at number depth i n total : ℕ} (v : InB
           run = λ s u. v .run s u
               ∙ run-passed g src i n (opened depth total s) (opened-signs g depth total s u) (opened depth o s) x h l (p .outcome s u n);
         }
+
+-- ## The reading of a branch, line after line
+
+-- it ends with the line at a place
+reading-ends : (src : List ℕ) (s : Branch) (at number : ℕ) (k : Skip)
+    → ((from n : ℕ) → InBranch (s .signs) src from n (s .depth) at number (s .total) → BranchIs (s .signs) src from n (s .depth) k)
+    → BranchTurns src s at number (record { over = true; next = at; number = number; total = s .total; answer = k; depth = s .depth; signs = s .signs })
+reading-ends src s at number k f =
+    record { signs = refl; depth = refl; further = λ e. absurd (true≢false e); unended = λ e. absurd (true≢false e); passes = λ e. absurd (true≢false e); stops = λ e. f }
+
+-- what the line at a place does to it
+module _ {src : List ℕ} {s : Branch} {at number : ℕ} (h : at < length src) {t : Turn} (w : TurnIs (s .signs) src at (s .depth) (s .total) t) where
+  pub turns-own : t ≡ turn.Own → BranchTurns src s at number (record { over = true; next = at; number = number; total = s .total; answer = skip.Stop at number; depth = s .depth; signs = s .signs })
+  turns-own e = reading-ends src s at number (skip.Stop at number) (λ from n v. branch-stops v h w e)
+
+  pub turns-deep : t ≡ turn.Deep → BranchTurns src s at number (record { over = true; next = at; number = number; total = s .total; answer = skip.Refused 7 number; depth = s .depth; signs = s .signs })
+  turns-deep e = reading-ends src s at number (skip.Refused 7 number) (λ from n v. branch-deep v h w e)
+
+  pub turns-on : {o : ℕ} {x : LineEnd} → t ≡ turn.On o → LineIs (s .signs) src (lineStart at) x
+      → BranchTurns src s at number (record { over = false; next = x .next; number = number + x .feeds; total = o; answer = skip.Refused 3 (number + x .feeds); depth = s .depth; signs = s .signs })
+  turns-on e l = record { signs = refl; depth = refl; further = λ z. l .on h; unended = λ z. refl; passes = λ z from n v. branch-on v h w e l; stops = λ z. absurd (true≢false (sym z)) }
+
+-- The loop's invariant: t has begun as s, and has passed lines of the branch.
+pub record Reading (src : List ℕ) (s t : Branch) : Type 0 where
+  pub signs : t .signs ≡ s .signs
+  pub depth : t .depth ≡ s .depth
+  pub answer : t .answer ≡ skip.Refused 3 (t .number)
+  pub passed : InBranch (t .signs) src (s .next) (s .number) (t .depth) (t .next) (t .number) (t .total)
+
+pub reading-begins : {src : List ℕ} {s : Branch} → BranchBegins src s → Reading src s s
+reading-begins {src} {s} b =
+    record {
+      signs = refl;
+      depth = refl;
+      answer = b .answer;
+      passed = subst (λ (x : ℕ). InBranch (s .signs) src (s .next) (s .number) (s .depth) (s .next) (s .number) x) (sym (b .none))
+          (branch-begins (s .signs) src (s .next) (s .number) (s .depth) (b .place));
+    }
+
+-- an answer with the characters and the chains of t is one with those of s
+answer-at : (src : List ℕ) (s t : Branch) (k : Skip) → t .signs ≡ s .signs → t .depth ≡ s .depth
+    → BranchIs (t .signs) src (s .next) (s .number) (t .depth) k → BranchIs (s .signs) src (s .next) (s .number) (s .depth) k
+answer-at src s t k g d h =
+    subst (λ (x : Signs). BranchIs x src (s .next) (s .number) (s .depth) k) g (subst (λ (x : ℕ). BranchIs (t .signs) src (s .next) (s .number) x k) d h)
+
+module _ {src : List ℕ} {s t : Branch} (v : Reading src s t) where
+  pub reading-asks : t .next < length src → (t .next < length src) × (t .number ≤ t .next + 1) × (t .depth ≤ t .total)
+  reading-asks h = (h, v .passed .few, v .passed .deep)
+
+  pub reading-used : length src ≤ t .next → BranchIs (s .signs) src (s .next) (s .number) (s .depth) (t .answer)
+  reading-used h =
+      answer-at src s t (t .answer) (v .signs) (v .depth) (subst (BranchIs (t .signs) src (s .next) (s .number) (t .depth)) (sym (v .answer)) (branch-end (v .passed) h))
+
+  module _ {u : Branch} (w : BranchTurns src t (t .next) (t .number) u) where
+    pub reading-stops : u .over ≡ true → BranchIs (s .signs) src (s .next) (s .number) (s .depth) (u .answer)
+    reading-stops e = answer-at src s u (u .answer) (w .signs ∙ v .signs) (w .depth ∙ v .depth) (w .stops e (s .next) (s .number) (v .passed))
+
+    pub reading-goes : u .over ≡ false → Reading src s u
+    reading-goes e =
+        record { signs = w .signs ∙ v .signs; depth = w .depth ∙ v .depth; answer = w .unended e; passed = w .passes e (s .next) (s .number) (v .passed) }
+
+    pub reading-nearer : t .next < length src → u .over ≡ false → length src - u .next < length src - t .next
+    reading-nearer h e = omega (arith, w .further e)

@@ -20,6 +20,7 @@ use Rattle.skips.specs.declared.Turn.{Turn}
 use Rattle.skips.specs.declared.Turn.the-variants as turn
 use Rattle.skips.specs.declared.Skip.{Skip}
 use Rattle.skips.specs.declared.Skip.the-variants as skip
+use Rattle.skips.specs.declared.Branch.{Branch}
 
 -- ## The states
 
@@ -135,6 +136,29 @@ pub record BranchRefused (g : Signs) (src : List ℕ) (at number depth r l : ℕ
 abbrev pub BranchIs : Signs → List ℕ → ℕ → ℕ → ℕ → Skip → Type 0
 BranchIs g src at number depth (skip.Stop next n) = BranchStops g src at number depth next n
 BranchIs g src at number depth (skip.Refused r l) = BranchRefused g src at number depth r l
+
+-- From the place `at` to i only lines of the branch are passed, with no inner chain open at first, and then `total` chains in all.
+pub record InBranch (g : Signs) (src : List ℕ) (at number depth i n total : ℕ) : Type 0 where
+  pub from : at ≤ i
+  pub to : i ≤ length src
+  pub few : n ≤ i + 1
+  pub deep : depth ≤ total
+  pub run : (s : State) → Unused g depth s → linesFrom s number 0 (drop at src) ≡ linesFrom (opened depth total s) n 0 (drop i src)
+
+-- A reading of the branch begins.
+pub record BranchBegins (src : List ℕ) (s : Branch) : Type 0 where
+  pub place : Begins src (s .next) (s .number)
+  pub none : s .total ≡ s .depth
+  pub answer : s .answer ≡ skip.Refused 3 (s .number)
+
+-- The line at a place takes the reading t to u: wherever t has begun, u has passed the line, or has the answer.
+pub record BranchTurns (src : List ℕ) (t : Branch) (at number : ℕ) (u : Branch) : Type 0 where
+  pub signs : u .signs ≡ t .signs
+  pub depth : u .depth ≡ t .depth
+  pub further : u .over ≡ false → at < u .next
+  pub unended : u .over ≡ false → u .answer ≡ skip.Refused 3 (u .number)
+  pub passes : u .over ≡ false → (from n : ℕ) → InBranch (t .signs) src from n (t .depth) at number (t .total) → InBranch (u .signs) src from n (u .depth) (u .next) (u .number) (u .total)
+  pub stops : u .over ≡ true → (from n : ℕ) → InBranch (t .signs) src from n (t .depth) at number (t .total) → BranchIs (u .signs) src from n (u .depth) (u .answer)
 
 -- ## Another category
 

@@ -1,0 +1,79 @@
+-- `skips::branch_lines` meets its contract: it is one of the loops that hold a reader (Turns in crates/reader).
+use mathlib.Core.Path.{refl}
+use Prim.Native.Nat.{_+_, _≤_, _<_}
+use mathlib.Core.List.{[], _∷_}
+use lib.ListN.{length}
+use mir.Syntax.{w64, tyInt, tcons, tnil}
+use mir.Val.{vint, vcons, vnil}
+use contract.Running.{tables}
+use denote.Struct.Laws as struct
+use denote.Enum.Laws as enum
+use denote.Triple.Spec.{tripleOf}
+use denote.Triple.Table.{entered, cited}
+use Rattle.lines.proofs.Signs as signs
+use Rattle.lines.proofs.Signs.Laws as signs-laws
+use Rattle.reader.proofs.Turns.{Loop, Turn, met}
+use Rattle.skips.specs.declared.Branch.{Branch}
+use Rattle.skips.specs.Passing.{BranchIs, BranchBegins, BranchTurns}
+use Rattle.skips.proofs.BranchLaws.{Reading, reading-begins, reading-asks, reading-used, reading-stops, reading-goes, reading-nearer}
+use Rattle.skips.proofs.Skip as skip
+use Rattle.skips.proofs.Skip.Laws as skip-laws
+use Rattle.skips.proofs.Branch as state
+use Rattle.skips.proofs.Branch.Laws as state-laws
+use Rattle.skips.proofs.branch_line.Symbol as turn-def
+use Rattle.skips.proofs.branch_line.Symbol.{name as #skips·branch-line}
+use Rattle.skips.proofs.branch_line.Met as turn-thm
+use Rattle.skips.proofs.branch_lines.Key.{name as #skips·branch-lines}
+use Rattle.skips.proofs.branch_lines as lines
+use Rattle.skips.proofs.branch_lines.Statement as stated
+use Rattle.skips.proofs.branch_lines.Code as code
+
+abbrev loop : Loop
+loop = record {
+  row = state.the-row;
+  name = state.the-type .name;
+  types = tcons (tyInt w64) (tcons skip-laws.mir (tcons (tyInt w64) (tcons signs-laws.mir tnil)));
+  over = λ t. t .over;
+  next = λ t. t .next;
+  number = λ t. t .number;
+  rest = λ t. vcons (vint w64 (t .total)) (vcons (skip-laws.lowered (t .answer)) (vcons (vint w64 (t .depth)) (vcons (signs-laws.lowered (t .signs)) vnil)));
+  tells = state-laws.lowers .val-is;
+  typed = λ 𝓤 H A W t v is. struct.lawful state.the-type state-laws.the-laws 𝓤 H A W .typed t (v ∷ []) is .0;
+  pure = λ t. struct.field-plain state.the-type (
+    struct.bool-plain,
+    (
+      struct.usize-plain,
+      (
+        struct.usize-plain,
+        (
+          struct.usize-plain,
+          (
+            enum.field-plain skip.the-type ((struct.usize-plain, (struct.usize-plain, tt)), ((struct.u8-plain, (struct.usize-plain, tt)), tt)),
+            (struct.usize-plain, (struct.field-plain signs.the-type (struct.u8-plain, (struct.u8-plain, tt)), tt)),
+          ),
+        ),
+      ),
+    ),
+  ) (state.the-type .to t);
+  last = λ t. tt;
+  silent = λ t f. refl;
+  Asks = BranchBegins;
+  Says = λ src s t. BranchIs (s .signs) src (s .next) (s .number) (s .depth) (t .answer);
+  TurnAsks = λ src t at number. (at < length src) × (number ≤ at + 1) × (t .depth ≤ t .total);
+  TurnSays = BranchTurns;
+  Holds-at = Reading;
+  begins = reading-begins;
+  line-asks = reading-asks;
+  used = reading-used;
+  stops = λ v h w. reading-stops v w;
+  goes = λ v h w. reading-goes v w;
+  nearer = λ v h w. reading-nearer v w h;
+}
+
+pub branch-lines-spec : {M : Type 1} → stated.statement M
+unfolding code.routine
+branch-lines-spec 𝓤 H 𝓜 𝓖 𝓡 =
+    entered 𝓤 H (tripleOf 𝓤 H (𝓖 .A) lines.signature (lines.spec 𝓤 H (𝓖 .A) (𝓜 .mem) (𝓡 .run)))
+    (tables 𝓤 H 𝓜 𝓡 code.env .C) (tables 𝓤 H 𝓜 𝓡 code.env .Λ) #skips·branch-lines code.function (code.unfolded 𝓤 H 𝓜 𝓡)
+    (met loop #skips·branch-line 𝓤 H 𝓜 𝓖 𝓡 code.env code.calls-reader·reader-at code.calls-reader·used-up
+    (cited 𝓤 H (Turn loop 𝓤 H (𝓖 .A) (𝓜 .mem) (𝓡 .run)) 𝓜 𝓡 code.env #skips·branch-line turn-def.routine code.calls-skips·branch-line (turn-thm.met 𝓤 H 𝓜 𝓖 𝓡)))
