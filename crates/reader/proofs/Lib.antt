@@ -1,2 +1,2 @@
 pub mod Owned
-pub mod Turns
+pub mod LineLoop

@@ -16,6 +16,7 @@ use Rattle.rules.specs.Source.{signs, otherLine, unusedLine, wholeLine, lineOut
 use Rattle.lines.specs.declared.Signs.{Signs}
 use Rattle.lines.specs.declared.LineEnd.{LineEnd}
 use Rattle.lines.specs.Stream.{plainSigns, lineStart, marksLeft, LineIs}
+use Rattle.reader.specs.Turns.{Turns}
 use Rattle.passed.specs.Words.{firstWord}
 use Rattle.skips.specs.declared.Kind.{Kind}
 use Rattle.skips.specs.declared.Kind.the-variants as kind
@@ -24,7 +25,7 @@ use Rattle.skips.specs.declared.Turn.the-variants as turn
 use Rattle.skips.specs.declared.Branch.{Branch}
 use Rattle.skips.specs.declared.Skip.{Skip}
 use Rattle.skips.specs.declared.Skip.the-variants as skip
-use Rattle.skips.specs.Passing.{Unused, Begins, opens, branches, turns, KindIs, opened, TurnOn, TurnOwn, TurnDeep, TurnIs, BranchStops, BranchRefused, BranchIs, InBranch, BranchBegins, BranchTurns}
+use Rattle.skips.specs.Passing.{Unused, Begins, opens, branches, turns, KindIs, opened, TurnOn, TurnOwn, TurnDeep, TurnIs, BranchStops, BranchRefused, BranchIs, InBranch, BranchStands, branchReading}
 use Rattle.skips.proofs.LineRuns.{collate-signs, run-passed, run-refuses, run-unended, refuses-from}
 
 -- ## States in an unused branch
@@ -268,65 +269,48 @@ module _ {g : Signs} {src : List ℕ} {at number depth i n total : ℕ} (v : InB
               ∙ run-passed g src i n (opened depth total s) (opened-signs g depth total s u) (opened depth o s) x h l (p .outcome s u n);
         }
 
--- ## The reading of a branch, line after line
+-- ## The reading of a branch
 
--- it ends with the line at a place
-reading-ends : (src : List ℕ) (s : Branch) (at number : ℕ) (k : Skip)
-    → ((from n : ℕ) → InBranch (s .signs) src from n (s .depth) at number (s .total) → BranchIs (s .signs) src from n (s .depth) k)
-    → BranchTurns src s at number (record { over = true; next = at; number = number; total = s .total; answer = k; depth = s .depth; signs = s .signs })
-reading-ends src s at number k f =
-    record { signs = refl; depth = refl; further = λ e. absurd (true≢false e); unended = λ e. absurd (true≢false e); passes = λ e. absurd (true≢false e); stops = λ e. f }
+-- the state that it begins with
+abbrev begun : Signs → ℕ → ℕ → ℕ → Branch
+begun g at number depth = record { over = false; next = at; number = number; total = depth; answer = skip.Refused 3 number; depth = depth; signs = g }
+
+pub reading-begins : {g : Signs} {src : List ℕ} {at number depth : ℕ} → Begins src at number
+    → BranchStands src (begun g at number depth) (begun g at number depth) at number
+reading-begins {g} {src} {at} {number} {depth} b = record { signs = refl; depth = refl; answer = refl; passed = branch-begins g src at number depth b }
+
+module _ {src : List ℕ} {s t : Branch} {i n : ℕ} (v : BranchStands src s t i n) where
+  -- what a line is to the characters and the chains of t, it is to those of s
+  same-turn : (k : Turn) → TurnIs (t .signs) src i (t .depth) (t .total) k → TurnIs (s .signs) src i (s .depth) (t .total) k
+  same-turn k w = subst (λ (x : Signs). TurnIs x src i (s .depth) (t .total) k) (v .signs) (subst (λ (x : ℕ). TurnIs (t .signs) src i x (t .total) k) (v .depth) w)
+
+  same-line : {x : LineEnd} → LineIs (t .signs) src (lineStart i) x → LineIs (s .signs) src (lineStart i) x
+  same-line {x} l = subst (λ (g : Signs). LineIs g src (lineStart i) x) (v .signs) l
+
+  pub reading-used : length src ≤ i → BranchIs (s .signs) src (s .next) (s .number) (s .depth) (t .answer)
+  reading-used h = subst (BranchIs (s .signs) src (s .next) (s .number) (s .depth)) (sym (v .answer)) (branch-end (v .passed) h)
+
+  pub reading-chains : t .depth ≤ t .total
+  reading-chains = subst (λ (x : ℕ). x ≤ t .total) (sym (v .depth)) (v .passed .deep)
 
 -- what the line at a place does to it
-module _ {src : List ℕ} {s : Branch} {at number : ℕ} (h : at < length src) {t : Turn} (w : TurnIs (s .signs) src at (s .depth) (s .total) t) where
-  pub turns-own : t ≡ turn.Own → BranchTurns src s at number (record { over = true; next = at; number = number; total = s .total; answer = skip.Stop at number; depth = s .depth; signs = s .signs })
-  turns-own e = reading-ends src s at number (skip.Stop at number) (λ from n v. branch-stops v h w e)
+module _ {src : List ℕ} {t : Branch} {at number : ℕ} (h : at < length src) {k : Turn} (w : TurnIs (t .signs) src at (t .depth) (t .total) k) where
+  pub reading-own : k ≡ turn.Own
+      → Turns branchReading src t at number (record { over = true; next = at; number = number; total = t .total; answer = skip.Stop at number; depth = t .depth; signs = t .signs })
+  reading-own e =
+      record { further = λ f. absurd (true≢false f); goes = λ f. absurd (true≢false f); stops = λ f s v. branch-stops (v .passed) h (same-turn v k w) e }
 
-  pub turns-deep : t ≡ turn.Deep → BranchTurns src s at number (record { over = true; next = at; number = number; total = s .total; answer = skip.Refused 7 number; depth = s .depth; signs = s .signs })
-  turns-deep e = reading-ends src s at number (skip.Refused 7 number) (λ from n v. branch-deep v h w e)
+  pub reading-deep : k ≡ turn.Deep
+      → Turns branchReading src t at number (record { over = true; next = at; number = number; total = t .total; answer = skip.Refused 7 number; depth = t .depth; signs = t .signs })
+  reading-deep e =
+      record { further = λ f. absurd (true≢false f); goes = λ f. absurd (true≢false f); stops = λ f s v. branch-deep (v .passed) h (same-turn v k w) e }
 
-  pub turns-on : {o : ℕ} {x : LineEnd} → t ≡ turn.On o → LineIs (s .signs) src (lineStart at) x
-      → BranchTurns src s at number (record { over = false; next = x .next; number = number + x .feeds; total = o; answer = skip.Refused 3 (number + x .feeds); depth = s .depth; signs = s .signs })
-  turns-on e l = record { signs = refl; depth = refl; further = λ z. l .on h; unended = λ z. refl; passes = λ z from n v. branch-on v h w e l; stops = λ z. absurd (true≢false (sym z)) }
-
--- The loop's invariant: t has begun as s, and has passed lines of the branch.
-pub record Reading (src : List ℕ) (s t : Branch) : Type 0 where
-  pub signs : t .signs ≡ s .signs
-  pub depth : t .depth ≡ s .depth
-  pub answer : t .answer ≡ skip.Refused 3 (t .number)
-  pub passed : InBranch (t .signs) src (s .next) (s .number) (t .depth) (t .next) (t .number) (t .total)
-
-pub reading-begins : {src : List ℕ} {s : Branch} → BranchBegins src s → Reading src s s
-reading-begins {src} {s} b =
-    record {
-      signs = refl;
-      depth = refl;
-      answer = b .answer;
-      passed = subst (λ (x : ℕ). InBranch (s .signs) src (s .next) (s .number) (s .depth) (s .next) (s .number) x) (sym (b .none))
-          (branch-begins (s .signs) src (s .next) (s .number) (s .depth) (b .place));
-    }
-
--- an answer with the characters and the chains of t is one with those of s
-answer-at : (src : List ℕ) (s t : Branch) (k : Skip) → t .signs ≡ s .signs → t .depth ≡ s .depth
-    → BranchIs (t .signs) src (s .next) (s .number) (t .depth) k → BranchIs (s .signs) src (s .next) (s .number) (s .depth) k
-answer-at src s t k g d h =
-    subst (λ (x : Signs). BranchIs x src (s .next) (s .number) (s .depth) k) g (subst (λ (x : ℕ). BranchIs (t .signs) src (s .next) (s .number) x k) d h)
-
-module _ {src : List ℕ} {s t : Branch} (v : Reading src s t) where
-  pub reading-asks : t .next < length src → (t .next < length src) × (t .number ≤ t .next + 1) × (t .depth ≤ t .total)
-  reading-asks h = (h, v .passed .few, v .passed .deep)
-
-  pub reading-used : length src ≤ t .next → BranchIs (s .signs) src (s .next) (s .number) (s .depth) (t .answer)
-  reading-used h =
-      answer-at src s t (t .answer) (v .signs) (v .depth) (subst (BranchIs (t .signs) src (s .next) (s .number) (t .depth)) (sym (v .answer)) (branch-end (v .passed) h))
-
-  module _ {u : Branch} (w : BranchTurns src t (t .next) (t .number) u) where
-    pub reading-stops : u .over ≡ true → BranchIs (s .signs) src (s .next) (s .number) (s .depth) (u .answer)
-    reading-stops e = answer-at src s u (u .answer) (w .signs ∙ v .signs) (w .depth ∙ v .depth) (w .stops e (s .next) (s .number) (v .passed))
-
-    pub reading-goes : u .over ≡ false → Reading src s u
-    reading-goes e =
-        record { signs = w .signs ∙ v .signs; depth = w .depth ∙ v .depth; answer = w .unended e; passed = w .passes e (s .next) (s .number) (v .passed) }
-
-    pub reading-nearer : t .next < length src → u .over ≡ false → length src - u .next < length src - t .next
-    reading-nearer h e = omega (arith, w .further e)
+  pub reading-on : {o : ℕ} {x : LineEnd} → k ≡ turn.On o → LineIs (t .signs) src (lineStart at) x
+      → Turns branchReading src t at number
+      (record { over = false; next = x .next; number = number + x .feeds; total = o; answer = skip.Refused 3 (number + x .feeds); depth = t .depth; signs = t .signs })
+  reading-on e l =
+      record {
+        further = λ f. l .on h;
+        goes = λ f s v. record { signs = v .signs; depth = v .depth; answer = refl; passed = branch-on (v .passed) h (same-turn v k w) e (same-line v l) };
+        stops = λ f. absurd (true≢false (sym f));
+      }

@@ -12,6 +12,7 @@ use Rattle.rules.specs.Source.{wholeLine, lineOutcome, Ended, linesFrom}
 use Rattle.lines.specs.declared.LineEnd.{LineEnd}
 use Rattle.lines.specs.declared.Signs.{Signs}
 use Rattle.lines.specs.Stream.{lineStart, marksLeft, LineIs}
+use Rattle.reader.specs.Turns.{Reading}
 use Rattle.tokens.specs.Left.{wordIn}
 use Rattle.passed.specs.Words.{wordsLeft, firstWord, areTwo}
 use Rattle.skips.specs.declared.Kind.{Kind}
@@ -145,20 +146,21 @@ pub record InBranch (g : Signs) (src : List ℕ) (at number depth i n total : �
   pub deep : depth ≤ total
   pub run : (s : State) → Unused g depth s → linesFrom s number 0 (drop at src) ≡ linesFrom (opened depth total s) n 0 (drop i src)
 
--- A reading of the branch begins.
-pub record BranchBegins (src : List ℕ) (s : Branch) : Type 0 where
-  pub place : Begins src (s .next) (s .number)
-  pub none : s .total ≡ s .depth
-  pub answer : s .answer ≡ skip.Refused 3 (s .number)
+-- A reading that began with the state s has come to a place with the state t: only lines of the branch are passed, and the source would end too early.
+pub record BranchStands (src : List ℕ) (s t : Branch) (i n : ℕ) : Type 0 where
+  pub signs : t .signs ≡ s .signs
+  pub depth : t .depth ≡ s .depth
+  pub answer : t .answer ≡ skip.Refused 3 n
+  pub passed : InBranch (s .signs) src (s .next) (s .number) (s .depth) i n (t .total)
 
--- The line at a place takes the reading t to u: wherever t has begun, u has passed the line, or has the answer.
-pub record BranchTurns (src : List ℕ) (t : Branch) (at number : ℕ) (u : Branch) : Type 0 where
-  pub signs : u .signs ≡ t .signs
-  pub depth : u .depth ≡ t .depth
-  pub further : u .over ≡ false → at < u .next
-  pub unended : u .over ≡ false → u .answer ≡ skip.Refused 3 (u .number)
-  pub passes : u .over ≡ false → (from n : ℕ) → InBranch (t .signs) src from n (t .depth) at number (t .total) → InBranch (u .signs) src from n (u .depth) (u .next) (u .number) (u .total)
-  pub stops : u .over ≡ true → (from n : ℕ) → InBranch (t .signs) src from n (t .depth) at number (t .total) → BranchIs (u .signs) src from n (u .depth) (u .answer)
+abbrev pub branchReading : Reading Branch
+branchReading = record {
+  over = λ t. t .over;
+  next = λ t. t .next;
+  number = λ t. t .number;
+  Stands = BranchStands;
+  Says = λ src s t. BranchIs (s .signs) src (s .next) (s .number) (s .depth) (t .answer);
+}
 
 -- ## Another category
 

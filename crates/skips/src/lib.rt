@@ -1,10 +1,11 @@
 // The lines of a locale source that are passed over: an unused branch of a conditional chain, and another category.
 ghost use mathlib.Core.Path.{_≡_};
-ghost use Prim.Native.Nat.{_+_, _≤_, _<_};
+ghost use Prim.Native.Nat.{_≤_, _<_};
 ghost use lib.ListN.{length};
 ghost use Rattle.lines.specs.Stream.{lineStart};
+ghost use Rattle.reader.specs.Turns.{AtLine, Turns};
 ghost use Rattle.passed.specs.Words.{firstWord};
-ghost use Rattle.skips.specs.Passing.{KindIs, Begins, TurnIs, BranchIs, BranchBegins, BranchTurns, Named, nameAt, Copies, isEnd, Reaches, AfterIs, CategoryIs};
+ghost use Rattle.skips.specs.Passing.{KindIs, Begins, TurnIs, BranchIs, BranchStands, branchReading, Named, nameAt, Copies, isEnd, Reaches, AfterIs, CategoryIs};
 use lines::Signs;
 use lines::Spot;
 use passed::first_word_is;
@@ -104,7 +105,7 @@ fn branch_turn(src: &[u8], g: Signs, at: usize, depth: usize, total: usize) -> T
     }
 }
 
-// How far an unused branch is read. As in every state of a loop that holds a reader (crates/reader, Turns), the first three fields are whether the
+// How far an unused branch is read. As in every state of a loop that holds a reader (crates/reader), the first three fields are whether the
 // loop is over, and the place and the number of the line that comes next.
 struct Branch {
     over: bool,
@@ -121,8 +122,8 @@ struct Branch {
 
 // The line at a place, which comes next.
 fn branch_line(src: &[u8], s: Branch, at: usize, number: usize) -> Branch
-    requires { ⌜ (at < length (now src)) × (number ≤ at + 1) × (s .depth ≤ s .total) ⌝ }
-    ensures { λ r. ⌜ BranchTurns (now (src .entry)) s at number r ⌝ }
+    requires { ⌜ AtLine branchReading (now src) s at number ⌝ }
+    ensures { λ r. ⌜ Turns branchReading (now (src .entry)) s at number r ⌝ }
 {
     let g = s.signs;
     let depth = s.depth;
@@ -169,7 +170,7 @@ fn branch_line(src: &[u8], s: Branch, at: usize, number: usize) -> Branch
 
 // The lines that come next, up to the one that ends the branch or to the end of the source.
 fn branch_lines(src: &[u8], s: Branch) -> Branch
-    requires { ⌜ BranchBegins (now src) s ⌝ }
+    requires { ⌜ BranchStands (now src) s s (s .next) (s .number) ⌝ }
     ensures { λ r. ⌜ BranchIs (s .signs) (now (src .entry)) (s .next) (s .number) (s .depth) (r .answer) ⌝ }
 {
     let mut t = s;

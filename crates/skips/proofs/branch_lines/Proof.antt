@@ -1,8 +1,6 @@
--- `skips::branch_lines` meets its contract: it is one of the loops that hold a reader (Turns in crates/reader).
+-- `skips::branch_lines` meets its contract: it is one of the loops that hold a reader (LineLoop in crates/reader).
 use mathlib.Core.Path.{refl}
-use Prim.Native.Nat.{_+_, _≤_, _<_}
 use mathlib.Core.List.{[], _∷_}
-use lib.ListN.{length}
 use mir.Syntax.{w64, tyInt, tcons, tnil}
 use mir.Val.{vint, vcons, vnil}
 use contract.Running.{tables}
@@ -12,10 +10,9 @@ use denote.Triple.Spec.{tripleOf}
 use denote.Triple.Table.{entered, cited}
 use Rattle.lines.proofs.Signs as signs
 use Rattle.lines.proofs.Signs.Laws as signs-laws
-use Rattle.reader.proofs.Turns.{Loop, Turn, met}
-use Rattle.skips.specs.declared.Branch.{Branch}
-use Rattle.skips.specs.Passing.{BranchIs, BranchBegins, BranchTurns}
-use Rattle.skips.proofs.BranchLaws.{Reading, reading-begins, reading-asks, reading-used, reading-stops, reading-goes, reading-nearer}
+use Rattle.reader.proofs.LineLoop.{Loop, Turn, met}
+use Rattle.skips.specs.Passing.{branchReading}
+use Rattle.skips.proofs.BranchLaws.{reading-used}
 use Rattle.skips.proofs.Skip as skip
 use Rattle.skips.proofs.Skip.Laws as skip-laws
 use Rattle.skips.proofs.Branch as state
@@ -31,11 +28,9 @@ use Rattle.skips.proofs.branch_lines.Code as code
 abbrev loop : Loop
 loop = record {
   row = state.the-row;
+  reading = branchReading;
   name = state.the-type .name;
   types = tcons (tyInt w64) (tcons skip-laws.mir (tcons (tyInt w64) (tcons signs-laws.mir tnil)));
-  over = λ t. t .over;
-  next = λ t. t .next;
-  number = λ t. t .number;
   rest = λ t. vcons (vint w64 (t .total)) (vcons (skip-laws.lowered (t .answer)) (vcons (vint w64 (t .depth)) (vcons (signs-laws.lowered (t .signs)) vnil)));
   tells = state-laws.lowers .val-is;
   typed = λ 𝓤 H A W t v is. struct.lawful state.the-type state-laws.the-laws 𝓤 H A W .typed t (v ∷ []) is .0;
@@ -57,17 +52,7 @@ loop = record {
   ) (state.the-type .to t);
   last = λ t. tt;
   silent = λ t f. refl;
-  Asks = BranchBegins;
-  Says = λ src s t. BranchIs (s .signs) src (s .next) (s .number) (s .depth) (t .answer);
-  TurnAsks = λ src t at number. (at < length src) × (number ≤ at + 1) × (t .depth ≤ t .total);
-  TurnSays = BranchTurns;
-  Holds-at = Reading;
-  begins = reading-begins;
-  line-asks = reading-asks;
   used = reading-used;
-  stops = λ v h w. reading-stops v w;
-  goes = λ v h w. reading-goes v w;
-  nearer = λ v h w. reading-nearer v w h;
 }
 
 pub branch-lines-spec : {M : Type 1} → stated.statement M

@@ -1,12 +1,11 @@
 -- `skips::skip_branch` meets its contract: what the reading answers.
-use mathlib.Core.Path.{refl}
-use Rattle.skips.specs.Passing.{BranchBegins}
+use Rattle.skips.proofs.BranchLaws.{reading-begins}
 use borrow.Author.Needs.{needs}
 use Rattle.skips.proofs.skip_branch.Statement.{statement}
 use Rattle.skips.proofs.skip_branch.Tie as tie
 
 branch-lines-requires : tie.Need-branch-lines-requires
-branch-lines-requires c κs = record { place = search needs; none = refl; answer = refl }
+branch-lines-requires c κs = search reading-begins
 
 returns : tie.Need-returns
 returns c = search needs

@@ -21,6 +21,7 @@ use Prim.Native.Nat.{ℕ, _-_, _≤_, _<_, _^_}
 use mathlib.Core.Bool.{Bool, true, false, not}
 use mathlib.Core.WellFounded.{WellFounded, InvImage·wf}
 use mathlib.Core.List.{List, [], _∷_}
+use native.Mathlib.Omega.{arith}
 use lib.WfN.{Nat·lt-wfRel}
 use lib.Dec.{T as Holds, leb}
 use lib.ListN.{length}
@@ -61,6 +62,7 @@ use denote.Triple.Table.{cited}
 use denote.Triple.Walked.{says, needs, Stays, stay-dropped, stay-none-slice, walkOf, goes-dropped, goes-none-slice, Walks, ends-at, walked, walk-meets}
 use denote.Triple.Clauses.{Ended, Clauses, ensured, closing, lasts}
 use Rattle.reader.specs.declared.Reader.{Reader}
+use Rattle.reader.specs.Turns.{Reading, Begins, AtLine, Turns}
 use Rattle.reader.proofs.Reader as reader
 use Rattle.reader.proofs.Reader.Laws as reader-laws
 use Rattle.reader.proofs.Owned.{Row, shape, laws, Source, source, Lent, Own, makes}
@@ -79,33 +81,20 @@ word = tyInt w64
 -- ## What differs
 
 pub record Loop : Type 2 where
-  -- the state: whether the loop is over, the place and the number of the line that comes next, and the other fields
+  -- the state: its type, the reading that it is a state of, and its fields after the first three
   pub row : RattleType
+  pub reading : Reading (row .Denot)
   pub name : Sym
   pub types : Tys
-  pub over : row .Denot → Bool
-  pub next : row .Denot → ℕ
-  pub number : row .Denot → ℕ
   pub rest : row .Denot → Values
   -- its laws
-  pub tells : (t : row .Denot) (vs : List Val) → Is row t vs → vs ≡ vstruct (vcons (vbool (over t)) (vcons (vint w64 (next t)) (vcons (vint w64 (number t)) (rest t)))) ∷ []
+  pub tells : (t : row .Denot) (vs : List Val) → Is row t vs → vs ≡ vstruct (vcons (vbool (reading .over t)) (vcons (vint w64 (reading .next t)) (vcons (vint w64 (reading .number t)) (rest t)))) ∷ []
   pub typed : {M : Type 1} (𝓤 : URA M) (H : Heap 𝓤) (A : Atoms 𝓤) → Given 𝓤 H A → (t : row .Denot) (v : Val) → Is row t (v ∷ []) → Holds (hasTy (tyStruct name (tcons tyBool (tcons word (tcons word types)))) v) × WT v
   pub pure : (t : row .Denot) (vs : List Val) → Pure (row .own t vs)
   pub last : (t : row .Denot) → Last (row .exit yes) t
   pub silent : (t : row .Denot) (f : Last (row .exit yes) t) → left (row .exit yes) t f ≡ ftrue
-  -- what the loop asks and says, and what the function that takes a line asks and says, of a source
-  pub Asks : List ℕ → row .Denot → Type 0
-  pub Says : List ℕ → row .Denot → row .Denot → Type 0
-  pub TurnAsks : List ℕ → row .Denot → ℕ → ℕ → Type 0
-  pub TurnSays : List ℕ → row .Denot → ℕ → ℕ → row .Denot → Type 0
-  -- the invariant, of the state at the loop's begin and the present one; and the ways through the loop
-  pub Holds-at : List ℕ → row .Denot → row .Denot → Type 0
-  pub begins : {src : List ℕ} {s : row .Denot} → Asks src s → Holds-at src s s
-  pub line-asks : {src : List ℕ} {s t : row .Denot} → Holds-at src s t → next t < length src → TurnAsks src t (next t) (number t)
-  pub used : {src : List ℕ} {s t : row .Denot} → Holds-at src s t → length src ≤ next t → Says src s t
-  pub stops : {src : List ℕ} {s t u : row .Denot} → Holds-at src s t → next t < length src → TurnSays src t (next t) (number t) u → over u ≡ true → Says src s u
-  pub goes : {src : List ℕ} {s t u : row .Denot} → Holds-at src s t → next t < length src → TurnSays src t (next t) (number t) u → over u ≡ false → Holds-at src s u
-  pub nearer : {src : List ℕ} {s t u : row .Denot} → Holds-at src s t → next t < length src → TurnSays src t (next t) (number t) u → over u ≡ false → length src - next u < length src - next t
+  -- what is said where the source is used up
+  pub used : {src : List ℕ} {s t : row .Denot} → reading .Stands src s t (reading .next t) (reading .number t) → length src ≤ reading .next t → reading .Says src s t
 
 -- what the tests tell
 some-left : (b : Bool) (l a : ℕ) → b ≡ leb l a → Holds (not b) → a < l
@@ -124,6 +113,10 @@ fails-false : (b : Bool) → Holds (not b) → b ≡ false
 fails-false true h = absurd h
 fails-false false h = refl
 
+-- a place further on has less left
+further-less : {l a b : ℕ} → a < l → a < b → l - b < l - a
+further-less h k = omega arith
+
 -- ## The locals' types
 
 abbrev held : Ty
@@ -139,11 +132,20 @@ module _ (L : Loop) where
   abbrev State : Type 0
   State = L .row .Denot
 
+  abbrev over : State → Bool
+  over t = L .reading .over t
+
+  abbrev next : State → ℕ
+  next t = L .reading .next t
+
+  abbrev number : State → ℕ
+  number t = L .reading .number t
+
   abbrev kind : Ty
   kind = tyStruct (L .name) (tcons tyBool (tcons word (tcons word (L .types))))
 
   abbrev mach : State → Val
-  mach t = vstruct (vcons (vbool (L .over t)) (vcons (vint w64 (L .next t)) (vcons (vint w64 (L .number t)) (L .rest t))))
+  mach t = vstruct (vcons (vbool (over t)) (vcons (vint w64 (next t)) (vcons (vint w64 (number t)) (L .rest t))))
 
   -- ## The two signatures and contracts
 
@@ -154,7 +156,7 @@ module _ (L : Loop) where
   ended = record { signature = signature; kept = (yes, (yes, tt)) }
 
   abbrev clauses : {M : Type 1} (𝓤 : URA M) → Clauses 𝓤 ended
-  clauses 𝓤 κs a = record { ghost = Unit {0}; requires = λ g. fact 𝓤 (L .Asks (now (a .0)) (a .1 .0)); ensures = λ g r e. fact 𝓤 (L .Says (now (a .0)) (a .1 .0) r) }
+  clauses 𝓤 κs a = record { ghost = Unit {0}; requires = λ g. fact 𝓤 (Begins (L .reading) (now (a .0)) (a .1 .0)); ensures = λ g r e. fact 𝓤 (L .reading .Says (now (a .0)) (a .1 .0) r) }
 
   abbrev turn-signature : Signature
   turn-signature = record { lifetimes = 1; outlives = []; params = shrSliceOf (0 ∷ []) tt (plain (λ κs. u8)) ∷ plain (λ κs. L .row) ∷ plain (λ κs. usize) ∷ plain (λ κs. usize) ∷ []; result = plain (λ κs. L .row) }
@@ -165,8 +167,8 @@ module _ (L : Loop) where
   abbrev turn-clauses : {M : Type 1} (𝓤 : URA M) → Clauses 𝓤 turn-ended
   turn-clauses 𝓤 κs a = record {
     ghost = Unit {0};
-    requires = λ g. fact 𝓤 (L .TurnAsks (now (a .0)) (a .1 .0) (a .1 .1 .0) (a .1 .1 .1 .0));
-    ensures = λ g r e. fact 𝓤 (L .TurnSays (now (a .0)) (a .1 .0) (a .1 .1 .0) (a .1 .1 .1 .0) r);
+    requires = λ g. fact 𝓤 (AtLine (L .reading) (now (a .0)) (a .1 .0) (a .1 .1 .0) (a .1 .1 .1 .0));
+    ensures = λ g r e. fact 𝓤 (Turns (L .reading) (now (a .0)) (a .1 .0) (a .1 .1 .0) (a .1 .1 .1 .0) r);
   }
 
   module _ {M : Type 1} (𝓤 : URA M) (H : Heap 𝓤) (A : Atoms 𝓤) (mem : Memory → SProp 𝓤) (run : Routine → Fun 𝓤) where
@@ -228,7 +230,7 @@ module _ (L : Loop) where
 
       -- the reader at the line that comes next
       abbrev at : State → Reader
-      at t = record { src = s; at = L .next t; number = L .number t }
+      at t = record { src = s; at = next t; number = number t }
 
       abbrev low : Reader → Val
       low r = reader-laws.lowered r
@@ -256,16 +258,16 @@ module _ (L : Loop) where
       typed-kind : (t : State) → Fine t → Holds (hasTy kind (mach t)) × WT (mach t)
       typed-kind t is = L .typed 𝓤 H A W t (mach t) is
 
-      next-fits : (t : State) → Fine t → L .next t < 2 ^ 64
+      next-fits : (t : State) → Fine t → next t < 2 ^ 64
       next-fits t is = typed-kind t is .1 .1 .0 .fits
 
-      number-fits : (t : State) → Fine t → L .number t < 2 ^ 64
+      number-fits : (t : State) → Fine t → number t < 2 ^ 64
       number-fits t is = typed-kind t is .1 .1 .1 .0 .fits
 
       starts : ent 𝓤 (onEntry 𝓤 H A signature (κ, tt) (q, tt) (s, (d, tt)) vals) (mean 𝓤 H A All)
       starts = qed W (One ∷ ‵ (owns (Source κ ∷ L .row ∷ []) (s, (d, tt)) vals) ∷ []) ∵ move ! (1 ∷ []) $ fsplit ! $ move ! (1 ∷ []) $ drop ! $ move ! (1 ∷ 0 ∷ []) $ done !
 
-      exits : (t : State) → Fine t → L .Says src d t → ent 𝓤 (mean 𝓤 H A All) (Post (mach t))
+      exits : (t : State) → Fine t → L .reading .Says src d t → ent 𝓤 (mean 𝓤 H A All) (Post (mach t))
       exits t is said =
           qed W (All ∷ []) ∵
           suffices ! _ (ends-at 𝓤 H A ended stayed (clauses 𝓤) W bound (mach t) t (tt, (L .last d, tt)) (tt, (tt, tt))) $ says ! said $
@@ -286,13 +288,13 @@ module _ (L : Loop) where
       goes-used : (t : State) → Fine t → ent 𝓤 (mean 𝓤 H A All) (sep 𝓤 (Used 𝓤 H A mem run .pre (to-used t)) (sem 𝓤 H A (Lent κ s)))
       goes-used t is =
           qed W (All ∷ []) ∵ split ! $ move ! (1 ∷ []) $ use1 W (‵ (Lent κ s) ⊛ ‵ (Lent κ s)) (shr-slice-copy 𝓤 H A W (named 0) κ u8 .twice s (source s ∷ [])) $ split ! $
-          use1 W (‵ (Own κ (at t))) (makes 𝓤 H A W κ s (L .next t) (L .number t) (next-fits t is) (number-fits t is)) $ nothing ! $ move ! (1 ∷ 0 ∷ []) $ fjoin ! $
+          use1 W (‵ (Own κ (at t))) (makes 𝓤 H A W κ s (next t) (number t) (next-fits t is) (number-fits t is)) $ nothing ! $ move ! (1 ∷ 0 ∷ []) $ fjoin ! $
           -- [what `used_up` is passed; the source; the token]
           move ! (2 ∷ 0 ∷ []) $
           use2 W (raw (Used 𝓤 H A mem run .pre (to-used t))) (qed W (One ∷ ‵ (owns (Row (κ, tt) ∷ []) (at t, tt) (low (at t) ∷ [], tt)) ∷ []) ∵ join ! $ frame ! $ done !) $ frame ! $ done !
 
       abbrev Ended-at : State → Bool → Type 0
-      Ended-at t b = b ≡ leb (length src) (L .next t)
+      Ended-at t b = b ≡ leb (length src) (next t)
 
       abbrev Used-says : State → Bool → SProp 𝓤
       Used-says t b = ensured 𝓤 H A used-up.ended (used-up.clauses 𝓤 H A mem run) (κ, tt) (at t, tt) tt b
@@ -302,49 +304,49 @@ module _ (L : Loop) where
 
       -- ## The function that takes a line
       abbrev passed : State → Vals turn-signature (κ, tt)
-      passed t = (source s ∷ [], (mach t ∷ [], (vint w64 (L .next t) ∷ [], (vint w64 (L .number t) ∷ [], tt))))
+      passed t = (source s ∷ [], (mach t ∷ [], (vint w64 (next t) ∷ [], (vint w64 (number t) ∷ [], tt))))
 
       abbrev to-turn : State → Turn 𝓤 H A mem run .Ghost
-      to-turn t = (((κ, tt), (q, tt), tt, (s, (t, (L .next t, (L .number t, tt)))), passed t), tt)
+      to-turn t = (((κ, tt), (q, tt), tt, (s, (t, (next t, (number t, tt)))), passed t), tt)
 
-      goes-turn : (t : State) → Fine t → L .TurnAsks src t (L .next t) (L .number t) → ent 𝓤 (mean 𝓤 H A All) (sep 𝓤 (Turn 𝓤 H A mem run .pre (to-turn t)) (sem 𝓤 H A (Lent κ s)))
+      goes-turn : (t : State) → Fine t → AtLine (L .reading) src t (next t) (number t) → ent 𝓤 (mean 𝓤 H A All) (sep 𝓤 (Turn 𝓤 H A mem run .pre (to-turn t)) (sem 𝓤 H A (Lent κ s)))
       goes-turn t is asks =
           qed W (All ∷ []) ∵ split ! $ move ! (1 ∷ []) $ use1 W (‵ (Lent κ s) ⊛ ‵ (Lent κ s)) (shr-slice-copy 𝓤 H A W (named 0) κ u8 .twice s (source s ∷ [])) $ split ! $
-          nothing ! $ owned ! usize (Is usize) (uint-makes 𝓤 H A W w64) (L .number t) _ (refl, number-fits t is) $ fjoin ! $ owned ! usize (Is usize) (uint-makes 𝓤 H A W w64) (L .next t) _ (refl, next-fits t is) $ fjoin ! $
+          nothing ! $ owned ! usize (Is usize) (uint-makes 𝓤 H A W w64) (number t) _ (refl, number-fits t is) $ fjoin ! $ owned ! usize (Is usize) (uint-makes 𝓤 H A W w64) (next t) _ (refl, next-fits t is) $ fjoin ! $
           owned ! (L .row) (Is (L .row)) (λ x vs p. makes-shadow 𝓤 H A (L .row .own x vs) (L .pure x vs) p) t _ is $ fjoin ! $ move ! (1 ∷ 0 ∷ []) $ fjoin ! $
           -- [what the function is passed; the source; the token]
           move ! (2 ∷ 0 ∷ []) $
-          use2 W (raw (Turn 𝓤 H A mem run .pre (to-turn t))) (qed W (One ∷ ‵ (owns (Source κ ∷ L .row ∷ usize ∷ usize ∷ []) (s, (t, (L .next t, (L .number t, tt)))) (passed t)) ∷ []) ∵ says ! asks $ frame ! $ done !) $ frame ! $ done !
+          use2 W (raw (Turn 𝓤 H A mem run .pre (to-turn t))) (qed W (One ∷ ‵ (owns (Source κ ∷ L .row ∷ usize ∷ usize ∷ []) (s, (t, (next t, (number t, tt)))) (passed t)) ∷ []) ∵ says ! asks $ frame ! $ done !) $ frame ! $ done !
 
       abbrev Turn-says : State → State → SProp 𝓤
-      Turn-says t u = ensured 𝓤 H A turn-ended (turn-clauses 𝓤) (κ, tt) (s, (t, (L .next t, (L .number t, tt)))) tt u
+      Turn-says t u = ensured 𝓤 H A turn-ended (turn-clauses 𝓤) (κ, tt) (s, (t, (next t, (number t, tt)))) tt u
 
-      said-turn : (t u : State) → ent 𝓤 (Turn-says t u) (fact 𝓤 (L .TurnSays src t (L .next t) (L .number t) u))
-      said-turn t u = exE 𝓤 _ (λ ws. snd∗ 𝓤 (sem 𝓤 H A (lasts turn-ended (κ, tt) (s, (t, (L .next t, (L .number t, tt)))) ws)) (fact 𝓤 (L .TurnSays src t (L .next t) (L .number t) u)))
+      said-turn : (t u : State) → ent 𝓤 (Turn-says t u) (fact 𝓤 (Turns (L .reading) src t (next t) (number t) u))
+      said-turn t u = exE 𝓤 _ (λ ws. snd∗ 𝓤 (sem 𝓤 H A (lasts turn-ended (κ, tt) (s, (t, (next t, (number t, tt)))) ws)) (fact 𝓤 (Turns (L .reading) src t (next t) (number t) u)))
 
       -- ## `reader_at`
       abbrev placed : State → Vals start.signature (κ, tt)
-      placed t = (source s ∷ [], (vint w64 (L .next t) ∷ [], (vint w64 (L .number t) ∷ [], tt)))
+      placed t = (source s ∷ [], (vint w64 (next t) ∷ [], (vint w64 (number t) ∷ [], tt)))
 
       abbrev to-start : State → Start 𝓤 H A mem run .Ghost
-      to-start t = (((κ, tt), (q, tt), tt, (s, (L .next t, (L .number t, tt))), placed t), tt)
+      to-start t = (((κ, tt), (q, tt), tt, (s, (next t, (number t, tt))), placed t), tt)
 
       goes-start : (t : State) → Fine t → ent 𝓤 (mean 𝓤 H A All) (sep 𝓤 (Start 𝓤 H A mem run .pre (to-start t)) (sem 𝓤 H A (Lent κ s)))
       goes-start t is =
           qed W (All ∷ []) ∵ split ! $ move ! (1 ∷ []) $ use1 W (‵ (Lent κ s) ⊛ ‵ (Lent κ s)) (shr-slice-copy 𝓤 H A W (named 0) κ u8 .twice s (source s ∷ [])) $ split ! $
-          nothing ! $ owned ! usize (Is usize) (uint-makes 𝓤 H A W w64) (L .number t) _ (refl, number-fits t is) $ fjoin ! $ owned ! usize (Is usize) (uint-makes 𝓤 H A W w64) (L .next t) _ (refl, next-fits t is) $ fjoin ! $
+          nothing ! $ owned ! usize (Is usize) (uint-makes 𝓤 H A W w64) (number t) _ (refl, number-fits t is) $ fjoin ! $ owned ! usize (Is usize) (uint-makes 𝓤 H A W w64) (next t) _ (refl, next-fits t is) $ fjoin ! $
           move ! (1 ∷ 0 ∷ []) $ fjoin ! $
           move ! (2 ∷ 0 ∷ []) $
-          use2 W (raw (Start 𝓤 H A mem run .pre (to-start t))) (qed W (One ∷ ‵ (owns (Source κ ∷ usize ∷ usize ∷ []) (s, (L .next t, (L .number t, tt))) (placed t)) ∷ []) ∵ join ! $ frame ! $ done !) $ frame ! $ done !
+          use2 W (raw (Start 𝓤 H A mem run .pre (to-start t))) (qed W (One ∷ ‵ (owns (Source κ ∷ usize ∷ usize ∷ []) (s, (next t, (number t, tt))) (placed t)) ∷ []) ∵ join ! $ frame ! $ done !) $ frame ! $ done !
 
       abbrev Stands : State → Reader → Type 0
-      Stands t r = (r .src ≡ s) × (r .at ≡ L .next t) × (r .number ≡ L .number t)
+      Stands t r = (r .src ≡ s) × (r .at ≡ next t) × (r .number ≡ number t)
 
       abbrev Start-says : State → Reader → SProp 𝓤
-      Start-says t r = ensured 𝓤 H A start.ended (start.clauses 𝓤 H A mem run) (κ, tt) (s, (L .next t, (L .number t, tt))) tt r
+      Start-says t r = ensured 𝓤 H A start.ended (start.clauses 𝓤 H A mem run) (κ, tt) (s, (next t, (number t, tt))) tt r
 
       said-start : (t : State) (r : Reader) → ent 𝓤 (Start-says t r) (fact 𝓤 (Stands t r))
-      said-start t r = exE 𝓤 _ (λ ws. snd∗ 𝓤 (sem 𝓤 H A (lasts start.ended (κ, tt) (s, (L .next t, (L .number t, tt))) ws)) (fact 𝓤 (Stands t r)))
+      said-start t r = exE 𝓤 _ (λ ws. snd∗ 𝓤 (sem 𝓤 H A (lasts start.ended (κ, tt) (s, (next t, (number t, tt))) ws)) (fact 𝓤 (Stands t r)))
 
       -- so its machine value is that of the reader at the line that comes next
       placed-so : (t : State) (r : Reader) (v : Val) → Stands t r → Is (Row (κ, tt)) r (v ∷ []) → v ≡ low (at t)
@@ -353,13 +355,13 @@ module _ (L : Loop) where
       -- ## The loop
       -- where a turn begins
       abbrev Here : Type 0
-      Here = (t : State) × Fine t × L .Holds-at src d t
+      Here = (t : State) × Fine t × L .reading .Stands src d t (next t) (number t)
 
       abbrev Nearer : Here → Here → Type 0
-      Nearer j i = length src - L .next (j .0) < length src - L .next (i .0)
+      Nearer j i = length src - next (j .0) < length src - next (i .0)
 
       Nearer-wf : WellFounded Nearer
-      Nearer-wf = InvImage·wf (λ (i : Here). length src - L .next (i .0)) (Nat·lt-wfRel .wf)
+      Nearer-wf = InvImage·wf (λ (i : Here). length src - next (i .0)) (Nat·lt-wfRel .wf)
 
       -- what its locals hold is of their types
       module _ (lent : Is (Source κ) s (source s ∷ [])) where
@@ -385,7 +387,7 @@ module _ (L : Loop) where
             untaken Γ = ‵ (froom slice m₁ 0) ∷ ‵ (fdies slice m₁) ∷ ‵ (froom word m₀ 0) ∷ ‵ (fdies word m₀) ∷ ‵ (froom word l₉ 0) ∷ ‵ (fdies word l₉) ∷ ‵ (froom slice l₈ 0) ∷ ‵ (fdies slice l₈) ∷ Γ
 
             abbrev taken : State → List (Item 𝓤) → List (Item 𝓤)
-            taken t Γ = ‵ (froom slice m₁ 0) ∷ ‵ (fdies slice m₁) ∷ ‵ (fat fullShare word m₀ 0 (vint w64 (L .number t))) ∷ ‵ (fdies word m₀) ∷ ‵ (fat fullShare word l₉ 0 (vint w64 (L .next t))) ∷ ‵ (fdies word l₉)
+            taken t Γ = ‵ (froom slice m₁ 0) ∷ ‵ (fdies slice m₁) ∷ ‵ (fat fullShare word m₀ 0 (vint w64 (number t))) ∷ ‵ (fdies word m₀) ∷ ‵ (fat fullShare word l₉ 0 (vint w64 (next t))) ∷ ‵ (fdies word l₉)
                 ∷ ‵ (fat fullShare slice l₈ 0 (source s)) ∷ ‵ (fdies slice l₈) ∷ Γ
 
             abbrev untested : List (Item 𝓤) → List (Item 𝓤)
@@ -412,7 +414,7 @@ module _ (L : Loop) where
             At-line t b = All ∷ untaken (tested t b b (stay t t))
 
             abbrev At-move : State → Bool → State → List (Item 𝓤)
-            At-move t b u = All ∷ taken t (tested t b (L .over u) (stay t u))
+            At-move t b u = All ∷ taken t (tested t b (over u) (stay t u))
 
             abbrev Turned : Here → Out → SProp 𝓤
             Turned i = afterTurn 𝓤 H (Below 𝓤 H A Nearer At i) (afterBlock 𝓤 H (afterSeq 𝓤 H (Wp 𝓤 H C Λ En after (atReturn 𝓤 H En Post)) (atReturn 𝓤 H En Post)))
@@ -421,7 +423,7 @@ module _ (L : Loop) where
             typed-bool b u e = subst (λ (w : Val). Holds (hasTy tyBool w) × WT w) (sym e) (tt, tt)
 
             -- every local is room, and is freed
-            all-freed : (t : State) → Fine t → L .Says src d t
+            all-freed : (t : State) → Fine t → L .reading .Says src d t
                 → Sq W (All ∷ untaken (untested (‵ (froom held l₄ 0) ∷ ‵ (fdies held l₄) ∷ ‵ (froom kind l₃ 0) ∷ ‵ (fdies kind l₃) ∷ ‵ (froom kind l₂ 0) ∷ ‵ (fdies kind l₂) ∷ ‵ (froom lent-slice l₁ 0) ∷ ‵ (fdies lent-slice l₁)
                 ∷ ‵ (froom kind l₀ 0) ∷ ‵ (fdies kind l₀) ∷ []))) (frees En (prop (Post (mach t))))
             all-freed t is said =
@@ -434,10 +436,10 @@ module _ (L : Loop) where
                 assigns ! (of-opd ! (load ! (from ! (stop !)) (look ! 17 refl))) (from ! (stop !)) (init ! 23 refl (typed-kind (i .0) (i .1))) $
                 returns ! (look ! 23 refl) $
                 forget ! 9 refl $ forget ! 11 refl $ forget ! 13 refl $ forget ! 15 refl $ forget ! 17 refl $ forget ! 19 refl $ forget ! 21 refl $ forget ! 23 refl $
-                all-freed (i .0) (i .1) (L .used (i .2) (none-left b (length src) (L .next (i .0)) ends none))
+                all-freed (i .0) (i .1) (L .used (i .2) (none-left b (length src) (next (i .0)) ends none))
 
             -- the reader moves on
-            move-turn : (i : Here) (b : Bool) (u : State) → Fine u → L .next (i .0) < length src → L .TurnSays src (i .0) (L .next (i .0)) (L .number (i .0)) u → Holds (not (L .over u))
+            move-turn : (i : Here) (b : Bool) (u : State) → Fine u → next (i .0) < length src → Turns (L .reading) src (i .0) (next (i .0)) (number (i .0)) u → Holds (not (over u))
                 → Sq W (At-move (i .0) b u) (runs C Λ En moves (anyQ (Turned i)))
             unfolding afterTurn
             move-turn i b u is left says more =
@@ -450,10 +452,10 @@ module _ (L : Loop) where
                 let e : v ≡ low (at u) = placed-so u r v (n .0) (n .1) in
                 land-last ! (from ! (stop !)) (store ! 15 refl (subst (λ (w : Val). Holds (hasTy held w) × WT w) (sym e) (typed-held u is))) $ rewrite ! 15 (λ (w : Val). ‵ (fat fullShare held l₄ 0 w)) e refl $
                 forget ! 1 refl $ forget ! 3 refl $ forget ! 5 refl $ forget ! 7 refl $ forget ! 9 refl $ forget ! 11 refl $ forget ! 13 refl $
-                again ! Nearer At i (u, is, L .goes (i .2) left says (fails-false (L .over u) more)) (L .nearer (i .2) left says (fails-false (L .over u) more)))))
+                again ! Nearer At i (u, is, says .goes (fails-false (over u) more) d (i .2)) (further-less left (says .further (fails-false (over u) more))))))
 
             -- a line is left, and is taken
-            line-turn : (i : Here) (b : Bool) → L .next (i .0) < length src → Sq W (At-line (i .0) b) (runs C Λ En takes (anyQ (Turned i)))
+            line-turn : (i : Here) (b : Bool) → next (i .0) < length src → Sq W (At-line (i .0) b) (runs C Λ En takes (anyQ (Turned i)))
             unfolding afterTurn
             line-turn i b left =
                 let t : State = i .0 in
@@ -461,20 +463,20 @@ module _ (L : Loop) where
                 assigns ! (of-opd ! (load ! (from ! (fld ! refl (stop !))) (look-in ! 15 (sub ! 0 refl (whole !))))) (from ! (stop !)) (init ! 7 refl (tt, wt .1 .0)) $
                 assigns ! (of-opd ! (load ! (from ! (fld ! refl (stop !))) (look-in ! 15 (sub ! 1 refl (whole !))))) (from ! (stop !)) (init ! 5 refl (tt, wt .1 .1 .0)) $
                 assigns ! (of-opd ! (load ! (from ! (fld ! refl (stop !))) (look-in ! 15 (sub ! 2 refl (whole !))))) (from ! (stop !)) (init ! 3 refl (tt, wt .1 .1 .1 .0)) $
-                use1 W (raw (Turn 𝓤 H A mem run .pre (to-turn t)) ⊛ ‵ (Lent κ s)) (goes-turn t (i .1) (L .line-asks (i .2) left)) $ split ! $
+                use1 W (raw (Turn 𝓤 H A mem run .pre (to-turn t)) ⊛ ‵ (Lent κ s)) (goes-turn t (i .1) (record { inside = left; begun = d; stands = i .2 })) $ split ! $
                 calls-at ! (fmOf 𝓤 H (W .laws) 𝓣) (Turn 𝓤 H A mem run) known-turn (to-turn t)
                 (and-then ! (load ! (from ! (stop !)) (look ! 8 refl)) (and-then ! (load ! (from ! (stop !)) (look ! 18 refl)) (and-then ! (load ! (from ! (stop !)) (look ! 6 refl)) (and-then ! (load ! (from ! (stop !)) (look ! 4 refl)) (no-more !))))) (λ v.
                 use1 W (later (some (λ (u : State). (One ⊛ ‵ (L .row .own u (v ∷ []))) ⊛ raw (Turn-says t u)))) (id⊢ 𝓤 _) $ await ! tt $ pick ! (λ u.
-                use2 W (holding (L .TurnSays src t (L .next t) (L .number t) u × Is (L .row) u (v ∷ [])) All) (told (L .row) u v (Turn-says t u) (L .TurnSays src t (L .next t) (L .number t) u) (said-turn t u)) $ learn ! (λ n.
+                use2 W (holding (Turns (L .reading) src t (next t) (number t) u × Is (L .row) u (v ∷ [])) All) (told (L .row) u v (Turn-says t u) (Turns (L .reading) src t (next t) (number t) u) (said-turn t u)) $ learn ! (λ n.
                 let e : v ≡ mach u = ap only (L .tells u (v ∷ []) (n .1)) in
                 let is : Fine u = subst (λ (w : Val). Is (L .row) u (w ∷ [])) e (n .1) in
                 land ! (from ! (stop !)) (store ! 17 refl (L .typed 𝓤 H A W u v (n .1))) $ rewrite ! 17 (λ (w : Val). ‵ (fat fullShare kind l₃ 0 w)) e refl $
                 assigns ! (of-opd ! (load ! (from ! (fld ! refl (stop !))) (look-in ! 17 (sub ! 0 refl (whole !))))) (from ! (stop !)) (store ! 13 refl (tt, tt)) $
                 first ! $ branches ! (load ! (from ! (stop !)) (look ! 13 refl))
-                (λ over. assigns ! (of-opd ! (load ! (from ! (stop !)) (look ! 17 refl))) (from ! (stop !)) (init ! 23 refl (typed-kind u is)) $
+                (λ ends. assigns ! (of-opd ! (load ! (from ! (stop !)) (look ! 17 refl))) (from ! (stop !)) (init ! 23 refl (typed-kind u is)) $
                 returns-within ! Post refl (look ! 23 refl) $
                 forget ! 3 refl $ forget ! 5 refl $ forget ! 7 refl $ forget ! 9 refl $ forget ! 11 refl $ forget ! 13 refl $ forget ! 15 refl $ forget ! 17 refl $ forget ! 19 refl $ forget ! 21 refl $ forget ! 23 refl $
-                all-freed u is (L .stops (i .2) left (n .0) (holds-true (L .over u) over)))
+                all-freed u is (n .0 .stops (holds-true (over u) ends) d (i .2)))
                 (λ more. skips ! $ exec ! C Λ En moves (anyQ (Turned i)) $ move-turn i b u is left (n .0) more))))
 
             turns : (i : Here) → Sq W (At i) (runs C Λ En turn (anyQ (Turned i)))
@@ -489,11 +491,11 @@ module _ (L : Loop) where
                 land ! (from ! (stop !)) (init ! 13 refl (typed-bool b v (ap only (k .1)))) $ rewrite ! 13 (λ (w : Val). ‵ (fat fullShare tyBool l₅ 0 w)) (ap only (k .1)) refl $
                 assigns ! (un ! (load ! (from ! (stop !)) (look ! 13 refl)) tt) (from ! (stop !)) (init ! 9 refl (tt, tt)) $
                 first ! $ branches ! (load ! (from ! (stop !)) (look ! 9 refl))
-                (λ more. skips ! $ exec ! C Λ En takes (anyQ (Turned i)) $ line-turn i b (some-left b (length src) (L .next t) (k .0) more))
+                (λ more. skips ! $ exec ! C Λ En takes (anyQ (Turned i)) $ line-turn i b (some-left b (length src) (next t) (k .0) more))
                 (λ none. jumps ! $ exec ! C Λ En after (atRet En Post) $ over-turn i b (k .0) none))))
 
             -- the reader is made, and the loop is entered
-            looped : Fine d → L .Asks src d → Sq W At-first (runs C Λ En (seq (call #reader·reader-at (copy (place 1 []) ∷ copy (place 3 (field 1 ∷ [])) ∷ copy (place 3 (field 2 ∷ [])) ∷ []) (place 4 [])) (seq (block (loop turn)) after)) (atRet En Post))
+            looped : Fine d → Begins (L .reading) src d → Sq W At-first (runs C Λ En (seq (call #reader·reader-at (copy (place 1 []) ∷ copy (place 3 (field 1 ∷ [])) ∷ copy (place 3 (field 2 ∷ [])) ∷ []) (place 4 [])) (seq (block (loop turn)) after)) (atRet En Post))
             looped is asks =
                 use1 W (raw (Start 𝓤 H A mem run .pre (to-start d)) ⊛ ‵ (Lent κ s)) (goes-start d is) $ split ! $
                 calls-at ! (fmOf 𝓤 H (W .laws) 𝓣) (Start 𝓤 H A mem run) known-start (to-start d)
@@ -502,9 +504,9 @@ module _ (L : Loop) where
                 use2 W (holding (Stands d r × Is (Row (κ, tt)) r (v ∷ [])) All) (told (Row (κ, tt)) r v (Start-says d r) (Stands d r) (said-start d r)) $ learn ! (λ n.
                 let e : v ≡ low (at d) = placed-so d r v (n .0) (n .1) in
                 land ! (from ! (stop !)) (init ! 15 refl (subst (λ (w : Val). Holds (hasTy held w) × WT w) (sym e) (typed-held d is))) $ rewrite ! 15 (λ (w : Val). ‵ (fat fullShare held l₄ 0 w)) e refl $
-                first ! $ blocks ! $ loops ! 𝓣 Nearer Nearer-wf At turns (d, is, L .begins asks))))
+                first ! $ blocks ! $ loops ! 𝓣 Nearer Nearer-wf At turns (d, is, asks))))
 
-          walk : Fine d → L .Asks src d → ent 𝓤 (onEntry 𝓤 H A signature (κ, tt) (q, tt) (s, (d, tt)) vals) (WpFn 𝓤 H C Λ function (source s ∷ mach d ∷ []) Post)
+          walk : Fine d → Begins (L .reading) src d → ent 𝓤 (onEntry 𝓤 H A signature (κ, tt) (q, tt) (s, (d, tt)) vals) (WpFn 𝓤 H C Λ function (source s ∷ mach d ∷ []) Post)
           walk is asks =
               qed W (One ∷ ‵ (owns (Source κ ∷ L .row ∷ []) (s, (d, tt)) vals) ∷ []) ∵ enter ! C Λ function (source s ∷ mach d ∷ []) _ $
               alloc1 ! (λ l₀. alloc1 ! (λ l₁. alloc1 ! (λ l₂. alloc1 ! (λ l₃. alloc1 ! (λ l₄. alloc1 ! (λ l₅. alloc1 ! (λ l₆. alloc1 ! (λ l₇. alloc1 ! (λ l₈. alloc1 ! (λ l₉. alloc1 ! (λ m₀. alloc1 ! (λ m₁. alloc0 ! $ params1 ! $
