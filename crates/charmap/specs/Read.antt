@@ -1,6 +1,6 @@
 -- The run over a charmap's lines, as far as its functions read it (Rattle.rules.specs.Charmap). No public contract cites this file.
 use mathlib.Core.Path.{_≡_}
-use mathlib.Core.Bool.{true}
+use mathlib.Core.Bool.{true, false}
 use mathlib.Core.List.{List, [], _∷_}
 use Prim.Native.Nat.{ℕ, suc, _≤_}
 use lib.ListN.{length, drop}
@@ -8,10 +8,14 @@ use lib.Dec.{eqb}
 use Rattle.rules.specs.Text.{oneOf}
 use Rattle.rules.specs.Charmap.{Given, MapEnded, mapEnded, mapStart, mapLinesFrom, areaOf}
 use Rattle.units.specs.Numbers.{numberOf}
+use Rattle.units.specs.declared.Refusal.the-variants as refusal
 use Rattle.signs.specs.declared.Chars.{Chars}
-use Rattle.heading.specs.Head.{headWith}
+use Rattle.taken.specs.Signed.{Visible}
+use Rattle.reader.specs.Turns.{Reading}
+use Rattle.heading.specs.Head.{signsOf, headWith}
 use Rattle.charmap.specs.declared.Header.{Header}
 use Rattle.charmap.specs.declared.Header.the-variants as header
+use Rattle.charmap.specs.declared.HeaderRead.{HeaderRead}
 use Rattle.charmap.specs.declared.Entries.{Entries}
 use Rattle.charmap.specs.declared.Entries.the-variants as entries
 
@@ -38,6 +42,28 @@ pub record Opened (src : List ℕ) (h : Chars) (at number : ℕ) : Type 0 where
 abbrev pub HeaderIs : List ℕ → Header → Type 0
 HeaderIs src (header.Opened h at number) = Opened src h at number
 HeaderIs src (header.Refused r line) = wholeRun src ≡ mapEnded (numberOf r) line []
+
+-- The lines before a place are read: the run goes on from there. At most each byte before the place was an LF.
+pub record Heads (src : List ℕ) (h : Chars) (at number : ℕ) : Type 0 where
+  pub same : wholeRun src ≡ mapLinesFrom (headWith h false) number 0 (drop at src)
+  pub to : at ≤ length src
+  pub few : number ≤ suc at
+  pub visible : Visible (signsOf h)
+
+-- A reading of the header has come to a place with the state t, and the source would end too early.
+pub record HeaderStands (src : List ℕ) (s t : HeaderRead) (at number : ℕ) : Type 0 where
+  pub short : length src ≤ 1048576
+  pub answer : t .answer ≡ header.Refused refusal.Malformed number
+  pub read : Heads src (t .chars) at number
+
+abbrev pub headerReading : Reading HeaderRead
+headerReading = record {
+  over = λ t. t .over;
+  next = λ t. t .next;
+  number = λ t. t .number;
+  Stands = HeaderStands;
+  Says = λ src s t. HeaderIs src (t .answer);
+}
 
 -- ## Up to END CHARMAP
 

@@ -7,13 +7,16 @@ ghost use Rattle.rules.specs.Charmap.{areaOf};
 ghost use Rattle.rules.specs.Calls.{charmapCall};
 ghost use Rattle.units.specs.Numbers.{numberOf};
 ghost use Rattle.charmap.specs.Answers.{readAs};
-ghost use Rattle.charmap.specs.Read.{OfLine, HeaderIs, Opens, EntriesAre, SourceIs};
+ghost use Rattle.reader.specs.Turns.{AtLine, Turns};
+ghost use Rattle.charmap.specs.Read.{OfLine, HeaderIs, HeaderStands, headerReading, Opens, EntriesAre, SourceIs};
 use body::BodyLine;
 use body::body_line;
 use giving::copy_area;
 use heading::Heading;
 use heading::header_line;
 use lines::Signs;
+use reader::reader_at;
+use reader::used_up;
 use signs::Chars;
 use signs::start;
 use units::Refusal;
@@ -56,29 +59,91 @@ fn refusal_of(n: u8) -> Refusal
     Refusal::ByteTwice
 }
 
+// How far the header is read. As in every state of a loop that holds a reader (crates/reader), the first three fields are whether the loop is over,
+// and the place and the number of the line that comes next.
+struct HeaderRead {
+    over: bool,
+    next: usize,
+    number: usize,
+    // what is answered if it is over, or no line comes next
+    answer: Header,
+    // the two characters in force
+    chars: Chars,
+}
+
+// The line at a place, which comes next.
+fn header_turn(src: &[u8], s: HeaderRead, at: usize, number: usize) -> HeaderRead
+    requires { ⌜ AtLine headerReading (now src) s at number ⌝ }
+    ensures { λ r. ⌜ Turns headerReading (now (src .entry)) s at number r ⌝ }
+{
+    let h = s.chars;
+    let t = header_line(src, h, at);
+    match t {
+        Heading::Refused(n) => {
+            let r = refusal_of(n);
+            return HeaderRead {
+                over: true,
+                next: at,
+                number: number,
+                answer: Header::Refused(r, number),
+                chars: h,
+            };
+        }
+        Heading::Line(c, opened, next, feeds) => {
+            let m = number + feeds;
+            if opened {
+                return HeaderRead {
+                    over: true,
+                    next: next,
+                    number: m,
+                    answer: Header::Opened(c, next, m),
+                    chars: c,
+                };
+            }
+            return HeaderRead {
+                over: false,
+                next: next,
+                number: m,
+                answer: Header::Refused(Refusal::Malformed, m),
+                chars: c,
+            };
+        }
+    }
+}
+
+// The lines that come next, up to CHARMAP or to one that is refused, or to the end of the source.
+fn header_turns(src: &[u8], s: HeaderRead) -> HeaderRead
+    requires { ⌜ HeaderStands (now src) s s (s .next) (s .number) ⌝ }
+    ensures { λ r. ⌜ HeaderIs (now (src .entry)) (r .answer) ⌝ }
+{
+    let mut t = s;
+    let mut q = reader_at(src, t.next, t.number);
+    while !used_up(q) {
+        t = header_turn(q.src, t, q.at, q.number);
+        if t.over {
+            return t;
+        }
+        q = reader_at(q.src, t.next, t.number);
+    }
+    t
+}
+
 // The lines up to CHARMAP.
 fn header_lines(src: &[u8]) -> Header
     requires { ⌜ length (now src) ≤ 1048576 ⌝ }
     ensures { λ r. ⌜ HeaderIs (now (src .entry)) r ⌝ }
 {
-    let mut h = start();
-    let mut at: usize = 0;
-    let mut number: usize = 1;
-    while at < src.len() {
-        let s = header_line(src, h, at);
-        match s {
-            Heading::Refused(n) => return Header::Refused(refusal_of(n), number),
-            Heading::Line(c, opened, next, feeds) => {
-                if opened {
-                    return Header::Opened(c, next, number + feeds);
-                }
-                h = c;
-                at = next;
-                number += feeds;
-            }
-        }
-    }
-    Header::Refused(Refusal::Malformed, number)
+    let h = start();
+    let first: usize = 1;
+    let s = HeaderRead {
+        over: false,
+        next: 0,
+        number: first,
+        answer: Header::Refused(Refusal::Malformed, first),
+        chars: h,
+    };
+    let t = header_turns(src, s);
+    t.answer
 }
 
 // The lines from CHARMAP to END CHARMAP, and what they give, in an area where nothing is given yet.

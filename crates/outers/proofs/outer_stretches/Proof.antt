@@ -27,7 +27,7 @@ use Rattle.outers.proofs.outer_stretches as lines
 use Rattle.outers.proofs.outer_stretches.Statement as stated
 use Rattle.outers.proofs.outer_stretches.Code as code
 
--- the fields own only facts
+-- what the two characters own is only facts
 abbrev chars-plain : Plains (fields chars.the-type)
 chars-plain = (struct.u8-plain, (struct.u8-plain, (struct.bool-plain, (struct.bool-plain, tt))))
 
