@@ -15,10 +15,9 @@ use Rattle.units.specs.declared.Refusal.the-variants as refusal
 use Rattle.reader.specs.Turns.{Turns}
 use Rattle.signs.specs.declared.Chars.{Chars}
 use Rattle.signs.specs.Force.{charsAs}
-use Rattle.taken.specs.Signed.{Visible}
 use Rattle.heading.specs.declared.Heading.{Heading}
 use Rattle.heading.specs.declared.Heading.the-variants as heading
-use Rattle.heading.specs.Head.{signsOf, headWith, lineAt, Leaves, Stops, HeadingIs}
+use Rattle.heading.specs.Head.{headWith, lineAt, Leaves, Stops, HeadingIs}
 use Rattle.charmap.specs.declared.Header.the-variants as header
 use Rattle.charmap.specs.declared.HeaderRead.{HeaderRead}
 use Rattle.charmap.specs.Read.{OfLine, wholeRun, Opened, HeaderIs, Heads, HeaderStands, headerReading}

@@ -8,7 +8,7 @@ ghost use Rattle.rules.specs.Calls.{charmapCall};
 ghost use Rattle.units.specs.Numbers.{numberOf};
 ghost use Rattle.charmap.specs.Answers.{readAs};
 ghost use Rattle.reader.specs.Turns.{AtLine, Turns};
-ghost use Rattle.charmap.specs.Read.{OfLine, HeaderIs, HeaderStands, headerReading, Opens, EntriesAre, SourceIs};
+ghost use Rattle.charmap.specs.Read.{OfLine, HeaderIs, HeaderStands, headerReading, Opens, EntriesAre, BodyStands, bodyReading, SourceIs};
 use body::BodyLine;
 use body::body_line;
 use giving::copy_area;
@@ -146,31 +146,92 @@ fn header_lines(src: &[u8]) -> Header
     t.answer
 }
 
+// How far the body is read, with the first three fields of every such state.
+struct BodyRead {
+    over: bool,
+    next: usize,
+    number: usize,
+    // what is answered if it is over, or no line comes next
+    answer: Entries,
+    // the two characters in force
+    chars: Chars,
+}
+
+// The line at a place, which comes next, and what it gives.
+fn body_turn(src: &[u8], s: BodyRead, at: usize, number: usize, area: &mut [u32]) -> BodyRead
+    requires { ⌜ AtLine bodyReading (now src) (s, now area) at number ⌝ }
+    ensures { λ r. ⌜ Turns bodyReading (now (src .entry)) (s, now (area .entry)) at number (r, now (area .exit)) ⌝ }
+{
+    let h = s.chars;
+    let g = Signs {
+        comment: h.comment,
+        escape: h.escape,
+    };
+    let t = body_line(src, g, at, area);
+    match t {
+        BodyLine::Refused(n) => {
+            let r = refusal_of(n);
+            return BodyRead {
+                over: true,
+                next: at,
+                number: number,
+                answer: Entries::Refused(r, number),
+                chars: h,
+            };
+        }
+        BodyLine::Line(closed, next, feeds) => {
+            let m = number + feeds;
+            if closed {
+                return BodyRead {
+                    over: true,
+                    next: next,
+                    number: m,
+                    answer: Entries::Closed,
+                    chars: h,
+                };
+            }
+            return BodyRead {
+                over: false,
+                next: next,
+                number: m,
+                answer: Entries::Refused(Refusal::Malformed, m),
+                chars: h,
+            };
+        }
+    }
+}
+
+// The lines that come next, up to END CHARMAP or to one that is refused, or to the end of the source, and what they give.
+fn body_turns(src: &[u8], s: BodyRead, area: &mut [u32]) -> BodyRead
+    requires { ⌜ BodyStands (now src) (s, now area) (s, now area) (s .next) (s .number) ⌝ }
+    ensures { λ r. ⌜ EntriesAre (now (src .entry)) (s .chars) (s .next) (s .number) (now (area .exit)) (r .answer) ⌝ }
+{
+    let mut t = s;
+    let mut q = reader_at(src, t.next, t.number);
+    while !used_up(q) {
+        t = body_turn(q.src, t, q.at, q.number, area);
+        if t.over {
+            return t;
+        }
+        q = reader_at(q.src, t.next, t.number);
+    }
+    t
+}
+
 // The lines from CHARMAP to END CHARMAP, and what they give, in an area where nothing is given yet.
 fn body_lines(src: &[u8], h: Chars, from: usize, first: usize, area: &mut [u32]) -> Entries
     requires { ⌜ Opens (now src) from first (now area) ⌝ }
     ensures { λ r. ⌜ EntriesAre (now (src .entry)) h from first (now (area .exit)) r ⌝ }
 {
-    let mut at = from;
-    let mut number = first;
-    while at < src.len() {
-        let g = Signs {
-            comment: h.comment,
-            escape: h.escape,
-        };
-        let s = body_line(src, g, at, area);
-        match s {
-            BodyLine::Refused(n) => return Entries::Refused(refusal_of(n), number),
-            BodyLine::Line(closed, next, feeds) => {
-                if closed {
-                    return Entries::Closed;
-                }
-                at = next;
-                number += feeds;
-            }
-        }
-    }
-    Entries::Refused(Refusal::Malformed, number)
+    let s = BodyRead {
+        over: false,
+        next: from,
+        number: first,
+        answer: Entries::Refused(Refusal::Malformed, first),
+        chars: h,
+    };
+    let t = body_turns(src, s, area);
+    t.answer
 }
 
 // All lines, and what they give.

@@ -2,7 +2,7 @@
 use mathlib.Core.Path.{_≡_, refl, sym, ap, _∙_, subst}
 use mathlib.Core.Bool.{Bool, true, false, true≢false}
 use mathlib.Core.List.{List}
-use Prim.Native.Nat.{ℕ, _+_, _≤_, _<_}
+use Prim.Native.Nat.{ℕ, _≤_}
 use native.Mathlib.Omega.{arith}
 use lib.ListN.{length, drop}
 use Rattle.rules.specs.State.{State}
@@ -10,7 +10,7 @@ use Rattle.rules.specs.Source.{linesFrom}
 use Rattle.rules.proofs.RunLaws.{run-end}
 use Rattle.signs.specs.declared.Chars.{Chars}
 use Rattle.taken.specs.Signed.{Visible}
-use Rattle.outer.specs.Outside.{signsOf, Stands}
+use Rattle.outer.specs.Outside.{signsOf}
 use Rattle.reader.specs.Turns.{Turns}
 use Rattle.skips.specs.Passing.{Begins}
 use Rattle.skips.proofs.LineRuns.{refuses-from}
@@ -19,7 +19,7 @@ use Rattle.outers.specs.declared.Turn.the-variants as turn
 use Rattle.outers.specs.declared.Outers.{Outers}
 use Rattle.outers.specs.declared.Outers.the-variants as outers
 use Rattle.outers.specs.declared.Stretch.{Stretch}
-use Rattle.outers.specs.Stretches.{Keeps, collatedBy, Reaches, GoesOn, Opens, Fails, TurnIs, EndsAll, OutersIs, Outside, StretchStands, stretchReading}
+use Rattle.outers.specs.Stretches.{Keeps, collatedBy, GoesOn, Opens, Fails, TurnIs, EndsAll, OutersIs, Outside, StretchStands, stretchReading}
 
 -- ## One stretch after the other
 

@@ -23,7 +23,6 @@ use Rattle.skips.specs.declared.Kind.the-variants as kind
 use Rattle.skips.specs.declared.Turn.{Turn}
 use Rattle.skips.specs.declared.Turn.the-variants as turn
 use Rattle.skips.specs.declared.Branch.{Branch}
-use Rattle.skips.specs.declared.Skip.{Skip}
 use Rattle.skips.specs.declared.Skip.the-variants as skip
 use Rattle.skips.specs.Passing.{Unused, Begins, opens, branches, turns, KindIs, opened, TurnOn, TurnOwn, TurnDeep, TurnIs, BranchStops, BranchRefused, BranchIs, InBranch, BranchStands, branchReading}
 use Rattle.skips.proofs.LineRuns.{collate-signs, run-passed, run-refuses, run-unended, refuses-from}

@@ -6,17 +6,19 @@ use mir.Val.{vcons, vnil}
 use contract.Running.{tables}
 use denote.Struct.Struct.{Plains}
 use denote.Struct.Declared.{fields}
-use denote.Struct.Laws as struct
+use denote.Struct.Laws.{lawful, usize-plain, bool-plain, field-plain as struct-plain}
 use denote.Enum.Enum.{Plainss}
 use denote.Enum.Declared.{variants}
-use denote.Enum.Laws as enum
+use denote.Enum.Laws.{field-plain as enum-plain}
 use denote.Triple.Spec.{tripleOf}
 use denote.Triple.Table.{entered, cited}
 use Rattle.units.proofs.Refusal as refusal
 use Rattle.signs.proofs.Chars as chars
 use Rattle.signs.proofs.Chars.Laws as chars-laws
+use Rattle.reader.proofs.Held.{State}
 use Rattle.reader.proofs.LineLoop.{Loop, Turn, met}
 use Rattle.charmap.specs.Read.{headerReading}
+use Rattle.charmap.proofs.Fields.{chars-plain, refusal-plain}
 use Rattle.charmap.proofs.HeaderLaws.{reading-used}
 use Rattle.charmap.proofs.Header as header
 use Rattle.charmap.proofs.Header.Laws as header-laws
@@ -31,39 +33,30 @@ use Rattle.charmap.proofs.header_turns.Statement as stated
 use Rattle.charmap.proofs.header_turns.Code as code
 
 -- what the fields own is only facts
-abbrev chars-plain : Plains (fields chars.the-type)
-chars-plain = (struct.u8-plain, (struct.u8-plain, (struct.bool-plain, (struct.bool-plain, tt))))
+abbrev answer-plain : Plainss (variants header.the-type)
+answer-plain = ((struct-plain chars.the-type chars-plain, (usize-plain, (usize-plain, tt))), ((enum-plain refusal.the-type refusal-plain, (usize-plain, tt)), tt))
 
-abbrev refusal-plain : Plainss (variants refusal.the-type)
-refusal-plain = (tt, (tt, (tt, (tt, (tt, (tt, (tt, (tt, (tt, (tt, (tt, (tt, (tt, (tt, tt))))))))))))))
+abbrev state-plain : Plains (fields state.the-type)
+state-plain = (bool-plain, (usize-plain, (usize-plain, (enum-plain header.the-type answer-plain, (struct-plain chars.the-type chars-plain, tt)))))
 
-abbrev loop : Loop
-loop = record {
+abbrev read : State
+read = record {
   row = state.the-row;
-  reading = headerReading;
   name = state.the-type .name;
   types = tcons header-laws.mir (tcons chars-laws.mir tnil);
+  over = λ t. t .over;
+  next = λ t. t .next;
+  number = λ t. t .number;
   rest = λ t. vcons (header-laws.lowered (t .answer)) (vcons (chars-laws.lowered (t .chars)) vnil);
   tells = state-laws.lowers .val-is;
-  typed = λ 𝓤 H A W t v is. struct.lawful state.the-type state-laws.the-laws 𝓤 H A W .typed t (v ∷ []) is .0;
-  pure = λ t. struct.field-plain state.the-type (
-    struct.bool-plain,
-    (
-      struct.usize-plain,
-      (
-        struct.usize-plain,
-        (
-          enum.field-plain header.the-type
-              ((struct.field-plain chars.the-type chars-plain, (struct.usize-plain, (struct.usize-plain, tt))), ((enum.field-plain refusal.the-type refusal-plain, (struct.usize-plain, tt)), tt)),
-          (struct.field-plain chars.the-type chars-plain, tt),
-        ),
-      ),
-    ),
-  ) (state.the-type .to t);
+  typed = λ 𝓤 H A W t v is. lawful state.the-type state-laws.the-laws 𝓤 H A W .typed t (v ∷ []) is .0;
+  pure = λ t. struct-plain state.the-type state-plain (state.the-type .to t);
   last = λ t. tt;
   silent = λ t f. refl;
-  used = reading-used;
 }
+
+abbrev loop : Loop
+loop = record { state = read; Stands-at = headerReading .Stands; Says = headerReading .Says; used = reading-used }
 
 pub header-turns-spec : {M : Type 1} → stated.statement M
 unfolding code.routine

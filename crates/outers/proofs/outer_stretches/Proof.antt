@@ -6,12 +6,15 @@ use mir.Val.{vbool, vcons, vnil}
 use contract.Running.{tables}
 use denote.Struct.Struct.{Plains}
 use denote.Struct.Declared.{fields}
-use denote.Struct.Laws as struct
-use denote.Enum.Laws as enum
+use denote.Struct.Laws.{lawful, u8-plain, usize-plain, bool-plain, field-plain as struct-plain}
+use denote.Enum.Enum.{Plainss}
+use denote.Enum.Declared.{variants}
+use denote.Enum.Laws.{field-plain as enum-plain}
 use denote.Triple.Spec.{tripleOf}
 use denote.Triple.Table.{entered, cited}
 use Rattle.signs.proofs.Chars as chars
 use Rattle.signs.proofs.Chars.Laws as chars-laws
+use Rattle.reader.proofs.Held.{State}
 use Rattle.reader.proofs.LineLoop.{Loop, Turn, met}
 use Rattle.outers.specs.Stretches.{stretchReading}
 use Rattle.outers.proofs.StretchLaws.{reading-used}
@@ -27,37 +30,34 @@ use Rattle.outers.proofs.outer_stretches as lines
 use Rattle.outers.proofs.outer_stretches.Statement as stated
 use Rattle.outers.proofs.outer_stretches.Code as code
 
--- what the two characters own is only facts
+-- what the fields own is only facts
 abbrev chars-plain : Plains (fields chars.the-type)
-chars-plain = (struct.u8-plain, (struct.u8-plain, (struct.bool-plain, (struct.bool-plain, tt))))
+chars-plain = (u8-plain, (u8-plain, (bool-plain, (bool-plain, tt))))
 
-abbrev loop : Loop
-loop = record {
+abbrev answer-plain : Plainss (variants outers.the-type)
+answer-plain = ((struct-plain chars.the-type chars-plain, (usize-plain, (usize-plain, tt))), ((struct-plain chars.the-type chars-plain, (bool-plain, (usize-plain, tt))), ((u8-plain, (usize-plain, tt)), tt)))
+
+abbrev state-plain : Plains (fields state.the-type)
+state-plain = (bool-plain, (usize-plain, (usize-plain, (enum-plain outers.the-type answer-plain, (struct-plain chars.the-type chars-plain, (bool-plain, (bool-plain, tt)))))))
+
+abbrev stretch : State
+stretch = record {
   row = state.the-row;
-  reading = stretchReading;
   name = state.the-type .name;
   types = tcons outers-laws.mir (tcons chars-laws.mir (tcons tyBool (tcons tyBool tnil)));
+  over = λ t. t .over;
+  next = λ t. t .next;
+  number = λ t. t .number;
   rest = λ t. vcons (outers-laws.lowered (t .answer)) (vcons (chars-laws.lowered (t .chars)) (vcons (vbool (t .before)) (vcons (vbool (t .collated)) vnil)));
   tells = state-laws.lowers .val-is;
-  typed = λ 𝓤 H A W t v is. struct.lawful state.the-type state-laws.the-laws 𝓤 H A W .typed t (v ∷ []) is .0;
-  pure = λ t. struct.field-plain state.the-type (
-    struct.bool-plain,
-    (
-      struct.usize-plain,
-      (
-        struct.usize-plain,
-        (
-          enum.field-plain outers.the-type
-              ((struct.field-plain chars.the-type chars-plain, (struct.usize-plain, (struct.usize-plain, tt))), ((struct.field-plain chars.the-type chars-plain, (struct.bool-plain, (struct.usize-plain, tt))), ((struct.u8-plain, (struct.usize-plain, tt)), tt))),
-          (struct.field-plain chars.the-type chars-plain, (struct.bool-plain, (struct.bool-plain, tt))),
-        ),
-      ),
-    ),
-  ) (state.the-type .to t);
+  typed = λ 𝓤 H A W t v is. lawful state.the-type state-laws.the-laws 𝓤 H A W .typed t (v ∷ []) is .0;
+  pure = λ t. struct-plain state.the-type state-plain (state.the-type .to t);
   last = λ t. tt;
   silent = λ t f. refl;
-  used = reading-used;
 }
+
+abbrev loop : Loop
+loop = record { state = stretch; Stands-at = stretchReading .Stands; Says = stretchReading .Says; used = reading-used }
 
 pub outer-stretches-spec : {M : Type 1} → stated.statement M
 unfolding code.routine

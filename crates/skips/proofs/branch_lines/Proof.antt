@@ -4,12 +4,17 @@ use mathlib.Core.List.{[], _∷_}
 use mir.Syntax.{w64, tyInt, tcons, tnil}
 use mir.Val.{vint, vcons, vnil}
 use contract.Running.{tables}
-use denote.Struct.Laws as struct
-use denote.Enum.Laws as enum
+use denote.Struct.Struct.{Plains}
+use denote.Struct.Declared.{fields}
+use denote.Struct.Laws.{lawful, u8-plain, usize-plain, bool-plain, field-plain as struct-plain}
+use denote.Enum.Enum.{Plainss}
+use denote.Enum.Declared.{variants}
+use denote.Enum.Laws.{field-plain as enum-plain}
 use denote.Triple.Spec.{tripleOf}
 use denote.Triple.Table.{entered, cited}
 use Rattle.lines.proofs.Signs as signs
 use Rattle.lines.proofs.Signs.Laws as signs-laws
+use Rattle.reader.proofs.Held.{State}
 use Rattle.reader.proofs.LineLoop.{Loop, Turn, met}
 use Rattle.skips.specs.Passing.{branchReading}
 use Rattle.skips.proofs.BranchLaws.{reading-used}
@@ -25,35 +30,34 @@ use Rattle.skips.proofs.branch_lines as lines
 use Rattle.skips.proofs.branch_lines.Statement as stated
 use Rattle.skips.proofs.branch_lines.Code as code
 
-abbrev loop : Loop
-loop = record {
+-- what the fields own is only facts
+abbrev answer-plain : Plainss (variants skip.the-type)
+answer-plain = ((usize-plain, (usize-plain, tt)), ((u8-plain, (usize-plain, tt)), tt))
+
+abbrev signs-plain : Plains (fields signs.the-type)
+signs-plain = (u8-plain, (u8-plain, tt))
+
+abbrev state-plain : Plains (fields state.the-type)
+state-plain = (bool-plain, (usize-plain, (usize-plain, (usize-plain, (enum-plain skip.the-type answer-plain, (usize-plain, (struct-plain signs.the-type signs-plain, tt)))))))
+
+abbrev branch : State
+branch = record {
   row = state.the-row;
-  reading = branchReading;
   name = state.the-type .name;
   types = tcons (tyInt w64) (tcons skip-laws.mir (tcons (tyInt w64) (tcons signs-laws.mir tnil)));
+  over = λ t. t .over;
+  next = λ t. t .next;
+  number = λ t. t .number;
   rest = λ t. vcons (vint w64 (t .total)) (vcons (skip-laws.lowered (t .answer)) (vcons (vint w64 (t .depth)) (vcons (signs-laws.lowered (t .signs)) vnil)));
   tells = state-laws.lowers .val-is;
-  typed = λ 𝓤 H A W t v is. struct.lawful state.the-type state-laws.the-laws 𝓤 H A W .typed t (v ∷ []) is .0;
-  pure = λ t. struct.field-plain state.the-type (
-    struct.bool-plain,
-    (
-      struct.usize-plain,
-      (
-        struct.usize-plain,
-        (
-          struct.usize-plain,
-          (
-            enum.field-plain skip.the-type ((struct.usize-plain, (struct.usize-plain, tt)), ((struct.u8-plain, (struct.usize-plain, tt)), tt)),
-            (struct.usize-plain, (struct.field-plain signs.the-type (struct.u8-plain, (struct.u8-plain, tt)), tt)),
-          ),
-        ),
-      ),
-    ),
-  ) (state.the-type .to t);
+  typed = λ 𝓤 H A W t v is. lawful state.the-type state-laws.the-laws 𝓤 H A W .typed t (v ∷ []) is .0;
+  pure = λ t. struct-plain state.the-type state-plain (state.the-type .to t);
   last = λ t. tt;
   silent = λ t f. refl;
-  used = reading-used;
 }
+
+abbrev loop : Loop
+loop = record { state = branch; Stands-at = branchReading .Stands; Says = branchReading .Says; used = reading-used }
 
 pub branch-lines-spec : {M : Type 1} → stated.statement M
 unfolding code.routine
