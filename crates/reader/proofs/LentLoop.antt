@@ -14,7 +14,7 @@
 --     }
 --
 -- What it reads with is a state and what the area holds. In each turn the area is lent again, for a lifetime that is made for the call, and comes back with
--- what the call has left in it (Again). `Loop` is what differs, and `met` is the theorem.
+-- what the call has left in it (LentArea). `Loop` is what differs, and `met` is the theorem.
 use mathlib.Core.Path.{_≡_, refl, sym, ap, subst, _∙_}
 use Prim.Native.Nat.{ℕ, _-_, _≤_, _<_}
 use mathlib.Core.Bool.{Bool, not}
@@ -58,7 +58,7 @@ use denote.Triple.Walked.{says, needs, Stays, stay-dropped, stay-none-slice, sta
 use denote.Triple.Clauses.{Ended, Clauses, Lasts, ensured, closing, lasts}
 use Rattle.reader.specs.declared.Reader.{Reader}
 use Rattle.reader.specs.Turns.{Reading, Begins, AtLine, Turns}
-use Rattle.reader.proofs.Again.{LentAgain, lends-again, comes-back}
+use Rattle.reader.proofs.LentArea.{Pledge, lent-on, handed-back}
 use Rattle.reader.proofs.Owned.{Row, Source, source, Lent}
 use Rattle.reader.proofs.Held.{word, held, lent-slice, slice, State, kind, mach, Fine, at, low, Stands, Ended-at, some-left, none-left, holds-true, fails-false, further-less, Start, Used, start-known, used-known, One, All, typed-kind, next-fits, number-fits, made, to-used, goes-used, Said-used, told-used, to-start, goes-start, Said-start, told-start, placed-so, typed-lent, typed-held, typed-placed, typed-bool}
 use Rattle.reader.proofs.reader_at.Symbol as start-def
@@ -411,7 +411,7 @@ module _ (L : Loop) where
               assigns ! (agg ! (and-then ! (load ! (from ! (stop !)) (look ! 6 refl)) (and-then ! (load ! (from ! (fld ! refl (stop !))) (look-in ! 24 (sub ! 1 refl (whole !)))) (no-more !)))) (from ! (stop !)) (init ! 4 refl (tt, (tt, (record { fits = room-at a (i .3) .0 }, tt)))) $
               -- the area is lent again
               lft-new ! tt (λ ν. move ! (2 ∷ []) $ split ! $
-              use2 W (later (some (λ (δ : GName). ‵ (Lent-on δ ν a) ⊛ ‵ (LentAgain u32 κ′ (ν ∷ []) q′ γ b o δ a)))) (lends-again u32 κ′ (ν ∷ []) q′ γ b o 𝓤 H A W (named 1) (named 1) a) $ await ! tt $ pick ! (λ δ. split ! $
+              use2 W (later (some (λ (δ : GName). ‵ (Lent-on δ ν a) ⊛ ‵ (Pledge b o κ′ (ν ∷ []) q′ γ δ a)))) (lent-on b o κ′ (ν ∷ []) q′ γ 𝓤 H A W a) $ await ! tt $ pick ! (λ δ. split ! $
               -- [the area that is lent on; what is kept of it; the new lifetime's token; the source; the locals]
               move ! (3 ∷ 0 ∷ 2 ∷ []) $ use3 W (raw (Turn 𝓤 H A mem run .pre (to-turn t a ν δ)) ⊛ ‵ (Lent κ s)) (goes-turn t a ν δ (i .2) (record { inside = left; begun = (d, ys); stands = i .4 })) $ split ! $
               calls-at ! (fmOf 𝓤 H (W .laws) 𝓣) (Turn 𝓤 H A mem run) known-turn (to-turn t a ν δ)
@@ -423,7 +423,7 @@ module _ (L : Loop) where
               land ! (from ! (stop !)) (store ! 23 refl (S .typed 𝓤 H A W u v (n .2))) $ rewrite ! 23 (λ (w : Val). ‵ (fat fullShare (kind S) l₄ 0 w)) e refl $
               -- it comes back, with what the call has left in it
               move ! (1 ∷ []) $ split ! $ lft-end ! tt $ move ! (0 ∷ 3 ∷ 1 ∷ []) $
-              use3 W (later (‵ (Owned-area z (length a)) ⊛ ‵ (flft κ′ q′))) (comes-back u32 κ′ (ν ∷ []) q′ γ b o 𝓤 H A W (named 1) (named 1) a δ z (room-at a (i .3)) (n .0)) $ await ! tt $ split ! $
+              use3 W (later (‵ (Owned-area z (length a)) ⊛ ‵ (flft κ′ q′))) (handed-back b o κ′ (ν ∷ []) q′ γ 𝓤 H A W a δ z (room-at a (i .3)) (n .0)) $ await ! tt $ split ! $
               rewrite ! 0 (λ (m : ℕ). ‵ (Owned-area z m)) (sym (n .0)) refl $ join ! $ move ! (1 ∷ []) $ rewrite ! 24 (λ (m : ℕ). ‵ (fat fullShare area-slice l₃ 0 (cells m))) (sym (n .0)) refl $
               test-turn i c u z is (n .0 ∙ i .3) left (n .1)))))))
 

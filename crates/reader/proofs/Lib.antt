@@ -1,5 +1,5 @@
 pub mod Owned
-mod Again
+mod LentArea
 pub mod Held
 pub mod LineLoop
 pub mod LentLoop
