@@ -65,23 +65,27 @@ struct Writer<'a> {
     defined: Vec<&'static str>,
     /// Whether names and numbers may be wrong, on lines that are well formed.
     careless: bool,
+    /// Whether weights may name what has no line.
+    loose: bool,
 }
 
 /// A source without a fault, which is almost always accepted.
 pub fn good_source(random: &mut Random) -> Vec<u8> {
-    let (lines, _) = planned_lines(false, random);
+    let (lines, _) = planned_lines(false, false, random);
     joined(&lines, random)
 }
 
-/// A source of well-formed lines whose names and numbers may be wrong.
+/// A source of well-formed lines whose names and numbers may be wrong, or which is good but for
+/// weights that name what has no line.
 pub fn careless_source(random: &mut Random) -> Vec<u8> {
-    let (lines, _) = planned_lines(true, random);
+    let loose = random.chance(25);
+    let (lines, _) = planned_lines(!loose, loose, random);
     joined(&lines, random)
 }
 
 /// A source with so many faults, which need not all be seen.
 pub fn damaged_source(faults: usize, random: &mut Random) -> Vec<u8> {
-    let (mut lines, signs) = planned_lines(false, random);
+    let (mut lines, signs) = planned_lines(false, false, random);
     let to_lines = random.below(faults + 1);
     for _ in 0..to_lines {
         if random.chance(30) {
@@ -156,7 +160,7 @@ pub fn hostile_source(random: &mut Random) -> Vec<u8> {
     joined(&lines, random)
 }
 
-fn planned_lines(careless: bool, random: &mut Random) -> (Vec<Vec<u8>>, Signs) {
+fn planned_lines(careless: bool, loose: bool, random: &mut Random) -> (Vec<Vec<u8>>, Signs) {
     let (lines, defined) = (Vec::new(), Vec::new());
     let mut writer = Writer {
         random,
@@ -164,6 +168,7 @@ fn planned_lines(careless: bool, random: &mut Random) -> (Vec<Vec<u8>>, Signs) {
         lines,
         defined,
         careless,
+        loose,
     };
     writer.sign_lines();
     writer.other_categories();
@@ -177,7 +182,7 @@ fn planned_lines(careless: bool, random: &mut Random) -> (Vec<Vec<u8>>, Signs) {
 impl Writer<'_> {
     /// Whether to make a mistake here.
     fn errs(&mut self) -> bool {
-        self.careless && self.random.chance(3)
+        self.careless && self.random.chance(2)
     }
 
     /// Adds a line, with what may stand around it.
@@ -405,7 +410,7 @@ impl Writer<'_> {
             // Of the lines that a block is to take out, some name what has no line. The first
             // one stays, for the blocks to stand after.
             let goes = tailored && !lines.is_empty() && self.random.chance(6);
-            let weights = if goes {
+            let weights = if goes || self.loose && self.random.chance(20) {
                 rest.clone().collect()
             } else {
                 named.clone()
@@ -491,8 +496,8 @@ impl Writer<'_> {
         let text = self.subject_text(&named);
         let mut lines = vec![[b"reorder-after", blanks(self.random), &text].concat()];
         let mut written: Vec<Subject> = Vec::new();
-        // Careless, some that must have a line get none, and weights name what has none.
-        let slips = self.careless && self.random.chance(15);
+        // Some that must have a line get none, and weights name what has none.
+        let slips = self.careless && self.random.chance(15) || self.loose && self.random.chance(50);
         if last && !slips {
             written.append(&mut subjects.due);
         }
@@ -504,12 +509,18 @@ impl Writer<'_> {
             };
             if !from.is_empty() {
                 let subject = self.random.pick(from);
-                let twice = written.contains(&subject) || subject == named;
-                if !twice || self.errs() {
+                if !written.contains(&subject) && subject != named {
                     let at = self.random.below(written.len() + 1);
                     written.insert(at, subject);
                 }
             }
+        }
+        // Careless, one line stands twice, or the named one too.
+        if self.careless && self.random.chance(8) {
+            let mut again = written.clone();
+            again.push(named.clone());
+            let at = self.random.below(written.len() + 1);
+            written.insert(at, self.random.pick(&again));
         }
         for subject in &written {
             for list in [&mut subjects.listed, &mut subjects.spare, &mut subjects.due] {
