@@ -45,6 +45,29 @@ pub lines-other : (w : List ℕ) (u j x : ℕ) (o : Order) (vs : List ℕ) → j
 lines-other w u j x o vs h n k =
     record { linked = linked-other w u j x (o .first) vs h n (k .linked); spread = k .spread; last = k .last; count = k .count }
 
+-- a line's own numbers
+module _ (w : List ℕ) (v number place : ℕ) where
+  abbrev counted : List ℕ
+  counted = set w (cellAt v lineNumber) number
+
+  pub numbered-number : 8 * (v / 16) + 8 ≤ length w → cell (numbered w v number place) v lineNumber ≡ number
+  unfolding numbered
+  numbered-number h =
+      cell-other counted v placeNumber v lineNumber place (omega arith) (omega arith) (λ e. omega (arith, e)) ∙ cell-told w v lineNumber number (omega arith) h
+
+  pub numbered-place : 8 * (v / 16) + 8 ≤ length w → cell (numbered w v number place) v placeNumber ≡ place
+  unfolding numbered
+  numbered-place h = let l = length-set w (cellAt v lineNumber) number in cell-told counted v placeNumber place (omega arith) (omega (arith, l, h))
+
+  -- the other three numbers of all rows, and all numbers of other rows
+  pub numbered-else : (u j : ℕ) → j < 5 → (j ≡ lineNumber → ⊥) → (j ≡ placeNumber → ⊥) → cell (numbered w v number place) u j ≡ cell w u j
+  unfolding numbered
+  numbered-else u j h a b = cell-other counted v placeNumber u j place (omega arith) h (λ e. b (sym e)) ∙ cell-other w v lineNumber u j number (omega arith) h (λ e. a (sym e))
+
+  pub numbered-apart : (u j : ℕ) → j < 5 → Apart v u → cell (numbered w v number place) u j ≡ cell w u j
+  unfolding numbered
+  numbered-apart u j h a = cell-apart counted v placeNumber u j place (omega arith) h a ∙ cell-apart w v lineNumber u j number (omega arith) h a
+
 pub numbered-lines : (w : List ℕ) (v number place : ℕ) (o : Order) (vs : List ℕ) → Lines w o vs → Lines (numbered w v number place) o vs
 unfolding numbered
 numbered-lines w v number place o vs k =
@@ -84,6 +107,13 @@ last-of v (u ∷ t ∷ ts) = last-of v (t ∷ ts)
 unfoldable pub lastFrom : ℕ → List ℕ → ℕ
 lastFrom p [] = p
 lastFrom p (v ∷ vs) = lastFrom v vs
+
+-- the last of a list has what all of it have
+pub last-has : (P : ℕ → Type 0) (vs : List ℕ) → All P vs → (lastOf vs ≡ 0 → ⊥) → P (lastOf vs)
+unfolding lastOf
+last-has P [] a n = absurd (n refl)
+last-has P (v ∷ []) a n = a .0
+last-has P (v ∷ u ∷ us) a n = last-has P (u ∷ us) (a .1) n
 
 pub last-from : (vs : List ℕ) → lastOf vs ≡ lastFrom 0 vs
 unfolding lastOf lastFrom

@@ -79,6 +79,15 @@ back-has w P p (u ∷ us) v (comes b n) h a o =
     (λ t. subst P (sym (ap (λ (q : ℕ). cell w q backNumber) (eqb-true v u t) ∙ b)) h)
     (λ t. back-has w P u us v n (a .0) (a .1) (rw t at o))
 
+-- each of a list is of it
+all-self : (us vs : List ℕ) → ((u : ℕ) → oneOf (eqb u) us ≡ true → oneOf (eqb u) vs ≡ true) → All (λ (u : ℕ). oneOf (eqb u) vs ≡ true) us
+unfolding oneOf
+all-self [] vs h = tt
+all-self (u ∷ us) vs h = (h u (rw (eq-eqb u u refl)), all-self us vs (λ t e. h t (rw e (mathlib.Core.Bool.or-true (eqb t u)))))
+
+pub all-one : (vs : List ℕ) → All (λ (u : ℕ). oneOf (eqb u) vs ≡ true) vs
+all-one vs = all-self vs vs (λ u e. e)
+
 pub without-all : (P : ℕ → Type 0) (v : ℕ) (vs : List ℕ) → All P vs → All P (without v vs)
 unfolding without
 without-all P v [] a = tt
@@ -307,7 +316,7 @@ module _ (w : List ℕ) (a v : ℕ) (r : Row w a) (i : Row w v) (d : Apart v a) 
   l₃ : length w₃ ≡ length w
   l₃ = length-set w₂ (cellAt v nextNumber) n ∙ l₂
 
-  put-length : length put ≡ length w
+  pub put-length : length (linkedBetween w a v (cell w a nextNumber)) ≡ length w
   unfolding linkedBetween
   put-length = length-set w₃ (cellAt v backNumber) a ∙ l₃
 
@@ -338,7 +347,7 @@ module _ (w : List ℕ) (a v : ℕ) (r : Row w a) (i : Row w v) (d : Apart v a) 
       ∙ link-told w n backNumber v (omega arith) z s
 
   -- the links of other rows
-  next-kept : (u : ℕ) → Apart a u → Apart v u → cell put u nextNumber ≡ cell w u nextNumber
+  pub next-kept : (u : ℕ) → Apart a u → Apart v u → cell (linkedBetween w a v (cell w a nextNumber)) u nextNumber ≡ cell w u nextNumber
   unfolding linkedBetween
   next-kept u e f =
       cell-other w₃ v backNumber u nextNumber a (omega arith) (omega arith) (λ e. omega (arith, e))
@@ -346,7 +355,8 @@ module _ (w : List ℕ) (a v : ℕ) (r : Row w a) (i : Row w v) (d : Apart v a) 
       ∙ cell-apart w₁ a nextNumber u nextNumber v (omega arith) (omega arith) e
       ∙ link-other w n backNumber v u nextNumber (omega arith) (omega arith) (λ e. omega (arith, e))
 
-  back-kept : (u : ℕ) → Off n u → Apart v u → cell put u backNumber ≡ cell w u backNumber
+  pub back-kept : (u : ℕ) → ((cell w a nextNumber ≡ 0 → ⊥) → Apart (cell w a nextNumber) u) → Apart v u
+      → cell (linkedBetween w a v (cell w a nextNumber)) u backNumber ≡ cell w u backNumber
   unfolding linkedBetween
   back-kept u e f =
       cell-apart w₃ v backNumber u backNumber a (omega arith) (omega arith) f
