@@ -9,8 +9,8 @@ use lib.ListN.{length}
 use Rattle.rules.specs.Text.{within, every, oneOf, _unless_, lower, lowest}
 use Rattle.rules.specs.Names.{codeOf, isCharName}
 use Rattle.rules.specs.Tokens.{Token, tokenAt, theName, tokensRefusal}
-use Rattle.rules.specs.State.{beforeOrder, State, inPhase}
-use Rattle.rules.specs.Declarations.{declaresChars, isNew, elementLine}
+use Rattle.rules.specs.State.{State}
+use Rattle.rules.specs.Declarations.{declaresChars, isNew, mayDeclare, elementLine}
 use Rattle.tokens.proofs.RefusalLaws.{late-lowest, late-unless}
 use Rattle.store.specs.Store.{Decl}
 use Rattle.symbols.specs.Symbols.{Alike}
@@ -19,15 +19,15 @@ use Rattle.symbols.proofs.PaperLaws.{new-paper}
 use Rattle.compounds.specs.Compounds.{elementRefusal}
 
 module _ (s : State) (os : List Token) where
-  -- before order_start
-  pub element-paper : (ds : List Decl) → Alike ds (s .declared) → inPhase beforeOrder s ≡ true
+  -- where a declaration may stand
+  pub element-paper : (ds : List Decl) → Alike ds (s .declared) → mayDeclare s ≡ true
       → elementRefusal ds os ≡ lower (tokensRefusal os) (elementLine s os .refusal)
   unfolding elementRefusal elementLine
   element-paper ds h p =
       rw (p, new-paper ds (s .declared) (theName (tokenAt os 0)) h, h .elements (map codeOf (tokenAt os 2 .names)))
 
   -- anywhere else
-  pub element-misplaced : inPhase beforeOrder s ≡ false → lower (tokensRefusal os) (elementLine s os .refusal) ≡ 3
+  pub element-misplaced : mayDeclare s ≡ false → lower (tokensRefusal os) (elementLine s os .refusal) ≡ 3
   unfolding elementLine lowest
   element-misplaced p =
       let ns = tokenAt os 2 .names in

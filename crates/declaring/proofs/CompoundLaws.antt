@@ -1,18 +1,18 @@
--- collating-element: what it does before the order, and its refusal.
+-- collating-element: what it does where it may stand, and its refusal.
 use mathlib.Core.Path.{_≡_, refl, sym, ap, _∙_, subst}
-use mathlib.Core.Bool.{Bool, true, false, not, _&&_, false≢true}
+use mathlib.Core.Bool.{Bool, true, false, not, _&&_, _||_, false≢true}
 use mathlib.Core.List.{List, [], _∷_, map}
 use Prim.Native.Nat.{ℕ, _+_, _/_, _≤_, _<_}
 use native.Mathlib.Omega.{arith}
 use lib.ListN.{length}
 use lib.Dec.{eqb}
-use borrow.Author.Tests.{eqb-true, ne-eqb}
+use borrow.Author.Tests.{eqb-true}
 use Rattle.lists.proofs.Bools.{by, clash, and-left, and-right}
 use Rattle.rules.specs.Text.{bytes, within, every, _unless_, lower, lowest}
 use Rattle.rules.specs.Names.{codeOf, isCharName}
 use Rattle.rules.specs.Meaning.{Rule}
 use Rattle.rules.specs.Tokens.{Token, tokenAt, theName, operands, tokensRefusal}
-use Rattle.rules.specs.State.{Chain, Declaration, element, named, OrderLine, State, withDeclared, Outcome}
+use Rattle.rules.specs.State.{beforeOrder, afterOrder, Chain, Declaration, element, named, OrderLine, State, withDeclared, Outcome}
 use Rattle.rules.specs.Declarations.{elementFormed, elementLine}
 use Rattle.rules.specs.Source.{collateLine}
 use Rattle.rules.proofs.TextLaws.{lower-none, lowest-unless}
@@ -142,23 +142,30 @@ module _ (g : Signs) (src : List ℕ) (at : ℕ) (p : Spot) (e : LineEnd) (l : O
   element-behind v h = let a : 17 + at ≤ p .at = l .first .long in omega (arith, a, h)
 
   module _ (w w′ : List ℕ) (sh : Sheet) where
-    pub element-misplaced-step : {x : ℕ} → x ≡ lower (2 unless e .text) 3 → (sh .phase ≡ 3 → ⊥) → Writes g src w sh at w′ (Refused x)
-    element-misplaced-step b n =
+    -- where a declaration may stand
+    abbrev may : Bool
+    may = eqb (sh .phase) beforeOrder || eqb (sh .phase) afterOrder
+
+    pub element-misplaced-step : {x : ℕ} → x ≡ lower (2 unless e .text) 3 → {t : Bool} → t ≡ may → t ≡ false → Writes g src w sh at w′ (Refused x)
+    element-misplaced-step b z n =
         record {
           is = λ number depth. line-refused l w sh number depth (bounded-three (e .text) b) (λ cs s o d u.
-              element-fault s number ∙ element-misplaced s left (rw (o .phase, ne-eqb (sh .phase) 3 n)));
+              element-fault s number ∙ element-misplaced s left (rw (o .phase) (sym z ∙ n)));
         }
 
     pub element-foul : e .text ≡ false → Writes g src w sh at w′ (Refused 2)
     element-foul x = record { is = λ number depth. line-foul l w sh number depth x }
 
-    module _ (f : sh .phase ≡ 3) (x : e .text ≡ true) where
+    module _ {t : Bool} (m : t ≡ may) (f : t ≡ true) (x : e .text ≡ true) where
+      declares : may ≡ true
+      declares = sym m ∙ f
+
       paper : {r : ℕ} → ((n : ℕ) (ds : List Decl) → Holds (keyAt g src) (length src) w n ds → elementRefusal ds left ≡ r)
           → {cs : List Chain} {s : State} (number : ℕ) → Open g src w sh cs at s
           → lower (tokensRefusal left) (collateLine s number (bytes "collating-element") left .refusal) ≡ r
       paper h {s = s} number o =
           let k = o .known in
-          element-fault s number ∙ sym (element-paper s left (k .ds) (says-alike (k .says)) (rw (o .phase, f))) ∙ h (o .n) (k .ds) (k .holds)
+          element-fault s number ∙ sym (element-paper s left (k .ds) (says-alike (k .says)) (rw (o .phase) declares)) ∙ h (o .n) (k .ds) (k .holds)
 
       module _ {y : Element} (a : ElementIs g src p w w′ y) where
         pub element-refused-step : Sound (keyAt g src) (length src) w → {r : ℕ} → y ≡ answer.Refused r → Writes g src w sh at w′ (Refused r)
@@ -184,15 +191,15 @@ module _ (g : Signs) (src : List ℕ) (at : ℕ) (p : Spot) (e : LineEnd) (l : O
                 leaves = λ cs s o d u.
                     let k = o .known in
                     let n = element-new (k .ds) left (b .refusal .is (o .n) (k .ds) (k .holds)) in
-                    let rows : o .n ≤ (at + 5) / 8 = rw f at (o .rows (l .first .inside)) in
+                    let rows : o .n ≤ (at + 5) / 8 = rw declares at (o .rows (l .first .inside)) in
                     record {
                       after = withDeclared s (element m xs ∷ s .declared);
                       outcome = line-accepted l w sh number o u x (paper (b .refusal .is) number o) (element-state s number);
-                      held = open-declared g src w sh cs at s o (l .first .inside) (e .next) w′ (q / 16 + 1) (element m xs ∷ s .declared) f
+                      held = open-declared g src w sh cs at s o (l .first .inside) (e .next) w′ (q / 16 + 1) (element m xs ∷ s .declared) declares (let i = line-moves l .on in omega (arith, i))
                           (known-element-new g src w (sh .order) (s .ordered .rules) (o .n) (s .declared) (s .ordered .lines) k v q w′ c
                           (omega (arith, rows, far)) (b .quotes .later) (let y = b .mark .behind in omega (arith, y)) m xs (b .mark .key) (b .quotes .key) (omega (arith, odd))
                           (first-none (item (named m)) (k .ds) (n .name)) (first-none (chars xs) (k .ds) (n .quotes)))
-                          (c .long) (c .beyond) (λ h. let r = line-reaches l (b .quotes .room) h in omega (arith, r));
+                          (c .long) (λ u j h i r. c .five u j r (λ z y. omega (arith, y, i))) (c .beyond) (λ h. let r = line-reaches l (b .quotes .room) h in omega (arith, r));
                     };
               };
             }

@@ -1,18 +1,18 @@
--- collating-symbol: what it does before the order, and its refusal; and what both lines that declare share.
+-- collating-symbol: what it does where it may stand, and its refusal; and what both lines that declare share.
 use mathlib.Core.Path.{_≡_, refl, sym, ap, _∙_, subst}
-use mathlib.Core.Bool.{true, false, or-true, false≢true}
+use mathlib.Core.Bool.{Bool, true, false, _||_, or-true, false≢true}
 use mathlib.Core.List.{List, [], _∷_}
 use Prim.Native.Nat.{ℕ, _+_, _/_, _≤_, _<_}
 use Prim.Native.String.{String}
 use native.Mathlib.Omega.{arith}
 use lib.ListN.{length}
 use lib.Dec.{eqb}
-use borrow.Author.Tests.{eqb-true, eqb-false, ne-eqb}
+use borrow.Author.Tests.{eqb-true, eqb-false}
 use Rattle.lists.proofs.Bools.{by, clash}
 use Rattle.rules.specs.Text.{bytes, _unless_, lower, lowest}
 use Rattle.rules.specs.Names.{charShaped}
 use Rattle.rules.specs.Tokens.{name, Token, tokenAt, theName, single, operands, tokensRefusal}
-use Rattle.rules.specs.State.{Chain, Declaration, symbol, character, named, State, withDeclared, Outcome}
+use Rattle.rules.specs.State.{beforeOrder, afterOrder, Chain, Declaration, symbol, character, named, State, withDeclared, Outcome}
 use Rattle.rules.specs.Declarations.{symbolLine}
 use Rattle.rules.specs.Source.{collateLine}
 use Rattle.rules.proofs.TextLaws.{lower-none, lowest-unless}
@@ -108,23 +108,30 @@ module _ (g : Signs) (src : List ℕ) (at : ℕ) (p : Spot) (e : LineEnd) (l : O
   symbol-behind v h = let a : 16 + at ≤ p .at = l .first .long in omega (arith, a, h)
 
   module _ (w w′ : List ℕ) (sh : Sheet) where
-    pub symbol-misplaced-step : {x : ℕ} → x ≡ lower (2 unless e .text) 3 → (sh .phase ≡ 3 → ⊥) → Writes g src w sh at w′ (Refused x)
-    symbol-misplaced-step b n =
+    -- where a declaration may stand
+    abbrev may : Bool
+    may = eqb (sh .phase) beforeOrder || eqb (sh .phase) afterOrder
+
+    pub symbol-misplaced-step : {x : ℕ} → x ≡ lower (2 unless e .text) 3 → {t : Bool} → t ≡ may → t ≡ false → Writes g src w sh at w′ (Refused x)
+    symbol-misplaced-step b z n =
         record {
           is = λ number depth. line-refused l w sh number depth (bounded-three (e .text) b) (λ cs s o d u.
-              symbol-fault s number ∙ symbol-misplaced s left (rw (o .phase, ne-eqb (sh .phase) 3 n)));
+              symbol-fault s number ∙ symbol-misplaced s left (rw (o .phase) (sym z ∙ n)));
         }
 
     pub symbol-foul : e .text ≡ false → Writes g src w sh at w′ (Refused 2)
     symbol-foul x = record { is = λ number depth. line-foul l w sh number depth x }
 
-    module _ (f : sh .phase ≡ 3) (x : e .text ≡ true) where
+    module _ {t : Bool} (m : t ≡ may) (f : t ≡ true) (x : e .text ≡ true) where
+      declares : may ≡ true
+      declares = sym m ∙ f
+
       paper : {r : ℕ} → ((n : ℕ) (ds : List Decl) → Holds (keyAt g src) (length src) w n ds → symbolRefusal ds left ≡ r)
           → {cs : List Chain} {s : State} (number : ℕ) → Open g src w sh cs at s
           → lower (tokensRefusal left) (collateLine s number (bytes "collating-symbol") left .refusal) ≡ r
       paper h {s = s} number o =
           let k = o .known in
-          symbol-fault s number ∙ sym (symbol-paper s left (k .ds) (says-alike (k .says)) (rw (o .phase, f))) ∙ h (o .n) (k .ds) (k .holds)
+          symbol-fault s number ∙ sym (symbol-paper s left (k .ds) (says-alike (k .says)) (rw (o .phase) declares)) ∙ h (o .n) (k .ds) (k .holds)
 
       module _ {y : Symbol} (a : SymbolIs g src p w w′ y) where
         pub symbol-refused-step : Sound (keyAt g src) (length src) w → {r : ℕ} → y ≡ answer.Refused r → Writes g src w sh at w′ (Refused r)
@@ -148,14 +155,14 @@ module _ (g : Signs) (src : List ℕ) (at : ℕ) (p : Spot) (e : LineEnd) (l : O
                 leaves = λ cs s o d u.
                     let k = o .known in
                     let n = new-unknown (k .ds) m (symbol-new (k .ds) left (b .refusal .is (o .n) (k .ds) (k .holds))) in
-                    let rows : o .n ≤ (at + 5) / 8 = rw f at (o .rows (l .first .inside)) in
+                    let rows : o .n ≤ (at + 5) / 8 = rw declares at (o .rows (l .first .inside)) in
                     record {
                       after = withDeclared s (symbol m ∷ s .declared);
                       outcome = line-accepted l w sh number o u x (paper (b .refusal .is) number o) (symbol-state s number);
-                      held = open-declared g src w sh cs at s o (l .first .inside) (e .next) w′ (v / 16 + 1) (symbol m ∷ s .declared) f
+                      held = open-declared g src w sh cs at s o (l .first .inside) (e .next) w′ (v / 16 + 1) (symbol m ∷ s .declared) declares (let i = line-moves l .on in omega (arith, i))
                           (known-symbol-new g src w (sh .order) (s .ordered .rules) (o .n) (s .declared) (s .ordered .lines) k v w′ c
                           (omega (arith, rows, far)) (b .mark .within) (first-none (keyAt g src v) (k .ds) (ap (λ (q : Key). knownIn q (k .ds)) (b .mark .key) ∙ n)) (let y = b .mark .behind in omega (arith, y)) m (b .mark .key))
-                          (c .long) (c .beyond) (λ h. let q = line-reaches l (b .mark .room) h in omega (arith, q));
+                          (c .long) (λ u j h i r. c .five u j r) (c .beyond) (λ h. let q = line-reaches l (b .mark .room) h in omega (arith, q));
                     };
               };
             }

@@ -33,7 +33,7 @@ use Rattle.declaring.proofs.OpenedLaws.{line-moves, line-accepted, line
 -- ## Operands
 
 -- no operand is refused where there is none
-none-refused : (os : List Token) → eqb (length os) 0 ≡ true → tokensRefusal os ≡ 0
+pub none-refused : (os : List Token) → eqb (length os) 0 ≡ true → tokensRefusal os ≡ 0
 unfolding tokensRefusal
 none-refused os h = rw (length-zero os (eqb-true (length os) 0 h))
 
@@ -92,7 +92,7 @@ module _ {g : Signs} {src : List ℕ} {at : ℕ} {p : Spot} {e : LineEnd} (l : O
             record { is = λ depth. record { is = λ w number. line-foul l w sh number depth x } }
 
         pub order-end-done : e .text ≡ true
-            → Still g src sh at (Next (record { phase = 5; toggles = sh .toggles; rules = sh .rules; levels = sh .levels; order = sh .order }) (e .next) (e .feeds))
+            → Still g src sh at (Next (record { phase = 5; toggles = sh .toggles; rules = sh .rules; levels = sh .levels; order = sh .order; block = sh .block }) (e .next) (e .feeds))
         order-end-done x =
             record {
               is = λ depth. record {

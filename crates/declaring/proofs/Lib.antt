@@ -1,3 +1,4 @@
+pub mod PhaseLaws
 pub mod RefusalLaws
 pub mod OpenedLaws
 pub mod EndLaws

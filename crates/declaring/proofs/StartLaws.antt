@@ -92,14 +92,14 @@ module _ {g : Signs} {src : List ℕ} {at : ℕ} {p : Spot} {e : LineEnd} (l : O
             record { is = λ depth. record { is = λ w number. line-foul l w sh number depth x } }
 
         pub start-done : e .text ≡ true
-            → Still g src sh at (Next (record { phase = 4; toggles = sh .toggles; rules = p .at; levels = n; order = sh .order }) (e .next) (e .feeds))
+            → Still g src sh at (Next (record { phase = 4; toggles = sh .toggles; rules = p .at; levels = n; order = sh .order; block = sh .block }) (e .next) (e .feeds))
         start-done x =
             record {
               is = λ depth. record {
                 is = λ w number. record {
                   moves = line-moves l;
                   leaves = λ cs s o d u. record {
-                    after = withOrdered (toPhase s inOrder) (record { rules = map ruleOf (ruleCodes left); lines = [] });
+                    after = withOrdered (toPhase s inOrder) (record { rules = map ruleOf (ruleCodes left); lines = []; block = [] });
                     outcome = line-accepted l w sh number o u x (fine s number (o .phase))
                         (ap (λ (r : Outcome). r .state) (at-order-start s number (bytes "order_start") left refl) ∙ start-state s left);
                     held = open-ordered g src w sh cs at s o (l .first .inside) (e .next) (p .at) n (map ruleOf (ruleCodes left)) f rules-there (started-there (are .accepted)) (l .first .to)

@@ -1,10 +1,13 @@
 // Lines in LC_COLLATE that open with order_start, order_end, END, collating-symbol or collating-element, as steps of the reader. p is the
 // spot right after that word, e the line's end. Only the two that declare write to the work area.
 ghost use mathlib.Core.Path.{_≡_};
+ghost use mathlib.Core.Bool.{_||_};
 ghost use Prim.Native.Nat.{_≤_};
 ghost use lib.ListN.{length};
+ghost use lib.Dec.{eqb};
 ghost use Rattle.rules.specs.Lines.{outside};
 ghost use Rattle.rules.specs.Tokens.{operands};
+ghost use Rattle.rules.specs.State.{beforeOrder, afterOrder};
 ghost use Rattle.tokens.specs.Left.{tokensLeft};
 ghost use Rattle.subjects.specs.Keys.{keyAt};
 ghost use Rattle.store.specs.Store.{Sound};
@@ -32,6 +35,7 @@ pub fn order_start_line(src: &[u8], g: Signs, sh: Sheet, at: usize, p: Spot, e: 
     ensures { λ r. ⌜ Still g (now (src .entry)) sh at r ⌝ }
 {
     let order = sh.order;
+    let block = sh.block;
     if sh.phase == 3 { // once
         let l = levels_of(src, g, p);
         match l {
@@ -44,6 +48,7 @@ pub fn order_start_line(src: &[u8], g: Signs, sh: Sheet, at: usize, p: Spot, e: 
                         rules: p.at,
                         levels: n,
                         order: order,
+                        block: block,
                     };
                     return Step::Next(next, e.next, e.feeds);
                 }
@@ -60,6 +65,7 @@ pub fn order_end_line(src: &[u8], g: Signs, sh: Sheet, at: usize, p: Spot, e: Li
     ensures { λ r. ⌜ Still g (now (src .entry)) sh at r ⌝ }
 {
     let order = sh.order;
+    let block = sh.block;
     if sh.phase == 4 {
         if no_operand(src, g, p) {
             if e.text {
@@ -69,6 +75,7 @@ pub fn order_end_line(src: &[u8], g: Signs, sh: Sheet, at: usize, p: Spot, e: Li
                     rules: sh.rules,
                     levels: sh.levels,
                     order: order,
+                    block: block,
                 };
                 return Step::Next(next, e.next, e.feeds);
             }
@@ -91,7 +98,7 @@ fn collate_alone(src: &[u8], g: Signs, p: Spot) -> bool
     }
 }
 
-// END LC_COLLATE, after the order and outside every chain; depth: how many are open.
+// END LC_COLLATE, after the order, outside every block and every chain; depth: how many are open.
 pub fn end_line(
     src: &[u8],
     g: Signs,
@@ -119,7 +126,20 @@ pub fn end_line(
     Step::Refused(refusal_with(e.text, 3))
 }
 
-// collating-symbol, before the order: a collating symbol is declared.
+// Whether a declaration may stand in this phase: before order_start, or after the order and outside every block.
+fn may_declare(phase: u8) -> bool
+    ensures { λ r. ⌜ r ≡ (eqb phase beforeOrder || eqb phase afterOrder) ⌝ }
+{
+    if phase == 3 {
+        return true;
+    }
+    if phase == 5 {
+        return true;
+    }
+    false
+}
+
+// collating-symbol, where a declaration may stand: a collating symbol is declared.
 pub fn symbol_step(
     src: &[u8],
     g: Signs,
@@ -133,7 +153,7 @@ pub fn symbol_step(
     requires { ⌜ Sound (keyAt g (now src)) (length (now src)) (now work) ⌝ }
     ensures { λ r. ⌜ Writes g (now (src .entry)) (now (work .entry)) sh at (now (work .exit)) r ⌝ }
 {
-    if sh.phase == 3 { // before the order
+    if may_declare(sh.phase) { // outside the order and every block
         if e.text {
             let s = symbol_line(src, g, work, p);
             match s {
@@ -146,7 +166,7 @@ pub fn symbol_step(
     Step::Refused(refusal_with(e.text, 3))
 }
 
-// collating-element, before the order: a collating element is declared.
+// collating-element, where a declaration may stand: a collating element is declared.
 pub fn element_step(
     src: &[u8],
     g: Signs,
@@ -160,7 +180,7 @@ pub fn element_step(
     requires { ⌜ Sound (keyAt g (now src)) (length (now src)) (now work) ⌝ }
     ensures { λ r. ⌜ Writes g (now (src .entry)) (now (work .entry)) sh at (now (work .exit)) r ⌝ }
 {
-    if sh.phase == 3 {
+    if may_declare(sh.phase) {
         if e.text {
             let s = element_line(src, g, work, p);
             match s {

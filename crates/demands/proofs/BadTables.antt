@@ -1,7 +1,7 @@
 -- Demand 1: "A table with no level or a weight of zero is refused": by every operation on tables, with 11, and nothing is written.
 use mathlib.Core.Path.{_≡_, refl, sym, ap, _∙_}
 use mathlib.Core.Bool.{true, false}
-use mathlib.Core.List.{List, [], _∷_, flatten}
+use mathlib.Core.List.{List, [], _∷_, map, flatten}
 use Prim.Native.Nat.{ℕ, _≤_}
 use native.Mathlib.Omega.{arith}
 use lib.ListN.{length, take}
@@ -14,7 +14,7 @@ use Rattle.rules.specs.Meaning.{Item, Meaning, goodWeights, goodItem, weightCou
 use Rattle.rules.specs.Table.{itemNumbers, weightNumbers, permutation, storedForm, meaningIn, accepted}
 use Rattle.rules.specs.Calls.{checkCall, stepCall, compareCall, keyFor, keyCall, writtenAs}
 use Rattle.rules.proofs.TextLaws.{every-head, every-tail, every-both, within-low}
-use Rattle.rules.proofs.MeaningLaws.{item-parts, good-parts}
+use Rattle.rules.proofs.MeaningLaws.{item-parts, good-parts, goodItems-weights}
 use Rattle.rules.proofs.SizeLaws.{weights-length}
 use Rattle.rules.proofs.WidthLaws.{good-range}
 use Rattle.rules.proofs.TableLaws.{rules-drop, records-drop, meaning-stored, weights-append, accepted-stored}
@@ -115,8 +115,15 @@ range-no-zero (w ∷ ws) h =
     let low = within-low 1 32768 w (every-head (within 1 32768) w ws h) in
     or-false-intro (ne-eqb 0 w (omega arith)) (range-no-zero ws (every-tail (within 1 32768) w ws h))
 
+-- the same of the weights that the records name, wherever they stand
+meaning-weights : (t : List ℕ) → accepted t ≡ true → every (every (every (within 1 32768))) (map (λ (i : Item). i .weights) (meaningIn t .items)) ≡ true
+meaning-weights t h = let g = accepted-stored t h .0 in goodItems-weights (length (meaningIn t .rules)) (meaningIn t .items) (good-parts (meaningIn t) g .items)
+
 pub no-level-refused : (t : List ℕ) → levelsStated t ≡ 0 → RefusedByAll t
 no-level-refused t h = by (accepted t) (λ p. let l = accepted-levels t p .0 in absurd (omega arith)) (unaccepted-refused t)
+
+pub bad-weight-refused : (t : List ℕ) → every (every (every (within 1 32768))) (map (λ (i : Item). i .weights) (meaningIn t .items)) ≡ false → RefusedByAll t
+bad-weight-refused t h = by (accepted t) (λ p. clash (meaning-weights t p) h) (unaccepted-refused t)
 
 pub zero-weight-refused : (t : List ℕ) → oneOf (eqb 0) (weightsStated t) ≡ true → RefusedByAll t
 zero-weight-refused t h = by (accepted t) (λ p. clash h (range-no-zero (weightsStated t) (accepted-weights t p))) (unaccepted-refused t)

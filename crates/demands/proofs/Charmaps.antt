@@ -5,13 +5,13 @@ use mathlib.Core.List.{List, [], _∷_, _++_, map, map-append, List·Memᴰ, Lis
 use Prim.Native.Nat.{ℕ, _≤_, _<_}
 use native.Mathlib.Omega.{arith}
 use lib.ListN.{length, getD, take, drop, length-map, List·getD-append}
-use lib.Dec.{ltb}
+use lib.Dec.{leb, ltb}
 use lib.Seq.{take-append-seam}
 use borrow.Author.Tests.{le-ltb}
 use Rattle.lists.proofs.Bools.{by}
 use Rattle.rules.specs.Text.{every, oneOf, within, Result, granted}
 use Rattle.rules.specs.Names.{isCharacter}
-use Rattle.rules.specs.Charmap.{Given, noCode, givesByte}
+use Rattle.rules.specs.Charmap.{Given, mapStart, mapLinesFrom, noCode, givesByte}
 use Rattle.rules.specs.Order.{goodString}
 use Rattle.rules.specs.Coding.{areaAccepted, codeAt, byteAt, encodeOf, decodeOf}
 use Rattle.rules.specs.Calls as calls
@@ -21,12 +21,16 @@ use Rattle.rules.proofs.AreaLaws.{accepted-parts, code-at}
 use Rattle.rules.proofs.CharmapLaws.{givenBy, given-good, charmap-length, charmap-none}
 use Rattle.rules.proofs.CodingLaws.{parts-decoded, decode-encode, encode-length}
 use Rattle.units.specs.declared.Refusal.the-variants.{NotMapped}
+use Rattle.units.proofs.NumberLaws.{numberOf-some}
+use Rattle.charmap.specs.declared.Mapped.{Mapped}
 use Rattle.charmap.specs.declared.Mapped.the-variants as mapped
 use Rattle.charmap.proofs.CodeLaws.{read-gives, read-accepted, read-decodes}
 use Rattle.coding.specs.declared.Coded.{Coded}
 use Rattle.coding.specs.declared.Coded.the-variants as coded
 use Rattle.coding.proofs.AnswerLaws.{writtenIs-unique}
-use Rattle.demands.specs.Answered.{Reads, Decodes, Encodes}
+use Rattle.demands.specs.Answered.{Reads, Decodes, Encodes, firstGiven}
+use Rattle.demands.proofs.InOrder.{read-refusal}
+use Rattle.demands.proofs.OneOrder.{refusal-in}
 
 -- what `decode` answers and leaves where the definition grants a text
 decode-granted : (area bs room text : List ℕ) (r : Coded) (room₁ : List ℕ) → decodeOf area bs (length room) ≡ granted text → Decodes area bs room r room₁
@@ -43,6 +47,13 @@ byteOf g = g .byte
 
 abbrev pub codeOf : Given → ℕ
 codeOf g = g .code
+
+-- a charmap in which no ground for a refusal stands is read
+pub all-read : (src area : List ℕ) (r : Mapped) (area₁ : List ℕ) → Reads src area r area₁ → leb (length src) 1048576 ≡ true
+    → mapLinesFrom mapStart 1 0 src .refusal ≡ 0 → leb 512 (length area) ≡ true → r ≡ mapped.Done
+unfolding firstGiven
+all-read src area mapped.Done area₁ e a b c = refl
+all-read src area (mapped.Refused x l) area₁ e a b c = absurd (numberOf-some x (rw (a, b, c) at (read-refusal src area (mapped.Refused x l) area₁ e)))
 
 module _ (src area area₁ : List ℕ) (e : Reads src area mapped.Done area₁) where
   long : 512 ≤ length area₁
@@ -89,7 +100,7 @@ module _ (src area area₁ : List ℕ) (e : Reads src area mapped.Done area₁) 
       rw (map-append (codeAt area₁) xs (b ∷ ys), every-append isCharacter (map (codeAt area₁) xs) (map (codeAt area₁) (b ∷ ys)), h)
       (and-false (every isCharacter (map (codeAt area₁) xs)))
 
-  -- a text with a byte that no entry gives is refused by 14
+  -- a text of at most 4,096 bytes with one that no entry gives is refused by 14
   pub read-then-refuse : (xs ys : List ℕ) (b : ℕ) (room : List ℕ) (r : Coded) (room₁ : List ℕ) → b < 256 → oneOf (givesByte b) (givenBy src) ≡ false
       → length (xs ++ b ∷ ys) ≤ 4096 → Decodes area₁ (xs ++ b ∷ ys) room r room₁ → r ≡ coded.Refused NotMapped
   unfolding decodeCall decodeOf writtenAs
@@ -104,9 +115,6 @@ record Encoding (area s room room₁ : List ℕ) (n : ℕ) : Type 0 where
   bytes : List ℕ
   grants : encodeOf area s (length room) ≡ granted bytes
   there : take n room₁ ≡ bytes
-
-refusal-in : {x y : calls.Written} → x ≡ y → x .refusal ≡ y .refusal
-refusal-in e = ap (λ (m : calls.Written). m .refusal) e
 
 encode-gives : (area s room room₁ : List ℕ) (n : ℕ) → Encodes area s room (coded.Written n) room₁ → Encoding area s room room₁ n
 unfolding encodeCall encodeOf writtenAs

@@ -8,12 +8,12 @@ use lib.ListN.{length}
 use lib.Dec.{eqb, leb, ltb}
 use borrow.Author.Tests.{ltb-true, ltb-false, le-leb, lt-leb}
 use Rattle.lists.proofs.Bools.{by}
-use Rattle.rules.specs.Text.{_unless_, within, every}
+use Rattle.rules.specs.Text.{if_then_else_, _unless_, within, every}
 use Rattle.rules.specs.Names.{isCharacter}
 use Rattle.rules.specs.Meaning.{sizeOf}
 use Rattle.rules.specs.State.{start}
 use Rattle.rules.specs.Source.{Ended, linesFrom}
-use Rattle.rules.specs.Compile.{isRanked, meaningOf, finish, compileOf}
+use Rattle.rules.specs.Compile.{isRanked, unranked, meaningOf, finish, compileOf}
 use Rattle.rules.specs.Order.{goodString, keyOf}
 use Rattle.rules.specs.Table.{accepted, meaningIn}
 use Rattle.rules.specs.Charmap.{MapEnded, mapStart, mapLinesFrom, charmapOf}
@@ -34,7 +34,7 @@ use Rattle.charmap.specs.declared.Mapped.{Mapped}
 use Rattle.coding.specs.Answers.{numberIs, writtenIs}
 use Rattle.coding.specs.declared.AreaVerdict.{AreaVerdict}
 use Rattle.coding.specs.declared.Coded.{Coded}
-use Rattle.demands.specs.Answered.{Compiles, Checks, Steps, Compares, Keys, Reads, ChecksArea, Decodes, Encodes, first}
+use Rattle.demands.specs.Answered.{Compiles, Checks, Steps, Compares, Keys, Reads, ChecksArea, Decodes, Encodes, firstGiven}
 
 -- the two ways to say that n is not above m
 not-above : (n m : ℕ) → leb n m ≡ not (ltb m n)
@@ -42,20 +42,20 @@ not-above n m = by (ltb m n) (λ t. rw t (lt-leb n m (ltb-true m n t))) (λ t. r
 
 -- ## Tables
 
-pub check-refusal : (t : List ℕ) (r : Verdict) → Checks t r → checkedAs r .refusal ≡ first (11 unless accepted t ∷ [])
-unfolding checkCall first
+pub check-refusal : (t : List ℕ) (r : Verdict) → Checks t r → checkedAs r .refusal ≡ firstGiven (11 unless accepted t ∷ [])
+unfolding checkCall firstGiven
 check-refusal t r e = ap (λ (c : calls.Checked). c .refusal) e ∙ by (accepted t) (λ p. rw p) (λ p. rw p)
 
-pub step-refusal : (t s : List ℕ) (at : ℕ) (r : Stepping) → Steps t s at r → steppedAs r .refusal ≡ first (11 unless accepted t ∷ 12 unless goodString s ∷ [])
-unfolding stepCall first
+pub step-refusal : (t s : List ℕ) (at : ℕ) (r : Stepping) → Steps t s at r → steppedAs r .refusal ≡ firstGiven (11 unless accepted t ∷ 12 unless goodString s ∷ [])
+unfolding stepCall firstGiven
 step-refusal t s at r e =
     ap (λ (c : calls.Stepped). c .refusal) e
     ∙ by (accepted t) (λ p. by (goodString s) (λ q. rw (p, q)) (λ q. rw (p, q))) (λ p. rw p)
 
 -- "the first string before the second"
 pub compare-refusal : (t a b : List ℕ) (r : Comparison) → Compares t a b r
-    → comparedAs r .refusal ≡ first (11 unless accepted t ∷ 12 unless goodString a ∷ 12 unless goodString b ∷ [])
-unfolding compareCall first
+    → comparedAs r .refusal ≡ firstGiven (11 unless accepted t ∷ 12 unless goodString a ∷ 12 unless goodString b ∷ [])
+unfolding compareCall firstGiven
 compare-refusal t a b r e =
     ap (λ (c : calls.Compared). c .refusal) e
     ∙ by (accepted t)
@@ -63,8 +63,8 @@ compare-refusal t a b r e =
     (λ p. rw p)
 
 pub key-refusal : (t s room : List ℕ) (r : Keyed) (room₁ : List ℕ) → Keys t s room r room₁
-    → keyedAs r room₁ .refusal ≡ first (11 unless accepted t ∷ 12 unless goodString s ∷ 13 unless leb (length (keyOf (meaningIn t) s)) (length room) ∷ [])
-unfolding keyCall keyFor writtenAs first
+    → keyedAs r room₁ .refusal ≡ firstGiven (11 unless accepted t ∷ 12 unless goodString s ∷ 13 unless leb (length (keyOf (meaningIn t) s)) (length room) ∷ [])
+unfolding keyCall keyFor writtenAs firstGiven
 key-refusal t s room r room₁ e =
     ap (λ (c : calls.Written). c .refusal) e
     ∙ by (accepted t)
@@ -76,15 +76,15 @@ key-refusal t s room r room₁ e =
 
 -- ## Charmap areas
 
-pub area-refusal : (area : List ℕ) (r : AreaVerdict) → ChecksArea area r → numberIs r ≡ first (11 unless areaAccepted area ∷ [])
-unfolding areaCall first
-area-refusal area r e = e ∙ by (areaAccepted area) (λ p. rw p) (λ p. rw p)
+pub check-area-refusal : (area : List ℕ) (r : AreaVerdict) → ChecksArea area r → numberIs r ≡ firstGiven (11 unless areaAccepted area ∷ [])
+unfolding areaCall firstGiven
+check-area-refusal area r e = e ∙ by (areaAccepted area) (λ p. rw p) (λ p. rw p)
 
 pub decode-refusal : (area bs room : List ℕ) (r : Coded) (room₁ : List ℕ) → Decodes area bs room r room₁
     → writtenIs r room₁ .refusal
-    ≡ first (11 unless areaAccepted area ∷ 12 unless leb (length bs) 4096 ∷ 14 unless every isCharacter (map (codeAt area) bs)
+    ≡ firstGiven (11 unless areaAccepted area ∷ 12 unless leb (length bs) 4096 ∷ 14 unless every isCharacter (map (codeAt area) bs)
     ∷ 13 unless leb (length (map (codeAt area) bs)) (length room) ∷ [])
-unfolding decodeCall decodeOf writtenAs first
+unfolding decodeCall decodeOf writtenAs firstGiven
 decode-refusal area bs room r room₁ e =
     let text : List ℕ = map (codeAt area) bs in
     ap (λ (c : calls.Written). c .refusal) e
@@ -99,9 +99,9 @@ decode-refusal area bs room r room₁ e =
 
 pub encode-refusal : (area s room : List ℕ) (r : Coded) (room₁ : List ℕ) → Encodes area s room r room₁
     → writtenIs r room₁ .refusal
-    ≡ first (11 unless areaAccepted area ∷ 12 unless goodString s ∷ 14 unless every (within 0 255) (map (byteAt area) s)
+    ≡ firstGiven (11 unless areaAccepted area ∷ 12 unless goodString s ∷ 14 unless every (within 0 255) (map (byteAt area) s)
     ∷ 13 unless leb (length (map (byteAt area) s)) (length room) ∷ [])
-unfolding encodeCall encodeOf writtenAs first
+unfolding encodeCall encodeOf writtenAs firstGiven
 encode-refusal area s room r room₁ e =
     let bs : List ℕ = map (byteAt area) s in
     ap (λ (c : calls.Written). c .refusal) e
@@ -114,12 +114,13 @@ encode-refusal area s room r room₁ e =
     (λ q. rw (p, q)))
     (λ p. rw p))
 
--- ## Sources: "1 comes first. Then lines in order; .. Then 8, by line, then 9."
+-- ## Sources: "1 comes first. Then lines in order; within one joined line the lowest number wins. Then 8, by line, then 9." The order among lines, and the
+-- lowest of a line, are those of `linesFrom` and `mapLinesFrom` in Rattle.rules.specs.
 
 pub read-refusal : (src area : List ℕ) (r : Mapped) (area₁ : List ℕ) → Reads src area r area₁
     → readAs r area₁ .refusal
-    ≡ first (1 unless leb (length src) 1048576 ∷ mapLinesFrom mapStart 1 0 src .refusal ∷ 9 unless leb 512 (length area) ∷ [])
-unfolding charmapCall charmapOf mappedAs first
+    ≡ firstGiven (1 unless leb (length src) 1048576 ∷ mapLinesFrom mapStart 1 0 src .refusal ∷ 9 unless leb 512 (length area) ∷ [])
+unfolding charmapCall charmapOf mappedAs firstGiven
 read-refusal src area r area₁ e =
     let m : MapEnded = mapLinesFrom mapStart 1 0 src in
     ap (λ (c : calls.Mapped). c .refusal) e
@@ -133,9 +134,9 @@ read-refusal src area r area₁ e =
 pub compile-refusal : (src area work : List ℕ) (r : Compiled) (area₁ work₁ : List ℕ) → Compiles src area work r area₁ work₁
     → let e : Ended = linesFrom start 1 0 src in
     toldAs r area₁ work₁ .refusal
-    ≡ first (1 unless (leb (length src) 1048576 && leb (length src + 64) (length work)) ∷ e .refusal
+    ≡ firstGiven (1 unless (leb (length src) 1048576 && leb (length src + 64) (length work)) ∷ e .refusal
     ∷ 8 unless every (isRanked (e .state .ordered .lines)) (e .state .ordered .lines) ∷ 9 unless leb (sizeOf (meaningOf (e .state))) (length area) ∷ [])
-unfolding compileCall compileOf finish compiledAs first
+unfolding compileCall compileOf finish compiledAs firstGiven
 compile-refusal src area work r area₁ work₁ h =
     let e : Ended = linesFrom start 1 0 src in
     let ls = e .state .ordered .lines in
@@ -148,3 +149,42 @@ compile-refusal src area work r area₁ work₁ h =
     (λ k. rw (p, q, k)))
     (λ q. rw (p, q)))
     (λ p. rw p))
+
+-- ## "A refusal carries the number of the first physical line, 0 for 1, 9 and 11 to 14"
+
+pub read-line : (src area : List ℕ) (r : Mapped) (area₁ : List ℕ) → Reads src area r area₁
+    → readAs r area₁ .line
+    ≡ (if not (leb (length src) 1048576) then 0
+    else if not (eqb (mapLinesFrom mapStart 1 0 src .refusal) 0) then mapLinesFrom mapStart 1 0 src .line
+    else 0)
+unfolding charmapCall charmapOf mappedAs
+read-line src area r area₁ e =
+    let m : MapEnded = mapLinesFrom mapStart 1 0 src in
+    ap (λ (c : calls.Mapped). c .line) e
+    ∙ rw (not-above (length src) 1048576)
+    (by (ltb 1048576 (length src))
+    (λ p. rw p)
+    (λ p. by (eqb (m .refusal) 0)
+    (λ q. by (ltb (length area) 512) (λ k. rw (p, q, k)) (λ k. rw (p, q, k)))
+    (λ q. rw (p, q))))
+
+-- 8 carries that of the line with such a weight
+pub compile-line : (src area work : List ℕ) (r : Compiled) (area₁ work₁ : List ℕ) → Compiles src area work r area₁ work₁
+    → let e : Ended = linesFrom start 1 0 src in
+    toldAs r area₁ work₁ .line
+    ≡ (if not (leb (length src) 1048576 && leb (length src + 64) (length work)) then 0
+    else if not (eqb (e .refusal) 0) then e .line
+    else if not (every (isRanked (e .state .ordered .lines)) (e .state .ordered .lines)) then unranked (e .state .ordered .lines) (e .state .ordered .lines)
+    else 0)
+unfolding compileCall compileOf finish compiledAs
+compile-line src area work r area₁ work₁ h =
+    let e : Ended = linesFrom start 1 0 src in
+    let ls = e .state .ordered .lines in
+    ap (λ (c : calls.Compiled). c .line) h
+    ∙ by (leb (length src) 1048576 && leb (length src + 64) (length work))
+    (λ p. by (eqb (e .refusal) 0)
+    (λ q. by (every (isRanked ls) ls)
+    (λ k. by (ltb (length area) (sizeOf (meaningOf (e .state)))) (λ z. rw (p, q, k, z)) (λ z. rw (p, q, k, z)))
+    (λ k. rw (p, q, k)))
+    (λ q. rw (p, q)))
+    (λ p. rw p)

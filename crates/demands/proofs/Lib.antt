@@ -1,4 +1,5 @@
 pub mod Contracts
+pub mod Exported
 pub mod OneAnswer
 pub mod InOrder
 pub mod Untouched

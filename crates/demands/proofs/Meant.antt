@@ -1,5 +1,5 @@
 -- Demand 2: "The compiled table means what 01 says the source means: each element, level, weight." Of every area that `compile` leaves where it answers Done.
-use mathlib.Core.Path.{_≡_, sym, ap, _∙_}
+use mathlib.Core.Path.{_≡_, refl, sym, ap, _∙_}
 use mathlib.Core.Bool.{true, not, _&&_}
 use mathlib.Core.List.{List}
 use Prim.Native.Nat.{ℕ, _+_, _≤_}
@@ -13,16 +13,15 @@ use Rattle.rules.specs.Compile.{isRanked, meaningOf, finish, compileOf}
 use Rattle.rules.specs.Table.{meaningIn, accepted}
 use Rattle.rules.specs.Calls.{checkCall}
 use Rattle.rules.proofs.ResultLaws.{granted-unique, granted-else, granted-then}
+use Rattle.units.proofs.NumberLaws.{numberOf-some}
+use Rattle.compile.specs.declared.Compiled.{Compiled}
 use Rattle.compile.specs.declared.Compiled.the-variants as compiled
 use Rattle.compile.proofs.CodeLaws.{compile-gives, compile-accepted, compile-means}
 use Rattle.table.specs.Answers.{checkedAs}
 use Rattle.table.specs.declared.Verdict.{Verdict}
-use Rattle.demands.specs.Answered.{Compiles, Checks, levelsStated, weightsStated}
+use Rattle.demands.specs.Answered.{Compiles, Checks, sourceMeaning, levelsStated, weightsStated, firstGiven}
+use Rattle.demands.proofs.InOrder.{compile-refusal}
 use Rattle.demands.proofs.BadTables.{accepted-weights, accepted-levels}
-
--- what 01 says that a source means: of the state that its lines leave, the levels with their rules and the items in order
-abbrev pub sourceMeaning : List ℕ → Meaning
-sourceMeaning src = meaningOf (linesFrom start 1 0 src .state)
 
 granted-meaning : (src : List ℕ) (area work : ℕ) (m : Meaning) → compileOf src area work ≡ granted m → m ≡ sourceMeaning src
 unfolding compileOf finish
@@ -33,6 +32,16 @@ granted-meaning src area work m h =
     let three = granted-else (not (every (isRanked (e .state .ordered .lines)) (e .state .ordered .lines))) _ _ (two .1) in
     let four = granted-else (ltb area (sizeOf (meaningOf (e .state)))) _ _ (three .1) in
     sym (granted-unique (four .1))
+
+-- a source in which no ground for a refusal stands is compiled
+pub all-compiled : (src area work : List ℕ) (r : Compiled) (area₁ work₁ : List ℕ) → Compiles src area work r area₁ work₁
+    → leb (length src) 1048576 && leb (length src + 64) (length work) ≡ true → linesFrom start 1 0 src .refusal ≡ 0
+    → every (isRanked (linesFrom start 1 0 src .state .ordered .lines)) (linesFrom start 1 0 src .state .ordered .lines) ≡ true
+    → leb (sizeOf (sourceMeaning src)) (length area) ≡ true → (n : ℕ) × (r ≡ compiled.Done n)
+unfolding firstGiven
+all-compiled src area work (compiled.Done n) area₁ work₁ e a b c d = (n, refl)
+all-compiled src area work (compiled.Refused x l) area₁ work₁ e a b c d =
+    absurd (numberOf-some x (rw (a, b, c, d) at (compile-refusal src area work (compiled.Refused x l) area₁ work₁ e)))
 
 module _ (src area work area₁ work₁ : List ℕ) (n : ℕ) (e : Compiles src area work (compiled.Done n) area₁ work₁) where
   -- it is accepted, by every operation on tables

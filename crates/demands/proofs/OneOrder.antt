@@ -3,12 +3,12 @@
 -- What `compare` decides, and what `key` writes; then a law for each part of the sentence.
 use mathlib.Core.Path.{_≡_, refl, sym, ap, _∙_}
 use mathlib.Core.Logic.{_↔_}
-use mathlib.Core.Bool.{true, not, _&&_}
+use mathlib.Core.Bool.{true, _&&_}
 use mathlib.Core.List.{List}
 use Prim.Native.Nat.{ℕ, suc, _+_, _≤_}
 use native.Mathlib.Omega.{arith}
 use lib.ListN.{length, take, drop}
-use lib.Dec.{ltb}
+use lib.Dec.{leb, ltb}
 use lib.Seq.{take-append-seam}
 use Rattle.lists.proofs.Bools.{by, and-left, and-right}
 use Rattle.rules.specs.Meaning.{good}
@@ -27,8 +27,10 @@ use Rattle.order.specs.Answers.{answerAs}
 use Rattle.order.specs.declared.Answer.{Answer}
 use Rattle.order.specs.declared.Comparison.{Comparison}
 use Rattle.order.specs.declared.Comparison.the-variants as comparison
+use Rattle.keys.specs.declared.Keyed.{Keyed}
 use Rattle.keys.specs.declared.Keyed.the-variants as keyed
-use Rattle.demands.specs.Answered.{Compares, Keys}
+use Rattle.demands.specs.Answered.{Compares, Keys, firstGiven}
+use Rattle.demands.proofs.InOrder.{key-refusal}
 
 -- ## The published rule
 
@@ -73,7 +75,7 @@ pub record Writes (t s room room₁ : List ℕ) (n : ℕ) : Type 0 where
   pub long : n ≡ length (keyOf (meaningIn t) s)
   pub there : room₁ ≡ over (keyOf (meaningIn t) s) room
 
-refusal-in : {x y : calls.Written} → x ≡ y → x .refusal ≡ y .refusal
+pub refusal-in : {x y : calls.Written} → x ≡ y → x .refusal ≡ y .refusal
 refusal-in e = ap (λ (m : calls.Written). m .refusal) e
 
 pub key-is-rule : (t s room room₁ : List ℕ) (n : ℕ) → Keys t s room (keyed.Written n) room₁ → Writes t s room room₁ n
@@ -87,6 +89,13 @@ key-is-rule t s room room₁ n e =
     record { checked = p; string = q; long = ap (λ (c : calls.Written). c .size) z; there = ap (λ (c : calls.Written). c .room) z }))
     (λ q. let k = refusal-in (rw (p, q) at e) in absurd (omega arith)))
     (λ p. let k = refusal-in (rw p at e) in absurd (omega arith))
+
+-- a string of an accepted table gets its key, in any room that holds it
+pub all-keyed : (t s room : List ℕ) (r : Keyed) (room₁ : List ℕ) → Keys t s room r room₁ → accepted t ≡ true → goodString s ≡ true
+    → leb (length (keyOf (meaningIn t) s)) (length room) ≡ true → (n : ℕ) × (r ≡ keyed.Written n)
+unfolding firstGiven
+all-keyed t s room (keyed.Written n) room₁ e a b c = (n, refl)
+all-keyed t s room (keyed.Refused x) room₁ e a b c = absurd (numberOf-some x (rw (a, b, c) at (key-refusal t s room (keyed.Refused x) room₁ e)))
 
 -- the bytes that a call left in its room
 pub key-left : {t s room room₁ : List ℕ} {n : ℕ} → Writes t s room room₁ n → take n room₁ ≡ keyOf (meaningIn t) s
@@ -134,9 +143,9 @@ third-follows t a b c x y z e f g =
     (compare-follows (meaningIn t) a b c)
 
 -- transitive: what is not greater than what is not greater is not greater
-pub transitive : (t a b c : List ℕ) (x y z : Answer) → Compares t a b (comparison.Decided x) → Compares t b c (comparison.Decided y)
+pub compare-transitive : (t a b c : List ℕ) (x y z : Answer) → Compares t a b (comparison.Decided x) → Compares t b c (comparison.Decided y)
     → Compares t a c (comparison.Decided z) → ¬ (signOf (x .sign) ≡ greater) → ¬ (signOf (y .sign) ≡ greater) → ¬ (signOf (z .sign) ≡ greater)
-transitive t a b c x y z e f g =
+compare-transitive t a b c x y z e f g =
     follows-not-greater (signOf (x .sign)) (signOf (y .sign)) (signOf (z .sign)) (third-follows t a b c x y z e f g)
 
 -- ## "equal only if identical"
@@ -156,7 +165,7 @@ level-none t a b d e =
 pub level-last : (t a b : List ℕ) (d : Answer) → Compares t a b (comparison.Decided d) → d .level ≤ length (meaningIn t .rules) + 1
 level-last t a b d e = rw (level-of (compare-is-rule t a b d e .rule)) (compare-level-le (meaningIn t) a b)
 
--- any other is the first where the two lists of entries differ: those before it are alike, and it has the sign
+-- any other is the first where the two lists of entries differ: those before it are alike, and it has the sign, which is not equal then (`level-none`)
 pub level-decides : (t a b : List ℕ) (d : Answer) (n : ℕ) → Compares t a b (comparison.Decided d) → d .level ≡ suc n
     → Decided n (entryLists (meaningIn t) a) (entryLists (meaningIn t) b) (answerAs d)
 level-decides t a b d n e l =

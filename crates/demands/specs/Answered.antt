@@ -6,6 +6,10 @@ use Prim.Native.Nat.{ℕ, _+_, _*_}
 use lib.ListN.{getD, take, drop}
 use lib.Dec.{eqb}
 use Rattle.rules.specs.Text.{if_then_else_}
+use Rattle.rules.specs.Meaning.{Meaning}
+use Rattle.rules.specs.State.{start}
+use Rattle.rules.specs.Source.{linesFrom}
+use Rattle.rules.specs.Compile.{meaningOf}
 use Rattle.rules.specs.Calls.{compileCall, checkCall, stepCall, compareCall, keyCall, charmapCall, areaCall, decodeCall, encodeCall}
 use Rattle.compile.specs.Answers.{toldAs}
 use Rattle.compile.specs.declared.Compiled.{Compiled}
@@ -60,6 +64,12 @@ Decodes area bs room r room₁ = writtenIs r room₁ ≡ decodeCall area bs room
 abbrev pub Encodes : (area s room : List ℕ) → Coded → (room₁ : List ℕ) → Type 0
 Encodes area s room r room₁ = writtenIs r room₁ ≡ encodeCall area s room
 
+-- ## What a source means
+
+-- of the state that its lines leave, the levels with their rules and the items in order
+abbrev pub sourceMeaning : List ℕ → Meaning
+sourceMeaning src = meaningOf (linesFrom start 1 0 src .state)
+
 -- ## What stands in a table (docs/TABLE.md)
 
 -- how many levels it states
@@ -73,6 +83,6 @@ weightsStated t = take (getD t 2 0) (drop (getD t 1 0 * (6 + getD t 0 0)) (drop 
 -- ## Refusals in an order
 
 -- the first of them, each being 0 where it is not given; 0 where none is
-unfoldable pub first : List ℕ → ℕ
-first [] = 0
-first (n ∷ ns) = if eqb n 0 then first ns else n
+unfoldable pub firstGiven : List ℕ → ℕ
+firstGiven [] = 0
+firstGiven (n ∷ ns) = if eqb n 0 then firstGiven ns else n

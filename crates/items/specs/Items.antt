@@ -7,7 +7,7 @@ use Prim.Native.Nat.{ℕ, _*_, _/_, _≤_}
 use lib.ListN.{length}
 use lib.Dec.{eqb, leb}
 use Rattle.lists.proofs.Lists.{All}
-use Rattle.rules.specs.Text.{if_then_else_, every}
+use Rattle.rules.specs.Text.{if_then_else_, every, lower}
 use Rattle.rules.specs.Names.{charShaped}
 use Rattle.rules.specs.Meaning.{Item, item, weightCount}
 use Rattle.rules.specs.State.{Subject}
@@ -46,12 +46,12 @@ itemsOf g src w levels f (v ∷ vs) =
 unfoldable pub isWeighed : Signs → List ℕ → List ℕ → ℕ → (Subject → ℕ) → ℕ → Bool
 isWeighed g src w levels f v = every (every (leb 1)) (itemRanks g src w v levels f)
 
--- the number of the first line with a weight that has none; 0 for no such line
+-- of the lines with a weight that has none, the number of the one that was written first; 0 for no such line
 unfoldable pub unweighed : Signs → List ℕ → List ℕ → ℕ → (Subject → ℕ) → List ℕ → ℕ
 unweighed g src w levels f [] = 0
 unweighed g src w levels f (v ∷ vs) =
     let r : ℕ = unweighed g src w levels f vs in
-    if isWeighed g src w levels f v then r else cell w v lineNumber
+    if isWeighed g src w levels f v then r else lower (cell w v lineNumber) r
 
 -- ## What is asked and given
 
@@ -79,7 +79,7 @@ pub record WholeSums (g : Signs) (src w : List ℕ) (o : Order) (levels items we
   pub few-items : items ≤ o .count
   pub few-weights : weights ≤ 64 * items
 
--- Some weight has none, and the first line with one has this number.
+-- Some weight has none, and of the lines with such a weight the one that was written first has this number.
 pub record UnrankedAt (g : Signs) (src w : List ℕ) (o : Order) (levels line : ℕ) : Type 0 where
   pub unweighed-some : (vs : List ℕ) → Lines w o vs → (n : ℕ) (ds : List Decl) → Holds (keyAt g src) (length src) w n ds
       → every (isWeighed g src w levels (rankIn w ds)) vs ≡ false

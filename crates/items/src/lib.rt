@@ -1,10 +1,14 @@
 // The items that the order lines give: which lines give one; how many there are, and their weights; and all of them written into a table's area.
 ghost use mathlib.Core.Path.{_≡_};
+ghost use mathlib.Core.Bool.{_&&_};
 ghost use lib.ListN.{length};
-ghost use Prim.Native.Nat.{_/_, _≤_, _<_};
+ghost use Prim.Native.Nat.{_+_, _*_, _/_, _≤_, _<_};
+ghost use Rattle.rules.specs.Text.{if_then_else_, lower};
 ghost use Rattle.rules.specs.Names.{charShaped};
 ghost use Rattle.names.specs.Named.{nameLeft};
+ghost use Rattle.rows.specs.Cells.{cell};
 ghost use Rattle.subjects.specs.Keys.{nameSpot};
+ghost use Rattle.listed.specs.Listed.{lineNumber};
 ghost use Rattle.writes.specs.Writing.{CharsReady};
 ghost use Rattle.items.specs.Items.{isItem, LinesReady, SumsAre};
 ghost use Rattle.items.specs.Filling.{Fillable, Filled};
@@ -17,7 +21,8 @@ use ranks::measure_item;
 use rows::told;
 use writes::write_item;
 
-// What the order lines give: how many items and weights there are; or the number of the first line with a weight that has no rank.
+// What the order lines give: how many items and weights there are; or, of the lines with a weight that has no rank, the number of the one that was
+// written first.
 pub enum Sums {
     Whole(usize, usize),
     Unranked(usize),
@@ -67,7 +72,44 @@ pub fn is_item(src: &[u8], g: Signs, work: &[u32], mark: usize) -> bool
     is_shaped(src, g, mark)
 }
 
-// The items and weights of all order lines, once each has its rank.
+fn both(a: bool, b: bool) -> bool
+    ensures { λ r. ⌜ r ≡ (a && b) ⌝ }
+{
+    if a {
+        return b;
+    }
+    false
+}
+
+// The lower of two line numbers, 0 being none.
+fn lower_line(a: usize, b: usize) -> usize
+    ensures { λ r. ⌜ r ≡ lower a b ⌝ }
+{
+    if a == 0 {
+        return b;
+    }
+    if b == 0 {
+        return a;
+    }
+    if a < b {
+        return a;
+    }
+    b
+}
+
+// The least number of a line with a weight that has no rank, after one line more; 0 being none.
+fn least_line(work: &[u32], mark: usize, ranked: bool, line: usize) -> usize
+    requires { ⌜ 8 * (mark / 16) + 8 ≤ length (now work) ⌝ }
+    ensures { λ r. ⌜ r ≡ (if ranked then line else lower line (cell (now (work .entry)) mark lineNumber)) ⌝ }
+{
+    if ranked {
+        return line;
+    }
+    lower_line(line, wide(told(work, mark, 1)))
+}
+
+// The items and weights of all order lines, once each has its rank. The lines stand in the order of their ranks, so all are passed to find the
+// one that was written first.
 pub fn measure_lines(src: &[u8], g: Signs, work: &[u32], o: Order, levels: usize) -> Sums
     requires { ⌜ LinesReady g (now src) (now work) o levels ⌝ }
     ensures { λ r. ⌜ SumsAre g (now (src .entry)) (now (work .entry)) o levels r ⌝ }
@@ -76,20 +118,23 @@ pub fn measure_lines(src: &[u8], g: Signs, work: &[u32], o: Order, levels: usize
     let mut left = o.count;
     let mut items: usize = 0;
     let mut weights: usize = 0;
+    let mut whole = true;
+    let mut line: usize = 0;
     while 0 < left {
         let m = measure_item(src, g, work, v, levels);
-        if m.ranked {
-            if is_item(src, g, work, v) {
-                items += 1;
-                weights += m.weights;
-            }
-        } else {
-            return Sums::Unranked(wide(told(work, v, 1)));
+        whole = both(whole, m.ranked);
+        line = least_line(work, v, m.ranked, line);
+        if is_item(src, g, work, v) {
+            items += 1;
+            weights += m.weights;
         }
         v = wide(told(work, v, 3));
         left -= 1;
     }
-    Sums::Whole(items, weights)
+    if whole {
+        return Sums::Whole(items, weights);
+    }
+    Sums::Unranked(line)
 }
 
 // The items in the order of their lines, written: their records from one place on, their weights from another.

@@ -9,7 +9,7 @@ use Rattle.rules.specs.Tokens.{Token}
 use Rattle.rules.specs.State.{State, gives}
 use Rattle.rules.specs.Conditionals.{defineLine, ifLine, elifLine, elseLine, endifLine}
 use Rattle.rules.specs.Declarations.{symbolLine, elementLine}
-use Rattle.rules.specs.OrderLines.{orderStartLine}
+use Rattle.rules.specs.OrderLines.{orderStartLine, reorderAfterLine, reorderEndLine}
 use Rattle.rules.specs.Source.{orderEndLine, endLine, collateLine}
 use Rattle.keywords.specs.declared.Keyword.{Keyword}
 use Rattle.keywords.specs.declared.Keyword.the-variants as key
@@ -37,6 +37,8 @@ later-keyword w n key.Element h = h
 later-keyword w n key.OrderStart h = h
 later-keyword w n key.OrderEnd h = h
 later-keyword w n key.Undefined h = h
+later-keyword w n key.ReorderAfter h = h
+later-keyword w n key.ReorderEnd h = h
 later-keyword w n key.End h = h
 later-keyword w n key.Other h = record { conditional = n; later = h }
 
@@ -87,6 +89,14 @@ module _ (s : State) (number : ℕ) (w : List ℕ) (ts : List Token) where
   unfolding collateLine is same bytes
   at-order-end e = rw e
 
+  pub at-reorder-after : KeywordIs w key.ReorderAfter → collateLine s number w ts ≡ reorderAfterLine s ts
+  unfolding collateLine is same bytes
+  at-reorder-after e = rw e
+
+  pub at-reorder-end : KeywordIs w key.ReorderEnd → collateLine s number w ts ≡ reorderEndLine s ts
+  unfolding collateLine is same bytes
+  at-reorder-end e = rw e
+
   pub at-end : KeywordIs w key.End → collateLine s number w ts ≡ endLine s ts
   unfolding collateLine is same bytes
   at-end e = rw e
@@ -109,5 +119,7 @@ module _ (s : State) (number : ℕ) (w : List ℕ) (ts : List Token) where
         l .no-order-start,
         l .no-order-end,
         l .no-undefined,
+        l .no-reorder-after,
+        l .no-reorder-end,
         l .no-end,
       )

@@ -24,6 +24,8 @@ pub record NotLater (w : List ℕ) : Type 0 where
   pub no-order-start : is w "order_start" ≡ false
   pub no-order-end : is w "order_end" ≡ false
   pub no-undefined : is w "UNDEFINED" ≡ false
+  pub no-reorder-after : is w "reorder-after" ≡ false
+  pub no-reorder-end : is w "reorder-end" ≡ false
   pub no-end : is w "END" ≡ false
 
 -- The word is no keyword.
@@ -45,6 +47,8 @@ KeywordIs w key.Element = w ≡ bytes "collating-element"
 KeywordIs w key.OrderStart = w ≡ bytes "order_start"
 KeywordIs w key.OrderEnd = w ≡ bytes "order_end"
 KeywordIs w key.Undefined = w ≡ bytes "UNDEFINED"
+KeywordIs w key.ReorderAfter = w ≡ bytes "reorder-after"
+KeywordIs w key.ReorderEnd = w ≡ bytes "reorder-end"
 KeywordIs w key.End = w ≡ bytes "END"
 KeywordIs w key.Other = NoKeyword w
 
@@ -62,5 +66,7 @@ LaterIs w key.Element = w ≡ bytes "collating-element"
 LaterIs w key.OrderStart = w ≡ bytes "order_start"
 LaterIs w key.OrderEnd = w ≡ bytes "order_end"
 LaterIs w key.Undefined = w ≡ bytes "UNDEFINED"
+LaterIs w key.ReorderAfter = w ≡ bytes "reorder-after"
+LaterIs w key.ReorderEnd = w ≡ bytes "reorder-end"
 LaterIs w key.End = w ≡ bytes "END"
 LaterIs w key.Other = NotLater w

@@ -22,6 +22,8 @@ pub enum Keyword {
     OrderStart,
     OrderEnd,
     Undefined,
+    ReorderAfter,
+    ReorderEnd,
     End,
     Other,
 }
@@ -45,6 +47,12 @@ fn later_at(src: &[u8], g: Signs, p: Spot) -> Keyword
     }
     if word_is(src, g, p, b"UNDEFINED") {
         return Keyword::Undefined;
+    }
+    if word_is(src, g, p, b"reorder-after") {
+        return Keyword::ReorderAfter;
+    }
+    if word_is(src, g, p, b"reorder-end") {
+        return Keyword::ReorderEnd;
     }
     if word_is(src, g, p, b"END") {
         return Keyword::End;

@@ -137,6 +137,6 @@ start-elsewhere s os h =
 
 -- the state that it gives
 pub start-state : (s : State) (os : List Token)
-    → orderStartLine s os .state ≡ withOrdered (toPhase s inOrder) (record { rules = map ruleOf (ruleCodes os); lines = [] })
+    → orderStartLine s os .state ≡ withOrdered (toPhase s inOrder) (record { rules = map ruleOf (ruleCodes os); lines = []; block = [] })
 unfolding orderStartLine
 start-state s os = refl

@@ -12,10 +12,10 @@ use Rattle.lists.proofs.Lists.{All}
 use Rattle.rules.specs.Text.{every, oneOf, within, is, _unless_, lower, lowest}
 use Rattle.rules.specs.Names.{isCharName, codeOf}
 use Rattle.rules.specs.Tokens.{isText, word, name, Token, tokenAt, theName, single, tokensOf, operands, tokensRefusal}
-use Rattle.rules.specs.State.{beforeOrder, inOrder, afterOrder, Declaration, Subject, undefined, State, inPhase, inCollate, Outcome, gives}
+use Rattle.rules.specs.State.{beforeOrder, inOrder, afterOrder, inBlock, Declaration, Subject, undefined, State, inPhase, inCollate, Outcome, gives}
 use Rattle.rules.specs.Conditionals.{isToggleByte, isToggle, toggleRefusal, defineLine, ifLine, inmost, elifLine}
-use Rattle.rules.specs.Declarations.{isNew, declaresChars, symbolLine, elementFormed, elementLine}
-use Rattle.rules.specs.OrderLines.{operandList, ruleCodes, rulesFormed, orderStartLine, subjectOf, stands, isSymbol, isNames, weightRefusal, weightsRefusal, rankOf, orderLine}
+use Rattle.rules.specs.Declarations.{isNew, declaresChars, mayDeclare, symbolLine, elementFormed, elementLine}
+use Rattle.rules.specs.OrderLines.{operandList, ruleCodes, rulesFormed, orderStartLine, subjectOf, stands, isSymbol, isNames, weightRefusal, weightsRefusal, rankOf, takenOut, again, orderLine, reorderAfterLine, reorderEndLine}
 use Rattle.rules.specs.Source.{endLine, collateLine, tokenLine, wholeLine}
 use Rattle.operands.proofs.LateLaws.{Late, late-lower, late-none, late-lowest, late-by, late-unless, late-tokens, two-first, three-lowest}
 
@@ -49,7 +49,7 @@ late-elif s ts =
 late-symbol : (s : State) (ts : List Token) → Late (symbolLine s ts .refusal)
 unfolding symbolLine
 late-symbol s ts =
-    let formed = inPhase beforeOrder s && single name ts in
+    let formed = mayDeclare s && single name ts in
     let new = isNew (s .declared) (theName (tokenAt ts 0)) in
     late-lowest (3 unless formed ∷ 5 unless new ∷ []) (late-unless formed, (late-by 5 new (omega arith), tt))
 
@@ -58,7 +58,7 @@ unfolding elementLine
 late-element s ts =
     let ns = tokenAt ts 2 .names in
     let cs = map codeOf ns in
-    let formed = inPhase beforeOrder s && elementFormed ts in
+    let formed = mayDeclare s && elementFormed ts in
     let new = isNew (s .declared) (theName (tokenAt ts 0)) && not (every isCharName ns && oneOf (declaresChars cs) (s .declared)) in
     let chars = every isCharName ns in
     let few = within 2 4 (length cs) in
@@ -98,15 +98,27 @@ unfolding orderLine weightsRefusal
 late-order s number x ts =
     let o = s .ordered in
     let ws = operandList ts in
-    let formed = inPhase inOrder s && (eqb (length ts) 0 || not (isSymbol (s .declared) x)) in
+    let formed = (inPhase inOrder s || inPhase inBlock s) && (eqb (length ts) 0 || not (isSymbol (s .declared) x)) in
     let weights = map (weightRefusal (s .declared)) ws in
-    let new = eqb (rankOf (o .lines) x) 0 in
+    let new = not (again (o .block) x (o .lines)) in
     let known = stands (s .declared) x in
-    let few = leb (length ws) (length (o .rules)) && ltb (length (o .lines)) 32767 in
+    let few = leb (length ws) (length (o .rules)) && ltb (length (takenOut x (o .lines))) 32767 in
     late-lowest (3 unless formed ∷ lowest weights ∷ 5 unless new ∷ 6 unless known ∷ 7 unless few ∷ []) (
       late-unless formed,
       (late-lowest weights (late-weights (s .declared) ws), (late-by 5 new (omega arith), (late-by 6 known (omega arith), (late-by 7 few (omega arith), tt)))),
     )
+
+-- a block's ends
+late-reorder : (s : State) (ts : List Token) → Late (reorderAfterLine s ts .refusal)
+unfolding reorderAfterLine
+late-reorder s ts =
+    let formed = (inPhase afterOrder s || inPhase inBlock s) && single name ts in
+    let there = leb 1 (rankOf (s .ordered .lines) (subjectOf (theName (tokenAt ts 0)))) in
+    late-lowest (3 unless formed ∷ 6 unless there ∷ []) (late-unless formed, (late-by 6 there (omega arith), tt))
+
+late-reorder-end : (s : State) (ts : List Token) → Late (reorderEndLine s ts .refusal)
+unfolding reorderEndLine
+late-reorder-end s ts = late-unless (inPhase inBlock s && eqb (length ts) 0)
 
 -- the line of any word
 pub late-collate : (s : State) (number : ℕ) (w : List ℕ) (ts : List Token) → Late (collateLine s number w ts .refusal)
@@ -125,7 +137,9 @@ late-collate s number w ts =
     (cond-both P (is w "order_start") (late-start s ts)
     (cond-both P (is w "order_end") (late-unless (inPhase inOrder s && eqb (length ts) 0))
     (cond-both P (is w "UNDEFINED") (late-order s number undefined ts)
-    (cond-both P (is w "END") (late-end s ts) (late-unless false)))))))))))))
+    (cond-both P (is w "reorder-after") (late-reorder s ts)
+    (cond-both P (is w "reorder-end") (late-reorder-end s ts)
+    (cond-both P (is w "END") (late-end s ts) (late-unless false)))))))))))))))
 
 -- ## The line by its tokens
 

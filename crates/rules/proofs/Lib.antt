@@ -10,7 +10,10 @@ pub mod LinearLaws
 pub mod WidthLaws
 pub mod RankLaws
 pub mod PlacedLaws
+pub mod BlockLaws
 pub mod StateLaws
+pub mod ChainLaws
+pub mod ChainLines
 pub mod SourceLaws
 pub mod ItemLaws
 pub mod CompileLaws
@@ -26,4 +29,3 @@ pub mod EntryLaws
 pub mod KeyLaws
 pub mod ElementLaws
 pub mod PassedLaws
-pub mod OneAnswer

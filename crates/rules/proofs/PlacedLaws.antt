@@ -1,16 +1,16 @@
 -- Laws of where an order line comes to stand (specs/OrderLines): a line taken out, a line put after another.
-use mathlib.Core.Path.{_≡_, refl, ap, _∙_}
-use mathlib.Core.Bool.{Bool, true, false, not}
-use mathlib.Core.List.{List, [], _∷_, _++_}
-use Prim.Native.Nat.{ℕ, suc, _≤_}
+use mathlib.Core.Path.{_≡_, refl, ap}
+use mathlib.Core.Bool.{false}
+use mathlib.Core.List.{List, [], _∷_}
+use Prim.Native.Nat.{suc, _≤_}
 use native.Mathlib.Omega.{arith}
 use lib.ListN.{length}
-use Rattle.lists.proofs.Bools.{by, clash, or-false-intro}
+use Rattle.lists.proofs.Bools.{by, or-false-intro}
 use Rattle.rules.specs.Text.{oneOf}
 use Rattle.rules.specs.State.{Subject, OrderLine}
 use Rattle.rules.specs.OrderLines.{sameSubject, takenOut, putAfter}
 use Rattle.rules.proofs.TextLaws.{oneOf-head-false, oneOf-tail-false}
-use Rattle.rules.proofs.RankLaws.{isLineOf, sameSubject-true, sameSubject-refl, sameSubject-swap-false}
+use Rattle.rules.proofs.RankLaws.{isLineOf}
 
 -- ## Taken out
 
@@ -55,15 +55,3 @@ putAfter-without x y l (m ∷ ls) n h =
     by (sameSubject x (m .subject))
     (λ t. rw t (or-false-intro a (or-false-intro n b)))
     (λ t. rw t (or-false-intro a (putAfter-without x y l ls n b)))
-
--- lines of other subjects keep their order among themselves: without the new line's subject, all is as it was without it
-pub putAfter-others : (x : Subject) (l : OrderLine) (ls : List OrderLine) → takenOut (l .subject) (putAfter x l ls) ≡ takenOut (l .subject) ls
-unfolding takenOut putAfter
-putAfter-others x l [] = refl
-putAfter-others x l (m ∷ ls) =
-    by (sameSubject x (m .subject))
-    (λ t. by (sameSubject (l .subject) (m .subject)) (λ u. rw (t, u, sameSubject-refl (l .subject))) (λ u. rw (t, u, sameSubject-refl (l .subject))))
-    (λ t. by (sameSubject (l .subject) (m .subject)) (λ u. rw (t, u) (putAfter-others x l ls)) (λ u. rw (t, u) (ap (λ (r : List OrderLine). m ∷ r) (putAfter-others x l ls))))
-
-pub takenOut-twice : (x : Subject) (ls : List OrderLine) → takenOut x (takenOut x ls) ≡ takenOut x ls
-takenOut-twice x ls = takenOut-same x (takenOut x ls) (takenOut-none x ls)

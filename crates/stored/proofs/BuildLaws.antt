@@ -6,8 +6,6 @@ use Prim.Native.Nat.{ℕ, suc, _+_, _≤_}
 use native.Mathlib.Nat.{mul-le-mul-right}
 use native.Mathlib.Numerals.{add-one}
 use native.Mathlib.Omega.{arith}
-use mir.Syntax.{w64}
-use mir.Val.{Fits}
 use lib.ListN.{length, drop, replicate, length-append, length-map, length-replicate}
 use lib.Seq.{sets, length-sets}
 use Rattle.lists.proofs.Bools.{cond-both}
@@ -38,7 +36,7 @@ use Rattle.writes.proofs.LineLaws.{levelRanks-length}
 use Rattle.permute.specs.Permuted.{storedWith, Room, Permuted}
 use Rattle.items.specs.Items.{isItem, itemOf, itemsOf, LinesReady}
 use Rattle.items.specs.Filling.{Fillable, Filled}
-use Rattle.stored.specs.Building.{suppliedItems, meaningBy, allItems, allWeights, tableSize, frontNumbers, suppliedNumbers, HeadFits, Buildable, Tabled, Built}
+use Rattle.stored.specs.Building.{suppliedItems, meaningBy, allItems, allWeights, tableSize, frontNumbers, suppliedNumbers, HeadFits, Suppliable, Buildable, Tabled, Built}
 use Rattle.stored.proofs.FrontLaws.{all-near, all-weights-few, size-is, size-items}
 use Rattle.stored.proofs.TableLaws.{Levelled, parts-written, items-zeros}
 
@@ -143,14 +141,14 @@ module _ (g : Signs) (src w : List ℕ) (sh : Sheet) (items weights : ℕ) (supp
   build-weights = omega (arith, b .sums .few-weights, build-items)
 
   module _ {all at : ℕ} (e : all ≡ allItems supplied items) (q : at ≡ recordAt (sh .levels) all) where
-    pub build-end : Fits w64 (at + weights)
-    build-end = omega (arith, q, recordAt-bound (sh .levels) all (b .few) (size-items supplied items e build-items), build-weights)
+    near : at ≤ 458776
+    near = omega (arith, q, recordAt-bound (sh .levels) all (b .few) (size-items supplied items e build-items))
 
-    pub build-record : supplied ≡ true → {from : ℕ} → from ≡ recordAt (sh .levels) items → from + 6 + sh .levels ≤ at + weights
-    build-record s f =
+    behind-items : supplied ≡ true → recordAt (sh .levels) items + 6 + sh .levels ≤ at + weights
+    behind-items s =
         let a : all ≡ suc items = e ∙ rw s (add-one items) in
         let z : at ≡ recordAt (sh .levels) items + 6 + sh .levels = q ∙ ap (recordAt (sh .levels)) a ∙ recordAt-suc (sh .levels) items in
-        omega (arith, z, f)
+        omega (arith, z)
 
   module _ {all sum : ℕ} (e : all ≡ allItems supplied items) (k : sum ≡ allWeights supplied (sh .levels) weights) where
     all-are : all ≡ items + length js
@@ -229,20 +227,26 @@ module _ (g : Signs) (src w : List ℕ) (sh : Sheet) (items weights : ℕ) (supp
         unfolding suppliedItems itemNumbers weightNumbers
         build-plain s = whole {from = recordAt (sh .levels) items} refl (rw s)
 
-        pub build-ranks : supplied ≡ true → at + weights + sh .levels ≤ length filled
-        build-ranks s = let y : sum ≡ weights + sh .levels = k ∙ rw s in omega (arith, q, y, room, filled-long)
+        pub build-suppliable : supplied ≡ true → Suppliable (sh .levels) items weights (sh .order .count) at filled
+        build-suppliable s = record {
+          few-levels = b .few;
+          few-items = build-items;
+          few-weights = build-weights;
+          few-lines = b .ready .few;
+          near = near e q;
+          behind-items = behind-items e q s;
+          room = let y : sum ≡ weights + sh .levels = k ∙ rw s in omega (arith, q, y, room, filled-long);
+        }
 
-        pub build-supplied : supplied ≡ true → {from : ℕ} → from ≡ recordAt (sh .levels) items → {rank start : ℕ} → rank ≡ sh .order .count + 1 → start ≡ weights → {after : List ℕ}
-            → after ≡ sets (sets filled from (suppliedNumbers (sh .levels) start)) (at + weights) (replicate (sh .levels) rank)
+        pub build-supplied : supplied ≡ true → {after : List ℕ}
+            → after ≡ sets (sets filled (recordAt (sh .levels) items) (suppliedNumbers (sh .levels) weights)) (at + weights) (replicate (sh .levels) (sh .order .count + 1))
             → Tabled g src w sh items weights supplied area after
-        build-supplied s f {rank} {start} er es o =
+        build-supplied s o =
             let count : ℕ = sh .order .count in
-            let er′ : rank ≡ suc count = er ∙ add-one count in
             let j : js ≡ suppliedItems true rs count = rw s in
-            let x : suppliedNumbers (sh .levels) start ≡ itemNumbers weights [] js [] =
-            rw (es, ← b .levels, j) (sym (supplied-record rs count weights)) in
-            let y : replicate (sh .levels) rank ≡ weightNumbers js [] = rw (er′, ← b .levels, j) (sym (supplied-ranks rs count)) in
-            whole f (o ∙ rw (x, y))
+            let x : suppliedNumbers (sh .levels) weights ≡ itemNumbers weights [] js [] = rw (← b .levels, j) (sym (supplied-record rs count weights)) in
+            let y : replicate (sh .levels) (count + 1) ≡ weightNumbers js [] = rw (add-one count, ← b .levels, j) (sym (supplied-ranks rs count)) in
+            whole refl (o ∙ rw (x, y))
 
 -- ## The permutation
 

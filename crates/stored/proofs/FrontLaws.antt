@@ -138,3 +138,9 @@ module _ (area : List ℕ) (levels start from : ℕ) {a : List ℕ} (p : a ≡ s
 pub supplied-written : (area : List ℕ) (levels rank start from at : ℕ) {a after : List ℕ} → a ≡ sets area from (suppliedNumbers levels start)
     → after ≡ sets a at (replicate levels rank) → after ≡ sets (sets area from (suppliedNumbers levels start)) at (replicate levels rank)
 supplied-written area levels rank start from at p q = q ∙ ap (λ (y : List ℕ). sets y at (replicate levels rank)) p
+
+-- behind so many items, with a rank one above the last line's
+pub supply-written : (area : List ℕ) (levels items weights count at : ℕ) {from rank start : ℕ} {after : List ℕ} → from ≡ recordAt levels items → rank ≡ count + 1 → start ≡ weights
+    → after ≡ sets (sets area from (suppliedNumbers levels start)) (at + weights) (replicate levels rank)
+    → after ≡ sets (sets area (recordAt levels items) (suppliedNumbers levels weights)) (at + weights) (replicate levels (count + 1))
+supply-written area levels items weights count at f r s e = e ∙ rw (f, r, s)

@@ -11,6 +11,7 @@ use Rattle.rules.specs.Table.{padded, storedForm}
 use Rattle.rules.specs.State.{Subject}
 use Rattle.rules.specs.Compile.{levelsOfRank}
 use Rattle.rules.proofs.TableLaws.{AllStored}
+use Rattle.layout.specs.Parts.{recordAt}
 use Rattle.lines.specs.declared.Signs.{Signs}
 use Rattle.tokens.specs.Left.{tokensLeft}
 use Rattle.subjects.specs.Keys.{keyAt}
@@ -71,6 +72,16 @@ pub record HeadFits (g : Signs) (src : List ℕ) (place levels items weights : �
   pub few-levels : levels ≤ 8
   pub few-items : items ≤ 32768
   pub few-weights : weights ≤ 2097096
+
+-- UNDEFINED can be supplied behind so many items, of so many order lines, and so many weights, which start at a place.
+pub record Suppliable (levels items weights count at : ℕ) (area : List ℕ) : Type 0 where
+  pub few-levels : levels ≤ 8
+  pub few-items : items ≤ 32767
+  pub few-weights : weights ≤ 2097088
+  pub few-lines : count ≤ 32767
+  pub near : at ≤ 458776
+  pub behind-items : recordAt levels items + 6 + levels ≤ at + weights
+  pub room : at + weights + levels ≤ length area
 
 -- The order lines and the rules can be read again; the items and weights are so many, and the area has room for the table.
 pub record Buildable (g : Signs) (src w : List ℕ) (sh : Sheet) (items weights : ℕ) (supplied : Bool) (area : List ℕ) : Type 0 where

@@ -5,8 +5,9 @@ ghost use Prim.Native.Nat.{_+_, _≤_, _<_};
 ghost use lib.ListN.{length, replicate};
 ghost use lib.Seq.{sets};
 ghost use Rattle.rules.specs.Table.{ruleNumber};
+ghost use Rattle.layout.specs.Parts.{recordAt};
 ghost use Rattle.sheet.specs.Sheets.{rulesAt};
-ghost use Rattle.stored.specs.Building.{allItems, allWeights, tableSize, frontNumbers, suppliedNumbers, HeadFits, Buildable, Tabled, Built};
+ghost use Rattle.stored.specs.Building.{allItems, allWeights, tableSize, frontNumbers, suppliedNumbers, HeadFits, Suppliable, Buildable, Tabled, Built};
 use items::write_items;
 use layout::record_at;
 use levels::write_rules;
@@ -114,6 +115,23 @@ fn write_supplied(area: &mut [u32], levels: usize, rank: Rank, start: u32, from:
     fill_rank(area, at, levels, rank);
 }
 
+// UNDEFINED supplied behind the items, whose weights start at a place: its rank is one above that of the last order line.
+fn supply(area: &mut [u32], levels: usize, items: usize, weights: usize, count: usize, at: usize)
+    requires { ⌜ Suppliable levels items weights count at (now area) ⌝ }
+    ensures { λ _. ⌜ now (area .exit) ≡ sets (sets (now (area .entry)) (recordAt levels items) (suppliedNumbers levels weights)) (at + weights) (replicate levels (count + 1)) ⌝ }
+{
+    let from = record_at(levels, items);
+    let rank = narrow(count + 1);
+    write_supplied(
+        area,
+        levels,
+        Rank(rank),
+        narrow(weights),
+        from,
+        at + weights,
+    );
+}
+
 // The front of a table, and the rules that stand at a place.
 fn write_head(
     src: &[u8],
@@ -157,15 +175,7 @@ fn write_table(
     let at = record_at(levels, all);
     write_items(src, g, work, sh.order, levels, area, 16 + levels, at);
     if supplied {
-        let from = record_at(levels, items);
-        write_supplied(
-            area,
-            levels,
-            Rank(narrow(sh.order.count + 1)),
-            narrow(weights),
-            from,
-            at + weights,
-        );
+        supply(area, levels, items, weights, sh.order.count, at);
         return;
     }
 }

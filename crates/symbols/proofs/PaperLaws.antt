@@ -8,9 +8,9 @@ use native.Mathlib.Omega.{arith}
 use Rattle.lists.proofs.Bools.{by}
 use Rattle.rules.specs.Text.{oneOf, same, _unless_, lower, lowest}
 use Rattle.rules.specs.Tokens.{Token, tokenAt, theName, tokensRefusal}
-use Rattle.rules.specs.State.{beforeOrder, Declaration, symbol, element, character, named, State, inPhase}
+use Rattle.rules.specs.State.{Declaration, symbol, element, character, named, State}
 use Rattle.rules.specs.OrderLines.{sameSubject}
-use Rattle.rules.specs.Declarations.{declares, declaresChars, isNew, symbolLine}
+use Rattle.rules.specs.Declarations.{declares, declaresChars, isNew, mayDeclare, symbolLine}
 use Rattle.rules.proofs.TextLaws.{same-true, same-refl, same-swap-false}
 use Rattle.tokens.proofs.RefusalLaws.{late-lowest, late-unless}
 use Rattle.subjects.specs.Keys.{Key, item, chars, sameKey}
@@ -81,14 +81,14 @@ unfolding isNewIn isNew
 new-paper ds cs n h = rw (h .names n)
 
 module _ (s : State) (os : List Token) where
-  -- before order_start
-  pub symbol-paper : (ds : List Decl) → Alike ds (s .declared) → inPhase beforeOrder s ≡ true
+  -- where a declaration may stand
+  pub symbol-paper : (ds : List Decl) → Alike ds (s .declared) → mayDeclare s ≡ true
       → symbolRefusal ds os ≡ lower (tokensRefusal os) (symbolLine s os .refusal)
   unfolding symbolRefusal symbolLine
   symbol-paper ds h p = rw (p, new-paper ds (s .declared) (theName (tokenAt os 0)) h)
 
   -- anywhere else
-  pub symbol-misplaced : inPhase beforeOrder s ≡ false → lower (tokensRefusal os) (symbolLine s os .refusal) ≡ 3
+  pub symbol-misplaced : mayDeclare s ≡ false → lower (tokensRefusal os) (symbolLine s os .refusal) ≡ 3
   unfolding symbolLine lowest
   symbol-misplaced p =
       let b = isNew (s .declared) (theName (tokenAt os 0)) in

@@ -35,7 +35,7 @@ holdsFor wanted on = if wanted then on else not on
 
 -- the sheet with so many toggles named
 abbrev pub withToggles : Sheet → ℕ → Sheet
-withToggles sh m = record { phase = sh .phase; toggles = m; rules = sh .rules; levels = sh .levels; order = sh .order }
+withToggles sh m = record { phase = sh .phase; toggles = m; rules = sh .rules; levels = sh .levels; order = sh .order; block = sh .block }
 
 -- A line that opens with the word w, while some state is held.
 pub record MayRead (g : Signs) (src work : List ℕ) (sh : Sheet) (at depth : ℕ) (p : Spot) (e : LineEnd) (w : List ℕ) : Type 0 where

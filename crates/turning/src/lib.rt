@@ -41,12 +41,14 @@ fn with_toggles(sh: Sheet, m: usize) -> Sheet
     ensures { λ r. ⌜ r ≡ withToggles sh m ⌝ }
 {
     let order = sh.order;
+    let block = sh.block;
     Sheet {
         phase: sh.phase,
         toggles: m,
         rules: sh.rules,
         levels: sh.levels,
         order: order,
+        block: block,
     }
 }
 

@@ -4,6 +4,9 @@ use borrow.Author.Needs.{needs}
 use Rattle.declaring.proofs.element_step.Statement.{statement}
 use Rattle.declaring.proofs.element_step.Tie as tie
 
+may-declare-requires : tie.Need-may-declare-requires
+may-declare-requires c κs = search needs
+
 element-line-requires : tie.Need-element-line-requires
 element-line-requires c κs = search needs
 
@@ -38,6 +41,7 @@ pub element-step-spec : {M : Type 1} → statement M
 element-step-spec =
     tie.close
     (tie.spec
+    may-declare-requires
     element-line-requires
     enum-told
     same-length

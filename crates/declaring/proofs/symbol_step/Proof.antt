@@ -4,6 +4,9 @@ use borrow.Author.Needs.{needs}
 use Rattle.declaring.proofs.symbol_step.Statement.{statement}
 use Rattle.declaring.proofs.symbol_step.Tie as tie
 
+may-declare-requires : tie.Need-may-declare-requires
+may-declare-requires c κs = search needs
+
 symbol-line-requires : tie.Need-symbol-line-requires
 symbol-line-requires c κs = search needs
 
@@ -38,6 +41,7 @@ pub symbol-step-spec : {M : Type 1} → statement M
 symbol-step-spec =
     tie.close
     (tie.spec
+    may-declare-requires
     symbol-line-requires
     enum-told
     same-length

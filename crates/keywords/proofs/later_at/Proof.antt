@@ -67,15 +67,37 @@ returns-6 : tie.Need-returns-6
 unfolding bytes
 returns-6 c = same-true _ _ (sym (c .before .word-is6 .ensures) ∙ c .if6 .taken)
 
+slice-aggregate-word-is-7 : tie.Need-slice-aggregate-word-is-7
+slice-aggregate-word-is-7 c = search needs
+
+word-is-requires-7 : tie.Need-word-is-requires-7
+word-is-requires-7 c κs = search needs
+
 returns-7 : tie.Need-returns-7
 unfolding bytes
-returns-7 c =
+returns-7 c = same-true _ _ (sym (c .before .word-is7 .ensures) ∙ c .if7 .taken)
+
+slice-aggregate-word-is-8 : tie.Need-slice-aggregate-word-is-8
+slice-aggregate-word-is-8 c = search needs
+
+word-is-requires-8 : tie.Need-word-is-requires-8
+word-is-requires-8 c κs = search needs
+
+returns-8 : tie.Need-returns-8
+unfolding bytes
+returns-8 c = same-true _ _ (sym (c .before .word-is8 .ensures) ∙ c .if8 .taken)
+
+returns-9 : tie.Need-returns-9
+unfolding bytes
+returns-9 c =
     record {
       no-symbol = search (other-text "collating-symbol");
       no-element = search (other-text "collating-element");
       no-order-start = search (other-text "order_start");
       no-order-end = search (other-text "order_end");
       no-undefined = search (other-text "UNDEFINED");
+      no-reorder-after = search (other-text "reorder-after");
+      no-reorder-end = search (other-text "reorder-end");
       no-end = search (other-text "END");
     }
 
@@ -101,4 +123,10 @@ later-at-spec =
     slice-aggregate-word-is-6
     word-is-requires-6
     returns-6
-    returns-7)
+    slice-aggregate-word-is-7
+    word-is-requires-7
+    returns-7
+    slice-aggregate-word-is-8
+    word-is-requires-8
+    returns-8
+    returns-9)

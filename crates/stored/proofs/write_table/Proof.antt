@@ -1,6 +1,6 @@
 -- `stored::write_table` meets its contract: the head, the items of the order lines and the supplied one make up the table.
 use borrow.Author.Needs.{needs}
-use Rattle.stored.proofs.BuildLaws.{build-items, build-head, build-lines, build-end, build-record, build-ranks, build-plain, build-supplied}
+use Rattle.stored.proofs.BuildLaws.{build-items, build-head, build-lines, build-suppliable, build-plain, build-supplied}
 use Rattle.stored.proofs.FrontLaws.{size-items}
 use Rattle.stored.proofs.write_table.Statement.{statement}
 use Rattle.stored.proofs.write_table.Tie as tie
@@ -23,23 +23,8 @@ add-write-items c = search needs
 write-items-requires : tie.Need-write-items-requires
 write-items-requires c κs = search build-lines
 
-record-at-requires-2 : tie.Need-record-at-requires-2
-record-at-requires-2 c κs = search needs
-
-add-narrow : tie.Need-add-narrow
-add-narrow c = search needs
-
-narrow-requires : tie.Need-narrow-requires
-narrow-requires c κs = search needs
-
-narrow-requires-2 : tie.Need-narrow-requires-2
-narrow-requires-2 c κs = search needs
-
-add-write-supplied : tie.Need-add-write-supplied
-add-write-supplied c = search (needs, build-end)
-
-write-supplied-requires : tie.Need-write-supplied-requires
-write-supplied-requires c κs = (search build-record, search build-ranks)
+supply-requires : tie.Need-supply-requires
+supply-requires c κs = search (build-suppliable _ _ _ _ _ _ _ _ (c .before .before .before .before .before .before .before .before .before .before .before .before .before .before .before .before .pre))
 
 same-length : tie.Need-same-length
 same-length c = search needs
@@ -63,12 +48,7 @@ write-table-spec =
     record-at-requires
     add-write-items
     write-items-requires
-    record-at-requires-2
-    add-narrow
-    narrow-requires
-    narrow-requires-2
-    add-write-supplied
-    write-supplied-requires
+    supply-requires
     same-length
     returns
     same-length-2
