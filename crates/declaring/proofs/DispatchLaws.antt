@@ -40,6 +40,7 @@ module _ {g : Signs} {src : List ℕ} {at : ℕ} {q : Spot} {t : Tok} {e : LineE
         edge = v .first .token .edge (omega (arith, k));
         to = v .first .token .to;
         long = rw (← w) (omega (arith, l, f));
+        reach = let a = sym (v .first .end) ∙ v .first .line .end in omega (arith, a);
         far = v .first .more;
       }
 

@@ -21,7 +21,7 @@ use Rattle.store.specs.Store.{Decl, first, isPlace, Roomy, Holds, undefinedMark
 use Rattle.store.proofs.AreaLaws.{zeros, holds-none}
 use Rattle.store.proofs.ListLaws.{isPlace-none, place-within}
 use Rattle.listed.specs.declared.Order.{Order}
-use Rattle.listed.specs.Listed.{charsNumber, lineNumber, placeNumber, nextNumber, rankNumber, Linked, ends, goes, Spread, lastOf}
+use Rattle.listed.specs.Listed.{charsNumber, lineNumber, placeNumber, nextNumber, rankNumber, backNumber, Linked, ends, goes, Backed, begins, comes, Spread, lastOf}
 use Rattle.listed.proofs.ListLaws.{row-kept}
 use Rattle.known.specs.Known.{Says, none, Once, nothing, behind, lineAt, isRow, Accepted, IsListed, Known}
 use Rattle.known.proofs.MarkLaws.{row-in}
@@ -39,12 +39,13 @@ known-start g src w rs r = record {
   some = λ v h. absurd (false≢true (sym (isPlace-none v) ∙ h));
   marks = [];
   lines = record { linked = ends; spread = Spread.none; last = refl; count = refl };
+  backs = begins;
   are = refl;
   listed = tt;
   all = λ v h l. absurd (let z : cell (replicate (length w) 0) v placeNumber ≡ 0 = zeros (length w) (cellAt v placeNumber) in omega (arith, l, z));
   free = λ v k a b h. zeros (length w) (cellAt v k);
   alone = λ v h z. zeros (length w) (cellAt v nextNumber);
-  unranked = λ v h. zeros (length w) (cellAt v rankNumber);
+  unranked = λ v h z. zeros (length w) (cellAt v rankNumber);
 }
 
 -- ## More declarations
@@ -94,6 +95,11 @@ module _ (g : Signs) (src w : List ℕ) (o : Order) (rs : List Rule) (n : ℕ) (
       goes (row-kept w w′ u (v .long) r)
       (subst (λ (q : ℕ). Linked w′ q us) (sym (v .four u nextNumber (row-in (k .holds) u (a .0 .row)) (omega arith) (omega arith))) (linked-grown (cell w u nextNumber) us (a .1) m))
 
+  backed-grown : (p : ℕ) (us : List ℕ) → All (IsListed g src w (k .ds)) us → Backed w p us → Backed w′ p us
+  backed-grown p [] a begins = begins
+  backed-grown p (u ∷ us) a (comes b m) =
+      comes (v .four u backNumber (row-in (k .holds) u (a .0 .row)) (omega arith) (omega arith) ∙ b) (backed-grown u us (a .1) m)
+
   lines-grown : (us : List ℕ) → All (IsListed g src w (k .ds)) us → map (lineAt g src rs w) us ≡ map (lineAt g src rs w′) us
   unfolding lineAt
   lines-grown [] a = refl
@@ -125,6 +131,7 @@ module _ (g : Signs) (src w : List ℕ) (o : Order) (rs : List Rule) (n : ℕ) (
       some = λ u p. by (isPlace u (k .ds)) (λ t. k .some u t) (λ t. v .some u p t);
       marks = k .marks;
       lines = record { linked = linked-grown (o .first) (k .marks) (k .listed) (k .lines .linked); spread = k .lines .spread; last = k .lines .last; count = k .lines .count };
+      backs = backed-grown 0 (k .marks) (k .listed) (k .backs);
       are = k .are ∙ lines-grown (k .marks) (k .listed);
       listed = listed-grown (k .marks) (k .listed);
       all = λ u r l. row-newer u (oneOf (eqb u) (k .marks) ≡ true) r
@@ -137,8 +144,8 @@ module _ (g : Signs) (src w : List ℕ) (o : Order) (rs : List Rule) (n : ℕ) (
       alone = λ u r z. row-newer u (cell w′ u nextNumber ≡ 0) r
           (λ q. let i = row-in (k .holds) u q in v .four u nextNumber i (omega arith) (omega arith) ∙ k .alone u q (sym (v .four u placeNumber i (omega arith) (omega arith)) ∙ z))
           (λ a b. v .four u nextNumber (omega (arith, b)) (omega arith) (omega arith) ∙ k .free u nextNumber a b (omega arith));
-      unranked = λ u r. row-newer u (cell w′ u rankNumber ≡ 0) r
-          (λ q. v .four u rankNumber (row-in (k .holds) u q) (omega arith) (omega arith) ∙ k .unranked u q)
+      unranked = λ u r z. row-newer u (cell w′ u rankNumber ≡ 0) r
+          (λ q. let i = row-in (k .holds) u q in v .four u rankNumber i (omega arith) (omega arith) ∙ k .unranked u q (sym (v .four u placeNumber i (omega arith) (omega arith)) ∙ z))
           (λ a b. v .four u rankNumber (omega (arith, b)) (omega arith) (omega arith) ∙ k .free u rankNumber a b (omega arith));
     };
     same = refl;

@@ -6,7 +6,7 @@ use Prim.Native.Nat.{ℕ, _+_, _*_, _/_, _%_, _≤_, _<_}
 use native.Mathlib.Omega.{arith}
 use lib.ListN.{length, set, length-set}
 use lib.Dec.{eqb}
-use borrow.Author.Tests.{eqb-true, eqb-false}
+use borrow.Author.Tests.{eq-eqb, eqb-true, eqb-false}
 use Rattle.lists.proofs.Bools.{by, cond-both}
 use Rattle.lists.proofs.Lists.{All}
 use Rattle.rules.specs.Text.{oneOf}
@@ -18,69 +18,17 @@ use Rattle.rules.proofs.TextLaws.{oneOf-append}
 use Rattle.lines.specs.declared.Signs.{Signs}
 use Rattle.tokens.specs.Left.{tokensLeft}
 use Rattle.rows.specs.Cells.{cellAt, cell}
-use Rattle.rows.proofs.CellLaws.{Apart, cell-told, cell-other, cell-apart}
+use Rattle.rows.proofs.CellLaws.{Apart, cell-other, cell-apart}
 use Rattle.subjects.specs.Keys.{keyAt}
 use Rattle.store.specs.Store.{Decl, isPlace, Holds, undefinedMark}
 use Rattle.store.proofs.AreaLaws.{holds-told}
 use Rattle.store.proofs.ListLaws.{place-below}
 use Rattle.listed.specs.declared.Order.{Order}
-use Rattle.listed.specs.Listed.{charsNumber, lineNumber, placeNumber, nextNumber, rankNumber, Row, lastOf, linkedTo, withLine, longer}
-use Rattle.listed.proofs.ListLaws.{lines-more, link-length}
+use Rattle.listed.specs.Listed.{charsNumber, lineNumber, placeNumber, nextNumber, backNumber, Row, Backed, Lines, linkedTo, numbered, withLine, longer, NewLine}
+use Rattle.listed.proofs.ListLaws.{all-map, numbered-number, numbered-place, numbered-else, numbered-apart, last-has, link-length, link-other, link-apart, lines-more, backed-more}
+use Rattle.listed.proofs.MoveLaws.{one-has, all-one}
 use Rattle.known.specs.Known.{Says, none, symbols, elements, characters, behind, subjectAt, lineAt, isRow, Accepted, IsListed, Known}
 use Rattle.known.proofs.MarkLaws.{rows-apart}
-
--- ## What a line more leaves of the area
-
-link-other : (w : List ℕ) (l v u j : ℕ) → j < 5 → (j ≡ nextNumber → ⊥) → cell (linkedTo w l v) u j ≡ cell w u j
-unfolding linkedTo
-link-other w l v u j h n =
-    cond-both (λ (x : List ℕ). cell x u j ≡ cell w u j) (eqb l 0) refl (cell-other w l nextNumber u j v (omega arith) h (λ e. n (sym e)))
-
-link-apart : (w : List ℕ) (l v u : ℕ) → ((l ≡ 0 → ⊥) → Apart l u) → cell (linkedTo w l v) u nextNumber ≡ cell w u nextNumber
-unfolding linkedTo
-link-apart w l v u a =
-    by (eqb l 0)
-    (λ t. rw t)
-    (λ t. rw t (cell-apart w l nextNumber u nextNumber v (omega arith) (omega arith) (a (eqb-false l 0 t))))
-
-module _ (w : List ℕ) (o : Order) (v number place : ℕ) where
-  abbrev linked : List ℕ
-  linked = linkedTo w (o .last) v
-
-  abbrev counted : List ℕ
-  counted = set linked (cellAt v lineNumber) number
-
-  -- the other three numbers of all rows
-  line-else : (u j : ℕ) → j < 5 → (j ≡ lineNumber → ⊥) → (j ≡ placeNumber → ⊥) → cell (withLine w o v number place) u j ≡ cell linked u j
-  unfolding withLine
-  line-else u j h a b =
-      cell-other counted v placeNumber u j place (omega arith) h (λ e. b (sym e)) ∙ cell-other linked v lineNumber u j number (omega arith) h (λ e. a (sym e))
-
-  -- the numbers of another row, but for its link
-  line-apart : (u j : ℕ) → j < 5 → (j ≡ nextNumber → ⊥) → Apart v u → cell (withLine w o v number place) u j ≡ cell w u j
-  unfolding withLine
-  line-apart u j h a b =
-      cell-apart counted v placeNumber u j place (omega arith) h b ∙ cell-apart linked v lineNumber u j number (omega arith) h b ∙ link-other w (o .last) v u j h a
-
-  line-place : 8 * (v / 16) + 8 ≤ length w → cell (withLine w o v number place) v placeNumber ≡ place
-  unfolding withLine
-  line-place h =
-      let l : length counted ≡ length w = length-set linked (cellAt v lineNumber) number ∙ link-length w (o .last) v in
-      cell-told counted v placeNumber place (omega arith) (omega (arith, l, h))
-
-  line-number : 8 * (v / 16) + 8 ≤ length w → cell (withLine w o v number place) v lineNumber ≡ number
-  unfolding withLine
-  line-number h =
-      let l = link-length w (o .last) v in
-      cell-other counted v placeNumber v lineNumber place (omega arith) (omega arith) (λ e. omega (arith, e))
-      ∙ cell-told linked v lineNumber number (omega arith) (omega (arith, l, h))
-
-  line-holds : (g : Signs) (src : List ℕ) (n : ℕ) (ds : List Decl) → Holds (keyAt g src) (length src) w n ds → Holds (keyAt g src) (length src) (withLine w o v number place) n ds
-  unfolding withLine linkedTo
-  line-holds g src n ds h =
-      holds-told v placeNumber place (omega arith)
-      (holds-told v lineNumber number (omega arith)
-      (cond-both (λ (x : List ℕ). Holds (keyAt g src) (length src) x n ds) (eqb (o .last) 0) h (holds-told (o .last) nextNumber v (omega arith) h)))
 
 -- ## What is kept
 
@@ -90,12 +38,39 @@ says-kept w w′ ds cs e (symbols {v = v} {ds = es} {cs = fs} z s) = symbols (e 
 says-kept w w′ ds cs e (elements {v = v} {ds = es} {cs = fs} z l s) = elements (e v ∙ z) l (says-kept w w′ es fs e s)
 says-kept w w′ ds cs e (characters {v = v} {ds = es} {cs = fs} z s) = characters (e v ∙ z) (says-kept w w′ es fs e s)
 
--- the last of a list has what all of it have
-pub last-has : (P : ℕ → Type 0) (vs : List ℕ) → All P vs → (lastOf vs ≡ 0 → ⊥) → P (lastOf vs)
-unfolding lastOf
-last-has P [] a n = absurd (n refl)
-last-has P (v ∷ []) a n = a .0
-last-has P (v ∷ u ∷ us) a n = last-has P (u ∷ us) (a .1) n
+all-append : (P : ℕ → Type 0) (us vs : List ℕ) → All P us → All P vs → All P (us ++ vs)
+all-append P [] vs a b = b
+all-append P (u ∷ us) vs a b = (a .0, all-append P us vs (a .1) b)
+
+pub holds-linked : (g : Signs) (src : List ℕ) (n : ℕ) (ds : List Decl) (w : List ℕ) (l j v : ℕ) → j < 5 → Holds (keyAt g src) (length src) w n ds
+    → Holds (keyAt g src) (length src) (linkedTo w l j v) n ds
+unfolding linkedTo
+holds-linked g src n ds w l j v i h = cond-both (λ (x : List ℕ). Holds (keyAt g src) (length src) x n ds) (eqb l 0) h (holds-told l j v i h)
+
+pub holds-numbered : (g : Signs) (src : List ℕ) (n : ℕ) (ds : List Decl) (w : List ℕ) (v number place : ℕ) → Holds (keyAt g src) (length src) w n ds
+    → Holds (keyAt g src) (length src) (numbered w v number place) n ds
+unfolding numbered
+holds-numbered g src n ds w v number place h = holds-told v placeNumber place (omega arith) (holds-told v lineNumber number (omega arith) h)
+
+-- the lines may be written otherwise
+pub with-lines : (g : Signs) (src w : List ℕ) (o : Order) (rs : List Rule) (n : ℕ) (cs : List Declaration) (ls ms : List OrderLine) → ms ≡ ls
+    → Known g src w o rs n cs ls → Known g src w o rs n cs ms
+with-lines g src w o rs n cs ls ms e k = record {
+  ds = k .ds;
+  holds = k .holds;
+  says = k .says;
+  once = k .once;
+  some = k .some;
+  marks = k .marks;
+  lines = k .lines;
+  backs = k .backs;
+  are = e ∙ k .are;
+  listed = k .listed;
+  all = k .all;
+  free = k .free;
+  alone = k .alone;
+  unranked = k .unranked;
+}
 
 -- ## What is known
 
@@ -119,64 +94,76 @@ pub record Follows (g : Signs) (src : List ℕ) (place : ℕ) : Type 0 where
   pub within : place ≤ length src
   pub accepted : Accepted (operands (tokensLeft g src (behind place)))
 
+-- What the area is after the line of the mark v has come into the list, wherever: its own numbers, and what stays.
+pub record Changed (g : Signs) (src w : List ℕ) (n : ℕ) (ds : List Decl) (marks : List ℕ) (v number place : ℕ) (w′ : List ℕ) (o′ : Order) (marks′ : List ℕ) : Type 0 where
+  pub holds : Holds (keyAt g src) (length src) w′ n ds
+  pub number-is : cell w′ v lineNumber ≡ number
+  pub place-is : cell w′ v placeNumber ≡ place
+  pub chars : (u : ℕ) → cell w′ u charsNumber ≡ cell w u charsNumber
+  pub others : (u j : ℕ) → j < 5 → (j ≡ nextNumber → ⊥) → (j ≡ backNumber → ⊥) → Apart v u → cell w′ u j ≡ cell w u j
+  pub nexts : (u : ℕ) → Apart v u → All (λ (t : ℕ). Apart t u) marks → cell w′ u nextNumber ≡ cell w u nextNumber
+  pub backs : (u : ℕ) → Apart v u → All (λ (t : ℕ). Apart t u) marks → cell w′ u backNumber ≡ cell w u backNumber
+  pub lines : Lines w′ o′ marks′
+  pub backed : Backed w′ 0 marks′
+  pub from : All (λ (u : ℕ). oneOf (eqb u) (v ∷ marks) ≡ true) marks′
+  pub new : oneOf (eqb v) marks′ ≡ true
+  pub old : (u : ℕ) → (u ≡ v → ⊥) → oneOf (eqb u) marks ≡ true → oneOf (eqb u) marks′ ≡ true
+
 module _ (g : Signs) (src w : List ℕ) (o : Order) (rs : List Rule) (n : ℕ) (cs : List Declaration) (ls : List OrderLine) (k : Known g src w o rs n cs ls)
-    (v number place : ℕ) (u : Unlisted (length src) w (k .ds) v) (r : Row w v) (p : Follows g src place) where
+    (v number place : ℕ) (row : isRow (length src) (k .ds) v ≡ true) (even : v % 2 ≡ 0) (p : Follows g src place)
+    (w′ : List ℕ) (o′ : Order) (marks′ : List ℕ) (c : Changed g src w n (k .ds) (k .marks) v number place w′ o′ marks′) where
   abbrev ds : List Decl
   ds = k .ds
 
   abbrev len : ℕ
   len = length src
 
-  abbrev after : List ℕ
-  after = withLine w o v number place
+  -- the row of another mark
+  other : (x : ℕ) → isRow len ds x ≡ true → (x ≡ v → ⊥) → Apart v x
+  other x h e = rows-apart g src w n ds (k .holds) (k .once) v x row h (λ f. e (sym f))
 
-  -- a listed mark is another one
-  other : (x : ℕ) → IsListed g src w ds x → Apart v x
-  other x a = rows-apart g src w n ds (k .holds) (k .once) v x (u .row) (a .row) (λ e. let s = a .some in let z = u .none in let y = ap (λ (q : ℕ). cell w q placeNumber) e in omega (arith, s, z, y))
-
-  others : (vs : List ℕ) → All (IsListed g src w ds) vs → All (Apart v) vs
-  others [] a = tt
-  others (x ∷ xs) a = (other x (a .0), others xs (a .1))
-
-  listed-kept : (vs : List ℕ) → All (IsListed g src w ds) vs → All (IsListed g src after ds) (vs ++ v ∷ [])
-  listed-kept [] a =
-      let e = line-place w o v number place (r .inside) in (
-        record {
-          row = u .row;
-          even = u .even;
-          some = let s = p .some in omega (arith, e, s);
-          within = let s = p .within in omega (arith, e, s);
-          accepted = subst (λ (q : ℕ). Accepted (operands (tokensLeft g src (behind q)))) (sym e) (p .accepted);
-        },
-        tt,
-      )
-  listed-kept (x ∷ xs) a =
-      let e = line-apart w o v number place x placeNumber (omega arith) (λ e. omega (arith, e)) (other x (a .0)) in (
-        record {
-          row = a .0 .row;
-          even = a .0 .even;
-          some = let s = a .0 .some in omega (arith, s, e);
-          within = let s = a .0 .within in omega (arith, s, e);
-          accepted = subst (λ (q : ℕ). Accepted (operands (tokensLeft g src (behind q)))) (sym e) (a .0 .accepted);
-        },
-        listed-kept xs (a .1),
-      )
-
-  lines-kept : (vs : List ℕ) → All (IsListed g src w ds) vs → map (lineAt g src rs w) vs ≡ map (lineAt g src rs after) vs
+  -- the line of another mark stays
+  pub line-same : (x : ℕ) → Apart v x → lineAt g src rs w x ≡ lineAt g src rs w′ x
   unfolding lineAt
-  lines-kept [] a = refl
-  lines-kept (x ∷ xs) a =
-      let e = line-apart w o v number place x lineNumber (omega arith) (λ e. omega (arith, e)) (other x (a .0)) in
-      let f = line-apart w o v number place x placeNumber (omega arith) (λ e. omega (arith, e)) (other x (a .0)) in
-      rw (e, f, lines-kept xs (a .1))
+  line-same x a =
+      rw (c .others x lineNumber (omega arith) (λ e. omega (arith, e)) (λ e. omega (arith, e)) a, c .others x placeNumber (omega arith) (λ e. omega (arith, e)) (λ e. omega (arith, e)) a)
 
-  line-new : lineAt g src rs after v ≡ newLine g src rs v number place
+  pub lines-same : (us : List ℕ) → All (Apart v) us → map (lineAt g src rs w) us ≡ map (lineAt g src rs w′) us
+  lines-same [] a = refl
+  lines-same (x ∷ xs) a = rw (line-same x (a .0), lines-same xs (a .1))
+
+  pub line-new : newLine g src rs v number place ≡ lineAt g src rs w′ v
   unfolding lineAt
-  line-new = rw (line-number w o v number place (r .inside), line-place w o v number place (r .inside))
+  line-new = rw (c .number-is, c .place-is)
 
-  -- the last mark of the list so far
-  last-listed : (o .last ≡ 0 → ⊥) → IsListed g src w ds (o .last)
-  last-listed z = subst (IsListed g src w ds) (sym (k .lines .last)) (last-has (IsListed g src w ds) (k .marks) (k .listed) (λ e. z (k .lines .last ∙ e)))
+  listed-new : IsListed g src w′ ds v
+  listed-new =
+      let e = c .place-is in
+      record {
+        row = row;
+        even = even;
+        some = let s = p .some in omega (arith, e, s);
+        within = let s = p .within in omega (arith, e, s);
+        accepted = subst (λ (q : ℕ). Accepted (operands (tokensLeft g src (behind q)))) (sym e) (p .accepted);
+      }
+
+  listed-old : (x : ℕ) → Apart v x → IsListed g src w ds x → IsListed g src w′ ds x
+  listed-old x a l =
+      let e = c .others x placeNumber (omega arith) (λ e. omega (arith, e)) (λ e. omega (arith, e)) a in
+      record {
+        row = l .row;
+        even = l .even;
+        some = let s = l .some in omega (arith, s, e);
+        within = let s = l .within in omega (arith, s, e);
+        accepted = subst (λ (q : ℕ). Accepted (operands (tokensLeft g src (behind q)))) (sym e) (l .accepted);
+      }
+
+  listed-each : (x : ℕ) → oneOf (eqb x) (v ∷ k .marks) ≡ true → IsListed g src w′ ds x
+  unfolding oneOf
+  listed-each x h =
+      by (eqb x v)
+      (λ t. subst (IsListed g src w′ ds) (sym (eqb-true x v t)) listed-new)
+      (λ t. let l = one-has (IsListed g src w ds) x (k .marks) (k .listed) (rw t at h) in listed-old x (other x (l .row) (eqb-false x v t)) l)
 
   -- a row's place among those of the source
   row-below : (x y : ℕ) → isRow len ds x ≡ true → n ≤ y / 16 → y / 16 ≤ len / 8 → Apart x y
@@ -185,52 +172,120 @@ module _ (g : Signs) (src w : List ℕ) (o : Order) (rs : List Rule) (n : ℕ) (
       (λ t. let i = place-below (k .holds) x t in absurd (omega (arith, i, a, e)))
       (λ t. let z = eqb-true x (undefinedMark len) (rw t at h) in absurd (omega (arith, z, b, e)))
 
-  all-kept : (x : ℕ) → isRow len ds x ≡ true → 1 ≤ cell after x placeNumber → oneOf (eqb x) (k .marks ++ v ∷ []) ≡ true
-  unfolding oneOf
+  all-kept : (x : ℕ) → isRow len ds x ≡ true → 1 ≤ cell w′ x placeNumber → oneOf (eqb x) marks′ ≡ true
   all-kept x h l =
       by (eqb x v)
-      (λ t. oneOf-append (eqb x) (k .marks) (v ∷ []) ∙ rw t (or-true (oneOf (eqb x) (k .marks))))
-      (λ t. let a = rows-apart g src w n ds (k .holds) (k .once) v x (u .row) h (λ e. eqb-false x v t (sym e)) in
-      let e = line-apart w o v number place x placeNumber (omega arith) (λ e. omega (arith, e)) a in
-      oneOf-append (eqb x) (k .marks) (v ∷ []) ∙ rw (k .all x h (omega (arith, l, e))))
+      (λ t. subst (λ (y : ℕ). oneOf (eqb y) marks′ ≡ true) (sym (eqb-true x v t)) (c .new))
+      (λ t. let d = eqb-false x v t in
+      let e = c .others x placeNumber (omega arith) (λ e. omega (arith, e)) (λ e. omega (arith, e)) (other x h d) in
+      c .old x d (k .all x h (omega (arith, l, e))))
 
-  alone-kept : (x : ℕ) → isRow len ds x ≡ true → cell after x placeNumber ≡ 0 → cell after x nextNumber ≡ 0
-  alone-kept x h z =
-      let d : x ≡ v → ⊥ = λ e. let y = ap (λ (q : ℕ). cell after q placeNumber) e in let f = line-place w o v number place (r .inside) in let s = p .some in omega (arith, y, f, z, s) in
-      let a = rows-apart g src w n ds (k .holds) (k .once) v x (u .row) h (λ e. d (sym e)) in
-      let e = line-apart w o v number place x placeNumber (omega arith) (λ e. omega (arith, e)) a in
-      let y : cell w x placeNumber ≡ 0 = sym e ∙ z in
-      line-else w o v number place x nextNumber (omega arith) (λ e. omega (arith, e)) (λ e. omega (arith, e))
-      ∙ link-apart w (o .last) v x (λ m. let q = last-listed m in
-      rows-apart g src w n ds (k .holds) (k .once) (o .last) x (q .row) h (λ e. let s = q .some in let i = ap (λ (b : ℕ). cell w b placeNumber) e in omega (arith, s, i, y)))
-      ∙ k .alone x h y
+  -- a row with no line: it is another's, and had none before
+  unlisted-row : (x : ℕ) → isRow len ds x ≡ true → cell w′ x placeNumber ≡ 0 → Apart v x
+  unlisted-row x h z =
+      other x h (λ e. let y = ap (λ (q : ℕ). cell w′ q placeNumber) e in let f = c .place-is in let s = p .some in omega (arith, y, f, z, s))
 
-  free-kept : (x j : ℕ) → n ≤ x / 16 → x / 16 ≤ len / 8 → j < 5 → cell after x j ≡ 0
+  unlisted-place : (x : ℕ) → isRow len ds x ≡ true → cell w′ x placeNumber ≡ 0 → cell w x placeNumber ≡ 0
+  unlisted-place x h z = sym (c .others x placeNumber (omega arith) (λ e. omega (arith, e)) (λ e. omega (arith, e)) (unlisted-row x h z)) ∙ z
+
+  unlisted-apart : (x : ℕ) → isRow len ds x ≡ true → cell w x placeNumber ≡ 0 → All (λ (t : ℕ). Apart t x) (k .marks)
+  unlisted-apart x h z =
+      all-map (IsListed g src w ds) (λ (t : ℕ). Apart t x) (k .marks)
+      (λ t l. rows-apart g src w n ds (k .holds) (k .once) t x (l .row) h (λ e. let s = l .some in let i = ap (λ (q : ℕ). cell w q placeNumber) e in omega (arith, s, i, z)))
+      (k .listed)
+
+  free-apart : (x : ℕ) → n ≤ x / 16 → x / 16 ≤ len / 8 → All (λ (t : ℕ). Apart t x) (k .marks)
+  free-apart x a b = all-map (IsListed g src w ds) (λ (t : ℕ). Apart t x) (k .marks) (λ t l. row-below t x (l .row) a b) (k .listed)
+
+  free-kept : (x j : ℕ) → n ≤ x / 16 → x / 16 ≤ len / 8 → j < 5 → cell w′ x j ≡ 0
   free-kept x j a b h =
-      let e = row-below v x (u .row) a b in
+      let e = row-below v x row a b in
       by (eqb j nextNumber)
-      (λ t. let q = eqb-true j nextNumber t in
-      subst (λ (i : ℕ). cell after x i ≡ 0) (sym q)
-      (line-else w o v number place x nextNumber (omega arith) (λ e. omega (arith, e)) (λ e. omega (arith, e))
-      ∙ link-apart w (o .last) v x (λ m. row-below (o .last) x (last-listed m .row) a b) ∙ k .free x nextNumber a b (omega arith)))
-      (λ t. line-apart w o v number place x j h (eqb-false j nextNumber t) e ∙ k .free x j a b h)
+      (λ t. subst (λ (i : ℕ). cell w′ x i ≡ 0) (sym (eqb-true j nextNumber t)) (c .nexts x e (free-apart x a b) ∙ k .free x nextNumber a b (omega arith)))
+      (λ t. by (eqb j backNumber)
+      (λ s. subst (λ (i : ℕ). cell w′ x i ≡ 0) (sym (eqb-true j backNumber s)) (c .backs x e (free-apart x a b) ∙ k .free x backNumber a b (omega arith)))
+      (λ s. c .others x j h (eqb-false j nextNumber t) (eqb-false j backNumber s) e ∙ k .free x j a b h))
 
-  pub known-line : Known g src (withLine w o v number place) (longer o v) rs n cs (ls ++ newLine g src rs v number place ∷ [])
-  known-line = record {
+  pub known-changed : Known g src w′ o′ rs n cs (map (lineAt g src rs w′) marks′)
+  known-changed = record {
     ds = ds;
-    holds = line-holds w o v number place g src n ds (k .holds);
-    says = says-kept w after ds cs (λ x. line-else w o v number place x charsNumber (omega arith) (λ e. omega (arith, e)) (λ e. omega (arith, e)) ∙ link-other w (o .last) v x charsNumber (omega arith) (λ e. omega (arith, e))) (k .says);
+    holds = c .holds;
+    says = says-kept w w′ ds cs (c .chars) (k .says);
     once = k .once;
     some = k .some;
-    marks = k .marks ++ v ∷ [];
-    lines = lines-more w o v number place (k .marks) (k .lines) (record { row = r; apart = others (k .marks) (k .listed); alone = k .alone v (u .row) (u .none) });
-    are = ap (λ (ms : List OrderLine). ms ++ newLine g src rs v number place ∷ []) (k .are ∙ lines-kept (k .marks) (k .listed))
-        ∙ ap (λ (m : OrderLine). map (lineAt g src rs after) (k .marks) ++ m ∷ []) (sym line-new)
-        ∙ sym (map-append (lineAt g src rs after) (k .marks) (v ∷ []));
-    listed = listed-kept (k .marks) (k .listed);
+    marks = marks′;
+    lines = c .lines;
+    backs = c .backed;
+    are = refl;
+    listed = all-map (λ (x : ℕ). oneOf (eqb x) (v ∷ k .marks) ≡ true) (IsListed g src w′ ds) marks′ listed-each (c .from);
     all = all-kept;
     free = free-kept;
-    alone = alone-kept;
-    unranked = λ x h. line-else w o v number place x rankNumber (omega arith) (λ e. omega (arith, e)) (λ e. omega (arith, e))
-        ∙ link-other w (o .last) v x rankNumber (omega arith) (λ e. omega (arith, e)) ∙ k .unranked x h;
+    alone = λ x h z. let y = unlisted-place x h z in c .nexts x (unlisted-row x h z) (unlisted-apart x h y) ∙ k .alone x h y;
+    unranked = λ x h z. let y = unlisted-place x h z in c .backs x (unlisted-row x h z) (unlisted-apart x h y) ∙ k .unranked x h y;
   }
+
+-- ## At the end of the order
+
+module _ (g : Signs) (src w : List ℕ) (o : Order) (rs : List Rule) (n : ℕ) (cs : List Declaration) (ls : List OrderLine) (k : Known g src w o rs n cs ls)
+    (v number place : ℕ) (u : Unlisted (length src) w (k .ds) v) (r : Row w v) (p : Follows g src place) where
+  abbrev linked : List ℕ
+  linked = linkedTo w (o .last) nextNumber v
+
+  abbrev backed : List ℕ
+  backed = set linked (cellAt v backNumber) (o .last)
+
+  abbrev after : List ℕ
+  after = withLine w o v number place
+
+  -- listed marks are others
+  pub unlisted-others : All (Apart v) (k .marks)
+  unlisted-others =
+      all-map (IsListed g src w (k .ds)) (Apart v) (k .marks)
+      (λ x a. rows-apart g src w n (k .ds) (k .holds) (k .once) v x (u .row) (a .row) (λ e. let s = a .some in let z = u .none in let y = ap (λ (q : ℕ). cell w q placeNumber) e in omega (arith, s, z, y)))
+      (k .listed)
+
+  long : length backed ≡ length w
+  long = length-set linked (cellAt v backNumber) (o .last) ∙ link-length w (o .last) nextNumber v
+
+  inside : 8 * (v / 16) + 8 ≤ length backed
+  inside = let i = r .inside in let l = long in omega (arith, i, l)
+
+  new-line : NewLine w v (k .marks)
+  new-line = record { row = r; apart = unlisted-others; alone = k .alone v (u .row) (u .none) }
+
+  last-off : (x : ℕ) → All (λ (t : ℕ). Apart t x) (k .marks) → (o .last ≡ 0 → ⊥) → Apart (o .last) x
+  last-off x a z = subst (λ (t : ℕ). Apart t x) (sym (k .lines .last)) (last-has (λ (t : ℕ). Apart t x) (k .marks) a (λ e. z (k .lines .last ∙ e)))
+
+  changed : Changed g src w n (k .ds) (k .marks) v number place after (longer o v) (k .marks ++ v ∷ [])
+  unfolding withLine oneOf
+  changed = record {
+    holds = holds-numbered g src n (k .ds) backed v number place (holds-told v backNumber (o .last) (omega arith) (holds-linked g src n (k .ds) w (o .last) nextNumber v (omega arith) (k .holds)));
+    number-is = numbered-number backed v number place inside;
+    place-is = numbered-place backed v number place inside;
+    chars = λ x. numbered-else backed v number place x charsNumber (omega arith) (λ e. omega (arith, e)) (λ e. omega (arith, e))
+        ∙ cell-other linked v backNumber x charsNumber (o .last) (omega arith) (omega arith) (λ e. omega (arith, e))
+        ∙ link-other w (o .last) nextNumber v x charsNumber (omega arith) (omega arith) (λ e. omega (arith, e));
+    others = λ x j h d e a. numbered-apart backed v number place x j h a ∙ cell-apart linked v backNumber x j (o .last) (omega arith) h a
+        ∙ link-other w (o .last) nextNumber v x j (omega arith) h (λ f. d (sym f));
+    nexts = λ x a b. numbered-apart backed v number place x nextNumber (omega arith) a
+        ∙ cell-apart linked v backNumber x nextNumber (o .last) (omega arith) (omega arith) a
+        ∙ link-apart w (o .last) nextNumber v x nextNumber (omega arith) (omega arith) (last-off x b);
+    backs = λ x a b. numbered-apart backed v number place x backNumber (omega arith) a
+        ∙ cell-apart linked v backNumber x backNumber (o .last) (omega arith) (omega arith) a
+        ∙ link-other w (o .last) nextNumber v x backNumber (omega arith) (omega arith) (λ e. omega (arith, e));
+    lines = lines-more w o v number place (k .marks) (k .lines) new-line;
+    backed = backed-more w o v number place (k .marks) (k .lines) (k .backs) new-line;
+    from = all-append (λ (x : ℕ). oneOf (eqb x) (v ∷ k .marks) ≡ true) (k .marks) (v ∷ [])
+        (all-map (λ (x : ℕ). oneOf (eqb x) (k .marks) ≡ true) (λ (x : ℕ). oneOf (eqb x) (v ∷ k .marks) ≡ true) (k .marks) (λ x e. rw e (or-true (eqb x v))) (all-one (k .marks)))
+        (rw (eq-eqb v v refl), tt);
+    new = oneOf-append (eqb v) (k .marks) (v ∷ []) ∙ rw (eq-eqb v v refl) (or-true (oneOf (eqb v) (k .marks)));
+    old = λ x d e. oneOf-append (eqb x) (k .marks) (v ∷ []) ∙ rw e;
+  }
+
+  pub known-line : Known g src (withLine w o v number place) (longer o v) rs n cs (ls ++ newLine g src rs v number place ∷ [])
+  known-line =
+      with-lines g src after (longer o v) rs n cs (map (lineAt g src rs after) (k .marks ++ v ∷ [])) (ls ++ newLine g src rs v number place ∷ [])
+      (ap (λ (ms : List OrderLine). ms ++ newLine g src rs v number place ∷ []) (k .are ∙ lines-same g src w o rs n cs ls k v number place (u .row) (u .even) p after (longer o v) (k .marks ++ v ∷ []) changed (k .marks) unlisted-others)
+      ∙ ap (λ (m : OrderLine). map (lineAt g src rs after) (k .marks) ++ m ∷ []) (line-new g src w o rs n cs ls k v number place (u .row) (u .even) p after (longer o v) (k .marks ++ v ∷ []) changed)
+      ∙ sym (map-append (lineAt g src rs after) (k .marks) (v ∷ [])))
+      (known-changed g src w o rs n cs ls k v number place (u .row) (u .even) p after (longer o v) (k .marks ++ v ∷ []) changed)

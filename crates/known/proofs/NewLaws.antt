@@ -119,6 +119,7 @@ known-rules g src w o rs qs n cs ls k z = record {
   some = k .some;
   marks = k .marks;
   lines = k .lines;
+  backs = k .backs;
   are = sym (ap (map (lineAt g src qs w)) (length-zero (k .marks) (sym (k .lines .count) ∙ z)));
   listed = k .listed;
   all = k .all;

@@ -7,7 +7,7 @@ use native.Mathlib.Omega.{arith}
 use lib.ListN.{length, set, length-set}
 use lib.Dec.{eqb}
 use borrow.Author.Tests.{ne-eqb, eqb-true, eqb-false}
-use Rattle.lists.proofs.Bools.{by}
+use Rattle.lists.proofs.Bools.{by, clash, or-false-intro}
 use Rattle.lists.proofs.Lists.{All}
 use Rattle.rules.specs.Text.{oneOf}
 use Rattle.rules.specs.Meaning.{Rule}
@@ -22,7 +22,8 @@ use Rattle.store.specs.Store.{Decl, Holds}
 use Rattle.store.specs.declared.Found.{Found}
 use Rattle.store.specs.declared.Found.the-variants.{At, Nothing}
 use Rattle.listed.specs.declared.Order.{Order}
-use Rattle.listed.specs.Listed.{placeNumber, rankNumber, Row, Linked, ends, goes, Spread, more, ranked}
+use Rattle.listed.specs.Listed.{placeNumber, rankNumber, Row, Spread, more, ranked}
+use Rattle.listed.proofs.MoveLaws.{linked-rows}
 use Rattle.known.specs.Known.{Once, lineAt, isRow, markOf, IsListed, Known}
 use Rattle.known.proofs.MarkLaws.{isAt, subject-mark, mark-row, rows-apart}
 
@@ -35,10 +36,6 @@ unlisted g src w ds v [] a z = refl
 unlisted g src w ds v (u ∷ us) a z =
     let n : eqb v u ≡ false = ne-eqb v u (λ e. let s = a .0 .some in let y = rw e at z in omega (arith, s, y)) in
     rw n (unlisted g src w ds v us (a .1) z)
-
-pub linked-rows : (w : List ℕ) (p : ℕ) (vs : List ℕ) → Linked w p vs → All (Row w) vs
-linked-rows w p [] ends = tt
-linked-rows w p (v ∷ vs) (goes r n) = (r, linked-rows w _ vs n)
 
 -- ## Ranks that are given
 
@@ -80,10 +77,10 @@ module _ (g : Signs) (src : List ℕ) (rs : List Rule) (n : ℕ) (ds : List Decl
 
   -- the rank of a subject whose row is v
   rank-cell : (x : Subject) (v : ℕ) → markOf (length src) ds x ≡ At v → isRow (length src) ds v ≡ true → (w : List ℕ) (k : ℕ) (us : List ℕ)
-      → All (IsListed g src w₀ ds) us → Spread us → All (Row w) us → cell w v rankNumber ≡ 0
+      → All (IsListed g src w₀ ds) us → Spread us → All (Row w) us → (oneOf (eqb v) us ≡ false → cell w v rankNumber ≡ 0)
       → cell (ranked w k us) v rankNumber ≡ rankFrom k x (map (lineAt g src rs w₀) us)
-  unfolding ranked rankFrom lineAt
-  rank-cell x v m r w k [] a s b z = z
+  unfolding ranked rankFrom lineAt oneOf
+  rank-cell x v m r w k [] a s b z = z refl
   rank-cell x v m r w k (u ∷ us) a (more c s) b z =
       let e = subject-mark g src w₀ n ds h o u x (a .0 .row) (a .0 .even) ∙ ap (isAt u) m in
       by (eqb v u)
@@ -96,7 +93,7 @@ module _ (g : Signs) (src : List ℕ) (rs : List Rule) (n : ℕ) (ds : List Decl
       rw (e ∙ t)
       (rank-cell x v m r (set w (cellAt u rankNumber) k) (suc k) us (a .1) s
       (rows-kept w (set w (cellAt u rankNumber) k) us (length-set w (cellAt u rankNumber) k) (b .1))
-      (cell-apart w u rankNumber v rankNumber k (omega arith) (omega arith) d ∙ z)))
+      (λ f. cell-apart w u rankNumber v rankNumber k (omega arith) (omega arith) d ∙ z (or-false-intro t f))))
 
 -- whether a subject with this mark has an order line
 abbrev pub isOrdered : List ℕ → Found → Bool
@@ -139,5 +136,7 @@ module _ (g : Signs) (src w : List ℕ) (o : Order) (rs : List Rule) (n : ℕ) (
   rank-given x (At v) m =
       let r = mark-row g src w n (k .ds) (k .holds) (k .once) v x m in
       rank-cell g src rs n (k .ds) w (k .holds) (k .once) x v m r w 1 (k .marks) (k .listed) (k .lines .spread)
-      (linked-rows w (o .first) (k .marks) (k .lines .linked)) (k .unranked v r)
+      (linked-rows w (o .first) (k .marks) (k .lines .linked))
+      (λ f. k .unranked v r (by (eqb (cell w v placeNumber) 0) (λ t. eqb-true (cell w v placeNumber) 0 t)
+      (λ t. let z = eqb-false (cell w v placeNumber) 0 t in clash (k .all v r (omega (arith, z))) f)))
       ∙ ap (λ (ms : List OrderLine). rankOf ms x) (sym (k .are))

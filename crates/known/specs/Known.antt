@@ -22,7 +22,7 @@ use Rattle.store.specs.Store.{Decl, first, isPlace, undefinedMark, Holds}
 use Rattle.store.specs.declared.Found.{Found}
 use Rattle.store.specs.declared.Found.the-variants.{At, Nothing}
 use Rattle.listed.specs.declared.Order.{Order}
-use Rattle.listed.specs.Listed.{charsNumber, lineNumber, placeNumber, nextNumber, rankNumber, Lines}
+use Rattle.listed.specs.Listed.{charsNumber, lineNumber, placeNumber, nextNumber, rankNumber, Backed, Lines}
 
 -- ## Declarations
 
@@ -97,9 +97,10 @@ pub record Known (g : Signs) (src w : List ℕ) (o : Order) (rs : List Rule) (n 
   pub some : (v : ℕ) → isPlace v ds ≡ true → 1 ≤ v
   pub marks : List ℕ
   pub lines : Lines w o marks
+  pub backs : Backed w 0 marks
   pub are : ls ≡ map (lineAt g src rs w) marks
   pub listed : All (IsListed g src w ds) marks
   pub all : (v : ℕ) → isRow (length src) ds v ≡ true → 1 ≤ cell w v placeNumber → oneOf (eqb v) marks ≡ true
   pub free : (v k : ℕ) → n ≤ v / 16 → v / 16 ≤ length src / 8 → k < 5 → cell w v k ≡ 0
   pub alone : (v : ℕ) → isRow (length src) ds v ≡ true → cell w v placeNumber ≡ 0 → cell w v nextNumber ≡ 0
-  pub unranked : (v : ℕ) → isRow (length src) ds v ≡ true → cell w v rankNumber ≡ 0
+  pub unranked : (v : ℕ) → isRow (length src) ds v ≡ true → cell w v placeNumber ≡ 0 → cell w v rankNumber ≡ 0

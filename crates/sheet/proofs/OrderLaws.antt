@@ -21,7 +21,7 @@ use Rattle.toggles.proofs.AreaLaws.{kept-same, toggles-same}
 use Rattle.rows.specs.Cells.{cellAt, cell}
 use Rattle.store.specs.Store.{headsOf}
 use Rattle.listed.specs.declared.Order.{Order}
-use Rattle.listed.specs.Listed.{lineNumber, placeNumber, nextNumber, linkedTo, withLine}
+use Rattle.listed.specs.Listed.{lineNumber, placeNumber, nextNumber, backNumber, linkedTo, numbered, withLine, unlinked, linkedBetween, withLineAfter}
 use Rattle.known.specs.Known.{behind, Known}
 use Rattle.known.proofs.NewLaws.{known-rules}
 use Rattle.sheet.specs.declared.Block.{Block}
@@ -137,13 +137,48 @@ module _ (g : Signs) (src w : List ℕ) (sh : Sheet) (cs : List Chain) (at : ℕ
 
 -- ## Behind the rows
 
--- what stands behind the row of UNDEFINED stays where an order line is added
-pub line-behind : (len : ℕ) (w : List ℕ) (o : Order) (v number place : ℕ) → v / 16 ≤ len / 8 + 1 → ((o .last ≡ 0 → ⊥) → o .last / 16 ≤ len / 8 + 1)
-    → (i : ℕ) → togglesAt len ≤ i → getD (withLine w o v number place) i 0 ≡ getD w i 0
-unfolding withLine linkedTo
-line-behind len w o v number place a b i h =
-    getD-set-other (set (linkedTo w (o .last) v) (cellAt v lineNumber) number) (cellAt v placeNumber) i place 0 (λ e. omega (arith, e, a, h))
-    ∙ getD-set-other (linkedTo w (o .last) v) (cellAt v lineNumber) i number 0 (λ e. omega (arith, e, a, h))
-    ∙ by (eqb (o .last) 0)
-    (λ t. rw t)
-    (λ t. rw t (let c = b (eqb-false (o .last) 0 t) in getD-set-other w (cellAt (o .last) nextNumber) i v 0 (λ e. omega (arith, e, c, h))))
+-- what stands behind the row of UNDEFINED stays where a row is told a number
+module _ (len i : ℕ) (h : togglesAt len ≤ i) where
+  told-behind : (w : List ℕ) (v j x : ℕ) → v / 16 ≤ len / 8 + 1 → j < 5 → getD (set w (cellAt v j) x) i 0 ≡ getD w i 0
+  told-behind w v j x a l = getD-set-other w (cellAt v j) i x 0 (λ e. omega (arith, e, a, h, l))
+
+  link-behind : (w : List ℕ) (l j v : ℕ) → ((l ≡ 0 → ⊥) → l / 16 ≤ len / 8 + 1) → j < 5 → getD (linkedTo w l j v) i 0 ≡ getD w i 0
+  unfolding linkedTo
+  link-behind w l j v b k = by (eqb l 0) (λ t. rw t) (λ t. rw t (told-behind w l j v (b (eqb-false l 0 t)) k))
+
+  numbers-behind : (w : List ℕ) (v number place : ℕ) → v / 16 ≤ len / 8 + 1 → getD (numbered w v number place) i 0 ≡ getD w i 0
+  unfolding numbered
+  numbers-behind w v number place a =
+      told-behind (set w (cellAt v lineNumber) number) v placeNumber place a (omega arith) ∙ told-behind w v lineNumber number a (omega arith)
+
+  -- where an order line is added
+  pub line-behind : (w : List ℕ) (o : Order) (v number place : ℕ) → v / 16 ≤ len / 8 + 1 → ((o .last ≡ 0 → ⊥) → o .last / 16 ≤ len / 8 + 1)
+      → getD (withLine w o v number place) i 0 ≡ getD w i 0
+  unfolding withLine
+  line-behind w o v number place a b =
+      numbers-behind (set (linkedTo w (o .last) nextNumber v) (cellAt v backNumber) (o .last)) v number place a
+      ∙ told-behind (linkedTo w (o .last) nextNumber v) v backNumber (o .last) a (omega arith)
+      ∙ link-behind w (o .last) nextNumber v b (omega arith)
+
+  -- where one leaves
+  pub out-behind : (w : List ℕ) (v : ℕ) → ((cell w v backNumber ≡ 0 → ⊥) → cell w v backNumber / 16 ≤ len / 8 + 1)
+      → ((cell w v nextNumber ≡ 0 → ⊥) → cell w v nextNumber / 16 ≤ len / 8 + 1) → getD (unlinked w v) i 0 ≡ getD w i 0
+  unfolding unlinked
+  out-behind w v a b =
+      link-behind (linkedTo w (cell w v backNumber) nextNumber (cell w v nextNumber)) (cell w v nextNumber) backNumber (cell w v backNumber) b (omega arith)
+      ∙ link-behind w (cell w v backNumber) nextNumber (cell w v nextNumber) a (omega arith)
+
+  -- where one comes to stand after another
+  pub put-behind : (w : List ℕ) (a v number place : ℕ) → a / 16 ≤ len / 8 + 1 → v / 16 ≤ len / 8 + 1
+      → ((cell w a nextNumber ≡ 0 → ⊥) → cell w a nextNumber / 16 ≤ len / 8 + 1) → getD (withLineAfter w a v number place) i 0 ≡ getD w i 0
+  unfolding withLineAfter linkedBetween
+  put-behind w a v number place b c d =
+      let n = cell w a nextNumber in
+      let w₁ = linkedTo w n backNumber v in
+      let w₂ = set w₁ (cellAt a nextNumber) v in
+      let w₃ = set w₂ (cellAt v nextNumber) n in
+      numbers-behind (set w₃ (cellAt v backNumber) a) v number place c
+      ∙ told-behind w₃ v backNumber a c (omega arith)
+      ∙ told-behind w₂ v nextNumber n c (omega arith)
+      ∙ told-behind w₁ a nextNumber v b (omega arith)
+      ∙ link-behind w n backNumber v d (omega arith)

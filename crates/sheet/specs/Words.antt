@@ -29,6 +29,7 @@ pub record WordLine (g : Signs) (src : List ℕ) (at : ℕ) (p : Spot) (e : Line
   pub edge : p .fresh ≡ false
   pub to : p .at ≤ length src
   pub long : length w + at ≤ p .at
+  pub reach : p .at ≤ e .next
   pub far : p .at < length src → p .at < e .next
 
 -- ## The lines of a chain

@@ -45,6 +45,7 @@ module _ {g : Signs} {src : List ℕ} {at : ℕ} {q : Spot} {t : Tok} {e : LineE
         edge = k .edge (omega arith);
         to = k .to;
         long = let a = k .long-word kind in let b = f .from in let c = ap length text in omega arith;
+        reach = let a = sym (f .end) ∙ f .line .end in omega (arith, a);
         far = f .more;
       }
 

@@ -1,11 +1,12 @@
 -- `listed::add_line` meets its contract.
-use Rattle.listed.proofs.ListLaws.{last-reached, with-line, longer-first, longer-last}
+use Rattle.listed.proofs.ListLaws.{last-reached, with-line}
+use Rattle.listed.proofs.MoveLaws.{longer-first}
 use borrow.Author.Needs.{needs}
 use Rattle.listed.proofs.add_line.Statement.{statement}
 use Rattle.listed.proofs.add_line.Tie as tie
 
 link-requires : tie.Need-link-requires
-link-requires c κs = (search needs, search last-reached)
+link-requires c κs = (search needs, search needs, search last-reached)
 
 cast-tell : tie.Need-cast-tell
 cast-tell c = search needs
@@ -13,11 +14,11 @@ cast-tell c = search needs
 tell-requires : tie.Need-tell-requires
 tell-requires c κs = search needs
 
-cast-tell-2 : tie.Need-cast-tell-2
-cast-tell-2 c = search needs
+give-numbers-requires : tie.Need-give-numbers-requires
+give-numbers-requires c κs = search needs
 
-tell-requires-2 : tie.Need-tell-requires-2
-tell-requires-2 c κs = search needs
+where-none-requires : tie.Need-where-none-requires
+where-none-requires c κs = search needs
 
 add-count : tie.Need-add-count
 add-count c = search needs
@@ -28,12 +29,6 @@ same-length c = search needs
 returns : tie.Need-returns
 returns c = (search longer-first, search with-line)
 
-same-length-2 : tie.Need-same-length-2
-same-length-2 c = search needs
-
-returns-2 : tie.Need-returns-2
-returns-2 c = (search longer-last, search with-line)
-
 pub add-line-spec : {M : Type 1} → statement M
 add-line-spec =
     tie.close
@@ -41,10 +36,8 @@ add-line-spec =
     link-requires
     cast-tell
     tell-requires
-    cast-tell-2
-    tell-requires-2
+    give-numbers-requires
+    where-none-requires
     add-count
     same-length
-    returns
-    same-length-2
-    returns-2)
+    returns)
