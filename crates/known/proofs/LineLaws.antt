@@ -256,7 +256,7 @@ module _ (g : Signs) (src w : List ℕ) (o : Order) (rs : List Rule) (n : ℕ) (
   last-off : (x : ℕ) → All (λ (t : ℕ). Apart t x) (k .marks) → (o .last ≡ 0 → ⊥) → Apart (o .last) x
   last-off x a z = subst (λ (t : ℕ). Apart t x) (sym (k .lines .last)) (last-has (λ (t : ℕ). Apart t x) (k .marks) a (λ e. z (k .lines .last ∙ e)))
 
-  changed : Changed g src w n (k .ds) (k .marks) v number place after (longer o v) (k .marks ++ v ∷ [])
+  pub changed : Changed g src w n (k .ds) (k .marks) v number place after (longer o v) (k .marks ++ v ∷ [])
   unfolding withLine oneOf
   changed = record {
     holds = holds-numbered g src n (k .ds) backed v number place (holds-told v backNumber (o .last) (omega arith) (holds-linked g src n (k .ds) w (o .last) nextNumber v (omega arith) (k .holds)));
