@@ -18,16 +18,19 @@ use Rattle.lines.specs.declared.Signs.{Signs}
 use Rattle.lines.specs.declared.Spot.{Spot}
 use Rattle.lines.specs.declared.LineEnd.{LineEnd}
 use Rattle.lines.specs.Stream.{lineStart, LineIs}
+use Rattle.subjects.specs.Keys.{Key, keyAt}
+use Rattle.store.specs.declared.Found.{Found}
 use Rattle.store.specs.declared.Found.the-variants.{At}
+use Rattle.store.specs.Store.{Finds}
 use Rattle.rows.specs.Cells.{cellAt, cell}
 use Rattle.listed.specs.declared.Order.{Order}
 use Rattle.listed.specs.Listed.{lineNumber, placeNumber, nextNumber, backNumber, Row, linkedTo, numbered, longer, withLine, shorter, unlinked, linkedBetween, longerAfter, withLineAfter}
-use Rattle.listed.proofs.ListLaws.{all-map, link-length}
+use Rattle.listed.proofs.ListLaws.{all-map, last-has, link-length}
 use Rattle.listed.proofs.MoveLaws.{one-has, next-has, back-has, without, without-all, without-one, behindMark, out-length, lines-out}
 use Rattle.known.specs.Known.{subjectAt, behind, isRow, markOf, IsListed, Known}
 use Rattle.known.proofs.MarkLaws.{row-in, rows-apart, marked-subject, mark-row}
 use Rattle.known.proofs.RankLaws.{isOrdered, rank-none}
-use Rattle.known.proofs.LineLaws.{last-has, newLine, Unlisted, Follows, Changed, changed, known-line}
+use Rattle.known.proofs.LineLaws.{newLine, Unlisted, Follows, Changed, changed, known-line}
 use Rattle.known.proofs.MovedLaws.{taken-none, taken-found, put-changed, known-put, moved-changed, known-moved}
 use Rattle.sheet.specs.declared.Block.{Block}
 use Rattle.sheet.specs.declared.Sheet.{Sheet}
@@ -36,8 +39,9 @@ use Rattle.sheet.specs.declared.Step.the-variants.{Next, Refused}
 use Rattle.sheet.specs.Sheets.{togglesAt, InBlock, Open, SomeOpen, StepIs}
 use Rattle.sheet.specs.Names.{operandsFrom}
 use Rattle.sheet.proofs.OrderLaws.{open-listed, line-behind, out-behind, put-behind}
-use Rattle.ordering.specs.Facts.{SomeKnown, withOrder, withLast, Ready, Lists, atEnd, firstly, anew}
+use Rattle.ordering.specs.Facts.{Rowed, SomeKnown, withOrder, withLast, Ready, Lists, atEnd, firstly, anew}
 use Rattle.ordering.specs.Lines.{Reads}
+use Rattle.ordering.proofs.FactLaws.{found-rowed}
 use Rattle.ordering.proofs.AgainLaws.{linked-one, placed-all, again-order, last-one, last-other, block-more}
 use Rattle.ordering.proofs.RangeLaws.{Taken, taken}
 
@@ -50,6 +54,10 @@ some-known g src w sh at depth o = record {
   ordered = o .state .ordered .lines;
   known = o .held .known;
 }
+
+-- the row of what is found stands in the area
+pub open-rowed : (g : Signs) (src w : List ℕ) (sh : Sheet) (at depth : ℕ) (k : Key) (f : Found) → SomeOpen g src w sh at depth → Finds (keyAt g src) (length src) w k f → Rowed w f
+open-rowed g src w sh at depth k f o d = found-rowed g src w k f (some-known g src w sh at depth o) d
 
 -- ## What a line is read as
 
@@ -221,6 +229,7 @@ module _ {g : Signs} {src w : List ℕ} {sh : Sheet} {x : Subject} {at next : �
         → (eqb (sh .phase) inBlock ≡ false → xs ≡ [])
         → withOrdered s (record { rules = rules; lines = ls; block = xs }) ≡ after
         → Open g src w″ (record { phase = sh .phase; toggles = sh .toggles; rules = sh .rules; levels = sh .levels; order = or; block = bl }) cs next after
+    unfolding oneOf
     placed-with w″ or bl ls xs marks″ known″ c l b few f bk cl same =
         let e : known″ .marks ≡ marks″ = linked-one w″ (or .first) marks″ (known″ .marks) (c .lines .linked) (known″ .lines .linked) in
         subst (Open g src w″ (record { phase = sh .phase; toggles = sh .toggles; rules = sh .rules; levels = sh .levels; order = or; block = bl }) cs next) same
@@ -234,7 +243,6 @@ module _ {g : Signs} {src w : List ℕ} {sh : Sheet} {x : Subject} {at next : �
         cl)
       where
         places-after : (v : ℕ) → oneOf (eqb v) marks″ ≡ true → cell w″ v placeNumber ≤ next
-        unfolding oneOf
         places-after v y =
             by (eqb v m)
             (λ q. let d = ap (λ (u : ℕ). cell w″ u placeNumber) (eqb-true v m q) in let z = c .place-is in omega (arith, d, z, to))
@@ -334,8 +342,8 @@ module _ {g : Signs} {src w : List ℕ} {sh : Sheet} {x : Subject} {at next : �
           let one = behind-one t p in
           let q : sh .order .count < 32767 = (let a = roomy in rw z at a) in
           let none : takenOut (subjectAt g src m) lines ≡ lines = ap (λ (y : Subject). takenOut y lines) placed-subject
-              ∙ taken-none g src w′ (sh .order) rules (k .n) (s .declared) lines (k .known) x
-              (rank-none g src w′ (sh .order) rules (k .n) (s .declared) lines (k .known) x (At m) (k .mark) ∙ ap not z) in
+          ∙ taken-none g src w′ (sh .order) rules (k .n) (s .declared) lines (k .known) x
+          (rank-none g src w′ (sh .order) rules (k .n) (s .declared) lines (k .known) x (At m) (k .mark) ∙ ap not z) in
           block-with (withLineAfter w′ a₀ m number place) (longerAfter w′ (sh .order) a₀ m) (behindMark a₀ m marks)
           (subst (λ (ls : List OrderLine). Known g src (withLineAfter w′ a₀ m number place) (longerAfter w′ (sh .order) a₀ m) rules (k .n) (s .declared) (putAfter (subjectAt g src a₀) (newLine g src rules m number place) ls)) (sym none)
           (known-put g src w′ (sh .order) rules (k .n) (s .declared) lines (k .known) a₀ m number place one placed-is h u))
