@@ -11,7 +11,7 @@ use Rattle.rules.specs.Tokens.{word, name, Token, theName, operands, tokensOf, 
 use Rattle.rules.specs.State.{inOtherCategory, Subject, State, inPhase, inCollate, Outcome, gives}
 use Rattle.rules.specs.Conditionals.{defineLine, ifLine, elifLine, isUnused}
 use Rattle.rules.specs.Declarations.{symbolLine, elementLine}
-use Rattle.rules.specs.OrderLines.{orderStartLine, subjectOf, orderLine}
+use Rattle.rules.specs.OrderLines.{orderStartLine, subjectOf, orderLine, reorderAfterLine, reorderEndLine}
 use Rattle.rules.specs.Source.{endLine, collateLine, outsideLine, tokenLine, wholeLine, otherLine, unusedLine, lineOutcome}
 
 -- the line leaves the characters of the state before it
@@ -28,7 +28,7 @@ unfolding orderLine
 order-kept s number x ts = refl
 
 collate-kept : (s : State) (number : ℕ) (w : List ℕ) (ts : List Token) → Kept s (collateLine s number w ts)
-unfolding collateLine defineLine ifLine elifLine symbolLine elementLine orderStartLine orderLine endLine
+unfolding collateLine defineLine ifLine elifLine symbolLine elementLine orderStartLine orderLine reorderAfterLine reorderEndLine endLine
 collate-kept s number w ts =
     cond-both (Kept s) (is w "define") refl
     (cond-both (Kept s) (is w "undef") refl
@@ -42,7 +42,9 @@ collate-kept s number w ts =
     (cond-both (Kept s) (is w "order_start") refl
     (cond-both (Kept s) (is w "order_end") refl
     (cond-both (Kept s) (is w "UNDEFINED") refl
-    (cond-both (Kept s) (is w "END") refl refl))))))))))))
+    (cond-both (Kept s) (is w "reorder-after") refl
+    (cond-both (Kept s) (is w "reorder-end") refl
+    (cond-both (Kept s) (is w "END") refl refl))))))))))))))
 
 module _ (s : State) (inside : inCollate s ≡ true) (number : ℕ) where
   token-kept : (ts : List Token) → Kept s (tokenLine s number ts)

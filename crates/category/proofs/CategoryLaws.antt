@@ -5,7 +5,9 @@ use mathlib.Core.List.{List, []}
 use Prim.Native.Nat.{ℕ, _≤_}
 use native.Mathlib.Omega.{arith}
 use lib.ListN.{length}
-use Rattle.rules.specs.Text.{every, _unless_, lower}
+use lib.Dec.{eqb}
+use Rattle.lists.proofs.Lists.{length-zero}
+use Rattle.rules.specs.Text.{every, oneOf, _unless_, lower}
 use Rattle.rules.specs.Tokens.{isText}
 use Rattle.rules.specs.State.{beforeOrder, State, Blocks, Ordered, Outcome, start}
 use Rattle.lines.specs.declared.Signs.{Signs}
@@ -48,27 +50,33 @@ module _ {src w : List ℕ} {at number : ℕ} (v : Ready src w at number) (g : S
   known-none = subst (λ (x : List ℕ). Known g src x (firstSheet .order) [] 0 [] []) (sym (v .none)) (known-start g src w [] (v .roomy))
 
   begun-open : (s : State) → Begun g s → Open g src w firstSheet [] at s
-  unfolding togglesIn
-  begun-open s b = record {
-    comment = b .comment;
-    escape = b .escape;
-    phase = b .phase;
-    inside = rw (b .phase);
-    collated = b .collated;
-    chains = ap (λ (x : Blocks). x .chains) (b .blocks);
-    inner = ap (λ (x : Blocks). x .inner) (b .blocks);
-    toggles = ap (λ (x : Blocks). x .toggles) (b .blocks);
-    kept = record { room = let r = v .roomy .room in omega (arith, r); few = omega arith; inside = λ i h. absurd (omega (arith, h)) };
-    n = 0;
-    known = rw (b .declared, b .ordered) known-none;
-    rows = λ h. omega arith;
-    unordered = λ e. refl;
-    rules = λ e. absurd (false≢true (sym e));
-    started = λ e. absurd (false≢true (sym e));
-    ruled = omega arith;
-    levels = ap (λ (x : Ordered). length (x .rules)) (b .ordered);
-    few = omega arith;
-  }
+  unfolding togglesIn oneOf
+  begun-open s b =
+      let known′ : Known g src w (firstSheet .order) (s .ordered .rules) 0 (s .declared) (s .ordered .lines) = rw (b .declared, b .ordered) known-none in
+      record {
+        comment = b .comment;
+        escape = b .escape;
+        phase = b .phase;
+        inside = rw (b .phase);
+        collated = b .collated;
+        chains = ap (λ (x : Blocks). x .chains) (b .blocks);
+        inner = ap (λ (x : Blocks). x .inner) (b .blocks);
+        toggles = ap (λ (x : Blocks). x .toggles) (b .blocks);
+        kept = record { room = let r = v .roomy .room in omega (arith, r); few = omega arith; inside = λ i h. absurd (omega (arith, h)) };
+        n = 0;
+        known = known′;
+        rows = λ h. omega arith;
+        unordered = λ e. refl;
+        rules = λ e. absurd (false≢true (sym e));
+        started = λ e. absurd (false≢true (sym e));
+        ruled = omega arith;
+        levels = ap (λ (x : Ordered). length (x .rules)) (b .ordered);
+        few = omega arith;
+        places = λ i h. absurd (false≢true (subst (λ (x : List ℕ). oneOf (eqb i) x ≡ true) (length-zero (known′ .marks) (sym (known′ .lines .count))) h));
+        from = λ e. absurd (false≢true e);
+        block = λ e. absurd (false≢true e);
+        closed = λ e. ap (λ (x : Ordered). x .block) (b .ordered);
+      }
 
   module _ {sh : Sheet} (e : sh ≡ firstSheet) where
     pub category-starts : SomeUsed g src w sh at 0

@@ -20,7 +20,14 @@ use Rattle.category.specs.declared.Category.the-variants as category
 
 -- the sheet before the first line
 abbrev pub firstSheet : Sheet
-firstSheet = record { phase = beforeOrder; toggles = 0; rules = 0; levels = 0; order = record { first = 0; last = 0; count = 0 } }
+firstSheet = record {
+  phase = beforeOrder;
+  toggles = 0;
+  rules = 0;
+  levels = 0;
+  order = record { first = 0; last = 0; count = 0 };
+  block = record { named = 0; last = 0; from = 0 };
+}
 
 -- the refusal of a line of elif, else or endif outside every chain
 abbrev pub strayRefusal : Signs → List ℕ → ℕ → ℕ

@@ -10,6 +10,7 @@ use lines::Spot;
 use lines::line_end;
 use listed::Order;
 use opening::refusal_with;
+use sheet::Block;
 use sheet::Sheet;
 
 // Where LC_COLLATE ends: after END LC_COLLATE, with the sheet before it, and the place and the number of the line after it; or a refusal, and
@@ -32,6 +33,11 @@ fn first_sheet() -> Sheet
             first: 0,
             last: 0,
             count: 0,
+        },
+        block: Block {
+            named: 0,
+            last: 0,
+            from: 0,
         },
     }
 }

@@ -33,7 +33,7 @@ use Rattle.declaring.proofs.OpenedLaws.{line-moves, line-accepted, line
 -- ## Operands
 
 -- no operand is refused where there is none
-none-refused : (os : List Token) → eqb (length os) 0 ≡ true → tokensRefusal os ≡ 0
+pub none-refused : (os : List Token) → eqb (length os) 0 ≡ true → tokensRefusal os ≡ 0
 unfolding tokensRefusal
 none-refused os h = rw (length-zero os (eqb-true (length os) 0 h))
 

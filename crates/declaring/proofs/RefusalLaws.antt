@@ -36,15 +36,15 @@ unfolding lower
 high-lower a b h k =
     by (eqb a 0) (λ t. rw t k) (λ t. by (eqb b 0) (λ u. rw (t, u) h) (λ u. by (ltb a b) (λ v. rw (t, u, v) h) (λ v. rw (t, u, v) k)))
 
-fair-lower : (a b : ℕ) → Fair a → Fair b → Fair (lower a b)
+pub fair-lower : (a b : ℕ) → Fair a → Fair b → Fair (lower a b)
 fair-lower a b h k = record { late = late-lower a b (h .late) (k .late); high = high-lower a b (h .high) (k .high) }
 
-fair-lowest : (rs : List ℕ) → All Fair rs → Fair (lowest rs)
+pub fair-lowest : (rs : List ℕ) → All Fair rs → Fair (lowest rs)
 unfolding lowest
 fair-lowest [] h = record { late = late-none; high = omega arith }
 fair-lowest (r ∷ rs) h = fair-lower r (lowest rs) (h .0) (fair-lowest rs (h .1))
 
-fair-unless : (n : ℕ) (t : Bool) → 3 ≤ n → n ≤ 7 → Fair (n unless t)
+pub fair-unless : (n : ℕ) (t : Bool) → 3 ≤ n → n ≤ 7 → Fair (n unless t)
 fair-unless n t l h = record { late = late-by n t l; high = high t }
   where
     high : (t : Bool) → (n unless t) ≤ 7
@@ -56,7 +56,7 @@ high-known r (inl e) = omega arith
 high-known r (inr (inl e)) = omega arith
 high-known r (inr (inr e)) = omega arith
 
-fair-tokens : (os : List Token) → Fair (tokensRefusal os)
+pub fair-tokens : (os : List Token) → Fair (tokensRefusal os)
 fair-tokens os = record { late = late-tokens os; high = high-known (tokensRefusal os) (refusal-known os) }
 
 -- ## Of a line

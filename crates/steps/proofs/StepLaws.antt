@@ -34,6 +34,8 @@ use Rattle.turning.specs.Turned.{defining, testing, MayRead}
 use Rattle.turning.proofs.LineLaws as turning
 use Rattle.declaring.specs.Worded.{Opened}
 use Rattle.declaring.proofs.DispatchLaws.{word-opened, open-sound}
+use Rattle.reordering.specs.Named.{Holding}
+use Rattle.reordering.proofs.AfterLaws.{open-holding}
 use Rattle.steps.specs.Steps.{LineAt, WordAt}
 
 -- ## Lines that are no words
@@ -134,6 +136,9 @@ module _ {g : Signs} {src w : List ℕ} {sh : Sheet} {at number depth : ℕ} {q 
   pub word-sound : Sound (keyAt g src) (length src) w
   word-sound = open-sound (v .line .some)
 
+  pub word-holding : Holding g src w
+  word-holding = open-holding (v .line .some)
+
   may : (x : List ℕ) → wordIn (marksLeft g src q) ≡ x → MayRead g src w sh at depth (t .next) e x
   may x f = record { some = v .line .some; line = turning.word-line (v .word) (v .line .inside) f }
 
@@ -160,6 +165,12 @@ module _ {g : Signs} {src w : List ℕ} {sh : Sheet} {at number depth : ℕ} {q 
 
   pub opened-stop : k ≡ key.OrderEnd → Opened g src at (t .next) e "order_end"
   opened-stop f = word-opened (v .word) (v .line .inside) "order_end" (subst (KeywordIs (wordIn (marksLeft g src q))) f h)
+
+  pub opened-after : k ≡ key.ReorderAfter → Opened g src at (t .next) e "reorder-after"
+  opened-after f = word-opened (v .word) (v .line .inside) "reorder-after" (subst (KeywordIs (wordIn (marksLeft g src q))) f h)
+
+  pub opened-back : k ≡ key.ReorderEnd → Opened g src at (t .next) e "reorder-end"
+  opened-back f = word-opened (v .word) (v .line .inside) "reorder-end" (subst (KeywordIs (wordIn (marksLeft g src q))) f h)
 
   pub opened-end : k ≡ key.End → Opened g src at (t .next) e "END"
   opened-end f = word-opened (v .word) (v .line .inside) "END" (subst (KeywordIs (wordIn (marksLeft g src q))) f h)

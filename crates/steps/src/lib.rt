@@ -16,6 +16,8 @@ use opening::open_line;
 use opening::refusal_with;
 use ordering::name_line;
 use ordering::undefined_line;
+use reordering::reorder_after_line;
+use reordering::reorder_end_line;
 use sheet::Sheet;
 use sheet::Step;
 use tokens::Tok;
@@ -53,6 +55,8 @@ fn word_step(
         Keyword::OrderStart => return order_start_line(src, g, sh, at, p, e),
         Keyword::OrderEnd => return order_end_line(src, g, sh, at, p, e),
         Keyword::Undefined => return undefined_line(src, g, work, sh, at, number, depth, p, e),
+        Keyword::ReorderAfter => return reorder_after_line(src, g, work, sh, at, p, e),
+        Keyword::ReorderEnd => return reorder_end_line(src, g, sh, at, p, e),
         Keyword::End => return end_line(src, g, sh, at, depth, p, e),
         Keyword::Other => return Step::Refused(refusal_with(e.text, 3)),
     }

@@ -36,7 +36,7 @@ use Rattle.symbols.proofs.NewLaws.{new-shape, key-named}
 -- ## The refusal
 
 -- one name is a name
-single-kind : (os : List Token) → single name os ≡ true → eqb (tokenAt os 0 .kind) name ≡ true
+pub single-kind : (os : List Token) → single name os ≡ true → eqb (tokenAt os 0 .kind) name ≡ true
 single-kind [] h = h
 single-kind (t ∷ []) h = h
 single-kind (t ∷ u ∷ ts) h = absurd (false≢true h)
@@ -79,7 +79,7 @@ module _ (g : Signs) (src : List ℕ) (p : Spot) (w : List ℕ) {h : Head} (v : 
       not-three g src p w (unfit-other os (eqb (tokenAt os 0 .kind) name) (single name os) (single-kind os) (subst (HeadIs g src p os) e v))
 
   module _ {i e : Spot} (k : h ≡ head.Name i e) where
-    named-first : NameFirst g src p (operandsAfter g src p) i e
+    pub named-first : NameFirst g src p (operandsAfter g src p) i e
     named-first = subst (HeadIs g src p (operandsAfter g src p)) k v
 
     -- what reading on after the name requires
@@ -100,7 +100,8 @@ module _ (g : Signs) (src : List ℕ) (p : Spot) (w : List ℕ) {h : Head} (v : 
     pub head-fits : Sound (keyAt g src) (length src) w → 2 * i .at < 2 ^ 64
     head-fits s = omega (arith, head-within, s .holds .roomy .few)
 
-    head-text : theName (tokenAt (operandsAfter g src p) 0) ≡ nameLeft g src i
+    -- the first operand's name
+    pub head-text : theName (tokenAt (operandsAfter g src p) 0) ≡ nameLeft g src i
     head-text = rw (named-first .first, named-first .names)
 
     module _ {n : Bool} (l : n ≡ eqb (length (operandsLeft g src true e)) 0) where

@@ -43,7 +43,7 @@ pub record Alike (ds : List Decl) (cs : List Declaration) : Type 0 where
 abbrev pub operandsAfter : Signs → List ℕ → Spot → List Token
 operandsAfter g src p = operands (tokensLeft g src p)
 
--- the lowest refusal of a line that stands before order_start
+-- the lowest refusal of a line that stands where a declaration may
 unfoldable pub symbolRefusal : List Decl → List Token → ℕ
 symbolRefusal ds os =
     lower (tokensRefusal os) (lowest (3 unless single name os ∷ 5 unless isNewIn ds (theName (tokenAt os 0)) ∷ []))

@@ -1,6 +1,6 @@
 -- `steps::word_step` meets its contract: each keyword's function.
 use Rattle.declaring.proofs.DispatchLaws.{still-step, still-at-step, writes-step}
-use Rattle.steps.proofs.StepLaws.{may-define, may-undef, may-ifdef, may-ifndef, branch-elif, branch-else, branch-endif, opened-symbol, opened-element, opened-start, opened-stop, opened-end, word-sound, word-some, word-few, undefined-word, step-other}
+use Rattle.steps.proofs.StepLaws.{may-define, may-undef, may-ifdef, may-ifndef, branch-elif, branch-else, branch-endif, opened-symbol, opened-element, opened-start, opened-stop, opened-after, opened-back, opened-end, word-sound, word-holding, word-some, word-few, undefined-word, step-other}
 use borrow.Author.Needs.{needs}
 use Rattle.steps.proofs.word_step.Statement.{statement}
 use Rattle.steps.proofs.word_step.Tie as tie
@@ -131,20 +131,38 @@ returns-12 c = search needs
 enum-told-13 : tie.Need-enum-told-13
 enum-told-13 c = search needs
 
-end-line-requires : tie.Need-end-line-requires
-end-line-requires c κs = search opened-end
+reorder-after-line-requires : tie.Need-reorder-after-line-requires
+reorder-after-line-requires c κs = (search opened-after, search word-holding)
 
 returns-13 : tie.Need-returns-13
-returns-13 c = search still-at-step
+returns-13 c = search writes-step
 
 enum-told-14 : tie.Need-enum-told-14
 enum-told-14 c = search needs
 
+reorder-end-line-requires : tie.Need-reorder-end-line-requires
+reorder-end-line-requires c κs = search opened-back
+
+returns-14 : tie.Need-returns-14
+returns-14 c = search still-step
+
+enum-told-15 : tie.Need-enum-told-15
+enum-told-15 c = search needs
+
+end-line-requires : tie.Need-end-line-requires
+end-line-requires c κs = search opened-end
+
+returns-15 : tie.Need-returns-15
+returns-15 c = search still-at-step
+
+enum-told-16 : tie.Need-enum-told-16
+enum-told-16 c = search needs
+
 refusal-with-requires : tie.Need-refusal-with-requires
 refusal-with-requires c κs = search needs
 
-returns-14 : tie.Need-returns-14
-returns-14 c = search step-other
+returns-16 : tie.Need-returns-16
+returns-16 c = search step-other
 
 pub word-step-spec : {M : Type 1} → statement M
 word-step-spec =
@@ -192,8 +210,14 @@ word-step-spec =
     same-length-7
     returns-12
     enum-told-13
-    end-line-requires
+    reorder-after-line-requires
     returns-13
     enum-told-14
+    reorder-end-line-requires
+    returns-14
+    enum-told-15
+    end-line-requires
+    returns-15
+    enum-told-16
     refusal-with-requires
-    returns-14)
+    returns-16)
