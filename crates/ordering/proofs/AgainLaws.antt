@@ -20,7 +20,7 @@ use Rattle.rows.proofs.CellLaws.{Apart}
 use Rattle.store.specs.declared.Found.{Found}
 use Rattle.store.specs.declared.Found.the-variants.{At, Nothing}
 use Rattle.listed.specs.declared.Order.{Order}
-use Rattle.listed.specs.Listed.{placeNumber, nextNumber, backNumber, Linked, ends, goes}
+use Rattle.listed.specs.Listed.{placeNumber}
 use Rattle.listed.proofs.MoveLaws.{one-has}
 use Rattle.known.specs.Known.{subjectAt, isRow, markOf, IsListed, Known}
 use Rattle.known.proofs.MarkLaws.{isAt, subject-mark, marked-subject, mark-row, rows-apart}
@@ -48,13 +48,6 @@ first-has : (P : ℕ → Type 0) (us : List ℕ) (v : ℕ) → ((u : ℕ) → on
 unfolding oneOf
 first-has P [] v a h = h
 first-has P (u ∷ us) v a h = a u (rw (eq-eqb u u refl))
-
--- the marks of a list are those that its links give
-pub linked-one : (w : List ℕ) (p : ℕ) (us vs : List ℕ) → Linked w p us → Linked w p vs → vs ≡ us
-linked-one w p [] [] ends ends = refl
-linked-one w p [] (v ∷ vs) ends (goes r m) = absurd (let s = r .some in omega (arith, s))
-linked-one w p (u ∷ us) [] (goes r m) ends = absurd (let s = r .some in omega (arith, s))
-linked-one w p (u ∷ us) (v ∷ vs) (goes r m) (goes q k) = ap (λ (x : List ℕ). u ∷ x) (linked-one w (cell w u nextNumber) us vs m k)
 
 none-of : (us : List ℕ) → oneOf (λ (u : ℕ). isAt u Nothing) us ≡ false
 unfolding oneOf

@@ -26,12 +26,12 @@ use Rattle.rows.specs.Cells.{cellAt, cell}
 use Rattle.listed.specs.declared.Order.{Order}
 use Rattle.listed.specs.Listed.{lineNumber, placeNumber, nextNumber, backNumber, Row, linkedTo, numbered, longer, withLine, shorter, unlinked, linkedBetween, longerAfter, withLineAfter}
 use Rattle.listed.proofs.ListLaws.{all-map, last-has, link-length}
-use Rattle.listed.proofs.MoveLaws.{one-has, next-has, back-has, without, without-all, without-one, behindMark, out-length, lines-out}
+use Rattle.listed.proofs.MoveLaws.{one-has, next-has, back-has, without, without-all, without-one, out-length, lines-out}
 use Rattle.known.specs.Known.{subjectAt, behind, isRow, markOf, IsListed, Known}
 use Rattle.known.proofs.MarkLaws.{row-in, rows-apart, marked-subject, mark-row}
 use Rattle.known.proofs.RankLaws.{isOrdered, rank-none}
-use Rattle.known.proofs.LineLaws.{newLine, Unlisted, Follows, Changed, changed, known-line}
-use Rattle.known.proofs.MovedLaws.{taken-none, taken-found, put-changed, known-put, moved-changed, known-moved}
+use Rattle.known.proofs.LineLaws.{newLine, Unlisted, Follows, Came, came-line}
+use Rattle.known.proofs.MovedLaws.{taken-none, taken-found, came-put, came-moved}
 use Rattle.sheet.specs.declared.Block.{Block}
 use Rattle.sheet.specs.declared.Sheet.{Sheet}
 use Rattle.sheet.specs.declared.Step.{Step}
@@ -42,7 +42,7 @@ use Rattle.sheet.proofs.OrderLaws.{open-listed, line-behind, out-behind, put-be
 use Rattle.ordering.specs.Facts.{Rowed, SomeKnown, withOrder, withLast, Ready, Lists, atEnd, firstly, anew}
 use Rattle.ordering.specs.Lines.{Reads}
 use Rattle.ordering.proofs.FactLaws.{found-rowed}
-use Rattle.ordering.proofs.AgainLaws.{linked-one, placed-all, again-order, last-one, last-other, block-more}
+use Rattle.ordering.proofs.AgainLaws.{placed-all, again-order, last-one, last-other, block-more}
 use Rattle.ordering.proofs.RangeLaws.{Taken, taken}
 
 pub some-known : (g : Signs) (src w : List ℕ) (sh : Sheet) (at depth : ℕ) → SomeOpen g src w sh at depth → SomeKnown g src w
@@ -222,31 +222,31 @@ module _ {g : Signs} {src w : List ℕ} {sh : Sheet} {x : Subject} {at next : �
         ltb-true (if isOrdered w′ (At m) then sh .order .count - 1 else sh .order .count) 32767 (ap (λ (c : ℕ). ltb c 32767) (sym a) ∙ t .room)
 
     -- what is held after it, wherever it has come to stand
-    placed-with : (w″ : List ℕ) (or : Order) (bl : Block) (ls : List OrderLine) (xs : List Subject) (marks″ : List ℕ)
-        → Known g src w″ or rules (k .n) (s .declared) ls → Changed g src w′ (k .n) (k .known .ds) marks m number place w″ or marks″
+    placed-with : (w″ : List ℕ) (or : Order) (bl : Block) (ls : List OrderLine) (xs : List Subject)
+        (came : Came g src w′ rules (k .n) (s .declared) (k .known .ds) marks m number place w″ or ls)
         → length w″ ≡ length w′ → ((i : ℕ) → togglesAt (length src) ≤ i → getD w″ i 0 ≡ getD w′ i 0) → or .count ≤ 32767
-        → (eqb (sh .phase) inBlock ≡ true → bl .from ≤ next) → (eqb (sh .phase) inBlock ≡ true → InBlock g src w″ marks″ bl xs)
+        → (eqb (sh .phase) inBlock ≡ true → bl .from ≤ next) → (eqb (sh .phase) inBlock ≡ true → InBlock g src w″ (came .known .marks) bl xs)
         → (eqb (sh .phase) inBlock ≡ false → xs ≡ [])
         → withOrdered s (record { rules = rules; lines = ls; block = xs }) ≡ after
         → Open g src w″ (record { phase = sh .phase; toggles = sh .toggles; rules = sh .rules; levels = sh .levels; order = or; block = bl }) cs next after
     unfolding oneOf
-    placed-with w″ or bl ls xs marks″ known″ c l b few f bk cl same =
-        let e : known″ .marks ≡ marks″ = linked-one w″ (or .first) marks″ (known″ .marks) (c .lines .linked) (known″ .lines .linked) in
+    placed-with w″ or bl ls xs came l b few f bk cl same =
         subst (Open g src w″ (record { phase = sh .phase; toggles = sh .toggles; rules = sh .rules; levels = sh .levels; order = or; block = bl }) cs next) same
-        (open-listed g src w sh cs at s o inside next w″ (k .n) or bl ls xs order-phase block-phase known″ (l ∙ k .long)
+        (open-listed g src w sh cs at s o inside next w″ (k .n) or bl ls xs order-phase block-phase (came .known) (l ∙ k .long)
         (λ i a. b i a ∙ k .beyond i a)
         (k .rows)
         few
-        (λ v y. places-after v (subst (λ (us : List ℕ). oneOf (eqb v) us ≡ true) e y))
+        places-after
         f
-        (λ p. subst (λ (us : List ℕ). InBlock g src w″ us bl xs) (sym e) (bk p))
+        bk
         cl)
       where
-        places-after : (v : ℕ) → oneOf (eqb v) marks″ ≡ true → cell w″ v placeNumber ≤ next
+        places-after : (v : ℕ) → oneOf (eqb v) (came .known .marks) ≡ true → cell w″ v placeNumber ≤ next
         places-after v y =
+            let c = came .changed in
             by (eqb v m)
             (λ q. let d = ap (λ (u : ℕ). cell w″ u placeNumber) (eqb-true v m q) in let z = c .place-is in omega (arith, d, z, to))
-            (λ q. let was : oneOf (eqb v) marks ≡ true = rw q at (one-has (λ (u : ℕ). oneOf (eqb u) (m ∷ marks) ≡ true) v marks″ (c .from) y) in
+            (λ q. let was : oneOf (eqb v) marks ≡ true = rw q at (one-has (λ (u : ℕ). oneOf (eqb u) (m ∷ marks) ≡ true) v (came .known .marks) (c .from) y) in
             let a = k .places v was in
             let row = one-has (IsListed g src w′ (k .known .ds)) v marks (k .known .listed) was .row in
             let far = rows-apart g src w′ (k .n) (k .known .ds) (k .known .holds) (k .known .once) m v placed-row row (λ e. eqb-false v m q (sym e)) in
@@ -283,9 +283,8 @@ module _ {g : Signs} {src w : List ℕ} {sh : Sheet} {x : Subject} {at next : �
       open-last =
           let u = placed-unlisted last-new in
           let q : sh .order .count < 32767 = (let a = roomy in rw last-new at a) in
-          placed-with (withLine w′ (sh .order) m number place) (longer (sh .order) m) (sh .block) (lines ++ newLine g src rules m number place ∷ []) [] (marks ++ m ∷ [])
-          (known-line g src w′ (sh .order) rules (k .n) (s .declared) lines (k .known) m number place u placed-is h)
-          (changed g src w′ (sh .order) rules (k .n) (s .declared) lines (k .known) m number place u placed-is h)
+          placed-with (withLine w′ (sh .order) m number place) (longer (sh .order) m) (sh .block) (lines ++ newLine g src rules m number place ∷ []) []
+          (came-line g src w′ (sh .order) rules (k .n) (s .declared) lines (k .known) m number place u placed-is h)
           (line-long w′ (sh .order) m number place)
           (λ i a. line-behind (length src) i a w′ (sh .order) m number place placed-in last-in)
           (omega (arith, q))
@@ -322,16 +321,15 @@ module _ {g : Signs} {src w : List ℕ} {sh : Sheet} {x : Subject} {at next : �
           ∙ placed-all (subjectAt g src) (i .own) (sh .block .named) l lines
           ∙ ap (λ (v : ℕ). putAfter (subjectAt g src v) l (takenOut x lines)) (sym (i .last))))
 
-      block-with : (w″ : List ℕ) (or : Order) (marks″ : List ℕ)
-          → Known g src w″ or rules (k .n) (s .declared) (putAfter (subjectAt g src a₀) (newLine g src rules m number place) (takenOut (subjectAt g src m) lines))
-          → Changed g src w′ (k .n) (k .known .ds) marks m number place w″ or marks″
+      block-with : (w″ : List ℕ) (or : Order)
+          (came : Came g src w′ rules (k .n) (s .declared) (k .known .ds) marks m number place w″ or (putAfter (subjectAt g src a₀) (newLine g src rules m number place) (takenOut (subjectAt g src m) lines)))
           → length w″ ≡ length w′ → ((i : ℕ) → togglesAt (length src) ≤ i → getD w″ i 0 ≡ getD w′ i 0) → or .count ≤ 32767
           → Open g src w″ (withLast sh or m) cs next after
-      block-with w″ or marks″ known″ c l b few =
+      block-with w″ or came l b few =
           placed-with w″ or (record { named = sh .block .named; last = m; from = sh .block .from })
-          (putAfter (subjectAt g src a₀) (newLine g src rules m number place) (takenOut (subjectAt g src m) lines)) (blockWith (s .ordered .block) x) marks″ known″ c l b few
+          (putAfter (subjectAt g src a₀) (newLine g src rules m number place) (takenOut (subjectAt g src m) lines)) (blockWith (s .ordered .block) x) came l b few
           (λ e. let d = late in omega (arith, d, to))
-          (λ e. block-more g src w′ (sh .order) rules (k .n) (s .declared) lines (k .known) (sh .block) (s .ordered .block) (in-block p) m x (k .mark) (t .first) number place w″ or marks″ c late)
+          (λ e. block-more g src w′ (sh .order) rules (k .n) (s .declared) lines (k .known) (sh .block) (s .ordered .block) (in-block p) m x (k .mark) (t .first) number place w″ or (came .known .marks) (came .changed) late)
           (λ e. clash (eq-eqb (sh .phase) inBlock p) e)
           block-same
 
@@ -344,10 +342,9 @@ module _ {g : Signs} {src w : List ℕ} {sh : Sheet} {x : Subject} {at next : �
           let none : takenOut (subjectAt g src m) lines ≡ lines = ap (λ (y : Subject). takenOut y lines) placed-subject
           ∙ taken-none g src w′ (sh .order) rules (k .n) (s .declared) lines (k .known) x
           (rank-none g src w′ (sh .order) rules (k .n) (s .declared) lines (k .known) x (At m) (k .mark) ∙ ap not z) in
-          block-with (withLineAfter w′ a₀ m number place) (longerAfter w′ (sh .order) a₀ m) (behindMark a₀ m marks)
-          (subst (λ (ls : List OrderLine). Known g src (withLineAfter w′ a₀ m number place) (longerAfter w′ (sh .order) a₀ m) rules (k .n) (s .declared) (putAfter (subjectAt g src a₀) (newLine g src rules m number place) ls)) (sym none)
-          (known-put g src w′ (sh .order) rules (k .n) (s .declared) lines (k .known) a₀ m number place one placed-is h u))
-          (put-changed g src w′ (sh .order) rules (k .n) (s .declared) lines (k .known) a₀ m number place one placed-is h u)
+          block-with (withLineAfter w′ a₀ m number place) (longerAfter w′ (sh .order) a₀ m)
+          (subst (λ (ls : List OrderLine). Came g src w′ rules (k .n) (s .declared) (k .known .ds) marks m number place (withLineAfter w′ a₀ m number place) (longerAfter w′ (sh .order) a₀ m) (putAfter (subjectAt g src a₀) (newLine g src rules m number place) ls)) (sym none)
+          (came-put g src w′ (sh .order) rules (k .n) (s .declared) lines (k .known) a₀ m number place one placed-is h u))
           (put-long w′ a₀ m number place)
           (λ i a. put-behind (length src) i a w′ a₀ m number place (one-in a₀ one) placed-in (next-has w′ Within (sh .order .first) marks a₀ (k .known .lines .linked) all-in one))
           (omega (arith, q))
@@ -360,9 +357,8 @@ module _ {g : Signs} {src w : List ℕ} {sh : Sheet} {x : Subject} {at next : �
           let own = placed-one z in
           let out = unlinked w′ m in
           let q : sh .order .count - 1 < 32767 = (let a = roomy in rw z at a) in
-          block-with (withLineAfter out a₀ m number place) (longerAfter out (shorter w′ (sh .order) m) a₀ m) (behindMark a₀ m (without m marks))
-          (known-moved g src w′ (sh .order) rules (k .n) (s .declared) lines (k .known) a₀ m number place one placed-is h own (behind-other t p))
-          (moved-changed g src w′ (sh .order) rules (k .n) (s .declared) lines (k .known) a₀ m number place one placed-is h own (behind-other t p))
+          block-with (withLineAfter out a₀ m number place) (longerAfter out (shorter w′ (sh .order) m) a₀ m)
+          (came-moved g src w′ (sh .order) rules (k .n) (s .declared) lines (k .known) a₀ m number place one placed-is h own (behind-other t p))
           (put-long out a₀ m number place ∙ out-length w′ m)
           (λ i a. put-behind (length src) i a out a₀ m number place (one-in a₀ one) placed-in
           (next-has out Within (shorter w′ (sh .order) m .first) (without m marks) a₀ (lines-out w′ m (sh .order) marks (k .known .lines) (k .known .backs) own .linked)
