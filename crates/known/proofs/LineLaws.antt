@@ -52,26 +52,6 @@ pub holds-numbered : (g : Signs) (src : List ℕ) (n : ℕ) (ds : List Decl) (w 
 unfolding numbered
 holds-numbered g src n ds w v number place h = holds-told v placeNumber place (omega arith) (holds-told v lineNumber number (omega arith) h)
 
--- the lines may be written otherwise
-pub with-lines : (g : Signs) (src w : List ℕ) (o : Order) (rs : List Rule) (n : ℕ) (cs : List Declaration) (ls ms : List OrderLine) → ms ≡ ls
-    → Known g src w o rs n cs ls → Known g src w o rs n cs ms
-with-lines g src w o rs n cs ls ms e k = record {
-  ds = k .ds;
-  holds = k .holds;
-  says = k .says;
-  once = k .once;
-  some = k .some;
-  marks = k .marks;
-  lines = k .lines;
-  backs = k .backs;
-  are = e ∙ k .are;
-  listed = k .listed;
-  all = k .all;
-  free = k .free;
-  alone = k .alone;
-  unranked = k .unranked;
-}
-
 -- ## What is known
 
 -- the order line of a mark that is given its numbers
@@ -108,6 +88,17 @@ pub record Changed (g : Signs) (src w : List ℕ) (n : ℕ) (ds : List Decl) (ma
   pub from : All (λ (u : ℕ). oneOf (eqb u) (v ∷ marks) ≡ true) marks′
   pub new : oneOf (eqb v) marks′ ≡ true
   pub old : (u : ℕ) → (u ≡ v → ⊥) → oneOf (eqb u) marks ≡ true → oneOf (eqb u) marks′ ≡ true
+
+-- What is known then, and what it changed.
+pub record Came (g : Signs) (src w : List ℕ) (rs : List Rule) (n : ℕ) (cs : List Declaration) (ds : List Decl) (marks : List ℕ) (v number place : ℕ) (w′ : List ℕ) (o′ : Order)
+    (ls′ : List OrderLine) : Type 0 where
+  pub known : Known g src w′ o′ rs n cs ls′
+  pub changed : Changed g src w n ds marks v number place w′ o′ (known .marks)
+
+-- What is known, with these marks in the list.
+record KnownBy (g : Signs) (src w : List ℕ) (o : Order) (rs : List Rule) (n : ℕ) (cs : List Declaration) (ls : List OrderLine) (marks : List ℕ) : Type 0 where
+  known : Known g src w o rs n cs ls
+  same : known .marks ≡ marks
 
 module _ (g : Signs) (src w : List ℕ) (o : Order) (rs : List Rule) (n : ℕ) (cs : List Declaration) (ls : List OrderLine) (k : Known g src w o rs n cs ls)
     (v number place : ℕ) (row : isRow (length src) (k .ds) v ≡ true) (even : v % 2 ≡ 0) (p : Follows g src place)
@@ -206,23 +197,31 @@ module _ (g : Signs) (src w : List ℕ) (o : Order) (rs : List Rule) (n : ℕ) (
       (λ s. subst (λ (i : ℕ). cell w′ x i ≡ 0) (sym (eqb-true j backNumber s)) (c .backs x e (free-apart x a b) ∙ k .free x backNumber a b (omega arith)))
       (λ s. c .others x j h (eqb-false j nextNumber t) (eqb-false j backNumber s) e ∙ k .free x j a b h))
 
-  pub known-changed : Known g src w′ o′ rs n cs (map (lineAt g src rs w′) marks′)
-  known-changed = record {
-    ds = ds;
-    holds = c .holds;
-    says = says-kept w w′ ds cs (c .chars) (k .says);
-    once = k .once;
-    some = k .some;
-    marks = marks′;
-    lines = c .lines;
-    backs = c .backed;
-    are = refl;
-    listed = all-map (λ (x : ℕ). oneOf (eqb x) (v ∷ k .marks) ≡ true) (IsListed g src w′ ds) marks′ listed-each (c .from);
-    all = all-kept;
-    free = free-kept;
-    alone = λ x h z. let y = unlisted-place x h z in c .nexts x (unlisted-row x h z) (unlisted-apart x h y) ∙ k .alone x h y;
-    unranked = λ x h z. let y = unlisted-place x h z in c .backs x (unlisted-row x h z) (unlisted-apart x h y) ∙ k .unranked x h y;
+  known-by : (ls′ : List OrderLine) → ls′ ≡ map (lineAt g src rs w′) marks′ → KnownBy g src w′ o′ rs n cs ls′ marks′
+  known-by ls′ e = record {
+    known = record {
+      ds = ds;
+      holds = c .holds;
+      says = says-kept w w′ ds cs (c .chars) (k .says);
+      once = k .once;
+      some = k .some;
+      marks = marks′;
+      lines = c .lines;
+      backs = c .backed;
+      are = e;
+      listed = all-map (λ (x : ℕ). oneOf (eqb x) (v ∷ k .marks) ≡ true) (IsListed g src w′ ds) marks′ listed-each (c .from);
+      all = all-kept;
+      free = free-kept;
+      alone = λ x h z. let y = unlisted-place x h z in c .nexts x (unlisted-row x h z) (unlisted-apart x h y) ∙ k .alone x h y;
+      unranked = λ x h z. let y = unlisted-place x h z in c .backs x (unlisted-row x h z) (unlisted-apart x h y) ∙ k .unranked x h y;
+    };
+    same = refl;
   }
+
+  pub known-changed : (ls′ : List OrderLine) → ls′ ≡ map (lineAt g src rs w′) marks′ → Came g src w rs n cs (k .ds) (k .marks) v number place w′ o′ ls′
+  known-changed ls′ e =
+      let x = known-by ls′ e in
+      record { known = x .known; changed = subst (Changed g src w n (k .ds) (k .marks) v number place w′ o′) (sym (x .same)) c }
 
 -- ## At the end of the order
 
@@ -256,9 +255,9 @@ module _ (g : Signs) (src w : List ℕ) (o : Order) (rs : List Rule) (n : ℕ) (
   last-off : (x : ℕ) → All (λ (t : ℕ). Apart t x) (k .marks) → (o .last ≡ 0 → ⊥) → Apart (o .last) x
   last-off x a z = subst (λ (t : ℕ). Apart t x) (sym (k .lines .last)) (last-has (λ (t : ℕ). Apart t x) (k .marks) a (λ e. z (k .lines .last ∙ e)))
 
-  changed : Changed g src w n (k .ds) (k .marks) v number place after (longer o v) (k .marks ++ v ∷ [])
+  line-changed : Changed g src w n (k .ds) (k .marks) v number place (withLine w o v number place) (longer o v) (k .marks ++ v ∷ [])
   unfolding withLine oneOf
-  changed = record {
+  line-changed = record {
     holds = holds-numbered g src n (k .ds) backed v number place (holds-told v backNumber (o .last) (omega arith) (holds-linked g src n (k .ds) w (o .last) nextNumber v (omega arith) (k .holds)));
     number-is = numbered-number backed v number place inside;
     place-is = numbered-place backed v number place inside;
@@ -282,10 +281,12 @@ module _ (g : Signs) (src w : List ℕ) (o : Order) (rs : List Rule) (n : ℕ) (
     old = λ x d e. oneOf-append (eqb x) (k .marks) (v ∷ []) ∙ rw e;
   }
 
-  pub known-line : Known g src (withLine w o v number place) (longer o v) rs n cs (ls ++ newLine g src rs v number place ∷ [])
-  known-line =
-      with-lines g src after (longer o v) rs n cs (map (lineAt g src rs after) (k .marks ++ v ∷ [])) (ls ++ newLine g src rs v number place ∷ [])
-      (ap (λ (ms : List OrderLine). ms ++ newLine g src rs v number place ∷ []) (k .are ∙ lines-same g src w o rs n cs ls k v number place (u .row) (u .even) p after (longer o v) (k .marks ++ v ∷ []) changed (k .marks) unlisted-others)
-      ∙ ap (λ (m : OrderLine). map (lineAt g src rs after) (k .marks) ++ m ∷ []) (line-new g src w o rs n cs ls k v number place (u .row) (u .even) p after (longer o v) (k .marks ++ v ∷ []) changed)
+  pub came-line : Came g src w rs n cs (k .ds) (k .marks) v number place (withLine w o v number place) (longer o v) (ls ++ newLine g src rs v number place ∷ [])
+  came-line =
+      known-changed g src w o rs n cs ls k v number place (u .row) (u .even) p after (longer o v) (k .marks ++ v ∷ []) line-changed (ls ++ newLine g src rs v number place ∷ [])
+      (ap (λ (ms : List OrderLine). ms ++ newLine g src rs v number place ∷ []) (k .are ∙ lines-same g src w o rs n cs ls k v number place (u .row) (u .even) p after (longer o v) (k .marks ++ v ∷ []) line-changed (k .marks) unlisted-others)
+      ∙ ap (λ (m : OrderLine). map (lineAt g src rs after) (k .marks) ++ m ∷ []) (line-new g src w o rs n cs ls k v number place (u .row) (u .even) p after (longer o v) (k .marks ++ v ∷ []) line-changed)
       ∙ sym (map-append (lineAt g src rs after) (k .marks) (v ∷ [])))
-      (known-changed g src w o rs n cs ls k v number place (u .row) (u .even) p after (longer o v) (k .marks ++ v ∷ []) changed)
+
+  pub known-line : Known g src (withLine w o v number place) (longer o v) rs n cs (ls ++ newLine g src rs v number place ∷ [])
+  known-line = came-line .known

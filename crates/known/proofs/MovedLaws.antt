@@ -1,7 +1,7 @@
 -- An order line in a block: what is known after it has come to stand after another, and after one that had a line has left its old place.
 use mathlib.Core.Path.{_≡_, refl, sym, ap, _∙_, subst}
 use mathlib.Core.Bool.{true, false, not, or-true}
-use mathlib.Core.List.{List, [], _∷_, map}
+use mathlib.Core.List.{List, [], _∷_, _++_, map}
 use Prim.Native.Nat.{ℕ, suc, _+_, _-_, _*_, _/_, _%_, _≤_, _<_}
 use native.Mathlib.Omega.{arith}
 use lib.ListN.{length}
@@ -30,7 +30,7 @@ use Rattle.listed.proofs.MoveLaws.{without, behindMark, one-has, all-one, linke
 use Rattle.known.specs.Known.{Once, subjectAt, lineAt, isRow, markOf, IsListed, Known}
 use Rattle.known.proofs.MarkLaws.{isAt, subject-marked, marked-subject, subject-mark, mark-row, rows-apart}
 use Rattle.known.proofs.RankLaws.{isOrdered, rank-none}
-use Rattle.known.proofs.LineLaws.{newLine, Unlisted, Follows, Changed, holds-linked, holds-numbered, with-lines, line-same, lines-same, line-new, known-changed, unlisted-others}
+use Rattle.known.proofs.LineLaws.{newLine, Unlisted, Follows, Changed, Came, holds-linked, holds-numbered, line-same, line-new, known-changed, unlisted-others}
 
 -- ## Subjects and marks of lines
 
@@ -158,7 +158,7 @@ module _ (g : Signs) (src w : List ℕ) (o : Order) (rs : List Rule) (n : ℕ) (
     inside : 8 * (v / 16) + 8 ≤ length between
     inside = let i = r .inside in let l = put-length w a v row-a r apart in omega (arith, i, l)
 
-    put-changed : Changed g src w n ds marks v number place after (longerAfter w o a v) (behindMark a v marks)
+    put-changed : Changed g src w n (k .ds) (k .marks) v number place (withLineAfter w a v number place) (longerAfter w o a v) (behindMark a v (k .marks))
     unfolding withLineAfter linkedBetween oneOf
     put-changed = record {
       holds = holds-numbered g src n ds between v number place
@@ -182,15 +182,19 @@ module _ (g : Signs) (src w : List ℕ) (o : Order) (rs : List Rule) (n : ℕ) (
       old = λ x d e. behind-one a v x marks d ∙ e;
     }
 
-    pub known-put : Known g src (withLineAfter w a v number place) (longerAfter w o a v) rs n cs (putAfter (subjectAt g src a) (newLine g src rs v number place) ls)
-    known-put =
-        with-lines g src after (longerAfter w o a v) rs n cs (map (lineAt g src rs after) (behindMark a v marks)) (putAfter (subjectAt g src a) (newLine g src rs v number place) ls)
+    pub came-put : Came g src w rs n cs (k .ds) (k .marks) v number place (withLineAfter w a v number place) (longerAfter w o a v)
+        (putAfter (subjectAt g src a) (newLine g src rs v number place) ls)
+    came-put =
+        known-changed g src w o rs n cs ls k v number place (u .row) (u .even) p after (longerAfter w o a v) (behindMark a v marks) put-changed
+        (putAfter (subjectAt g src a) (newLine g src rs v number place) ls)
         (ap (putAfter (subjectAt g src a) (newLine g src rs v number place)) (k .are)
         ∙ put-lines g src w rs n ds (k .holds) (k .once) after a v (newLine g src rs v number place) (listed-a .row) (listed-a .even)
         (line-new g src w o rs n cs ls k v number place (u .row) (u .even) p after (longerAfter w o a v) (behindMark a v marks) put-changed)
         (line-same g src w o rs n cs ls k v number place (u .row) (u .even) p after (longerAfter w o a v) (behindMark a v marks) put-changed)
         marks (k .listed) others-apart)
-        (known-changed g src w o rs n cs ls k v number place (u .row) (u .even) p after (longerAfter w o a v) (behindMark a v marks) put-changed)
+
+    pub known-put : Known g src (withLineAfter w a v number place) (longerAfter w o a v) rs n cs (putAfter (subjectAt g src a) (newLine g src rs v number place) ls)
+    known-put = came-put .known
 
   -- ## A line that moves
 
@@ -246,7 +250,7 @@ module _ (g : Signs) (src w : List ℕ) (o : Order) (rs : List Rule) (n : ℕ) (
     out-back-off : (x : ℕ) → All (λ (t : ℕ). Apart t x) marks → cell out x backNumber ≡ cell w x backNumber
     out-back-off x b = out-back w v x (next-has w (λ (t : ℕ). Apart t x) (o .first) marks v (k .lines .linked) b own)
 
-    moved-changed : Changed g src w n ds marks v number place after₂ order₂ (behindMark a v left)
+    moved-changed : Changed g src w n (k .ds) (k .marks) v number place (withLineAfter (unlinked w v) a v number place) (longerAfter (unlinked w v) (shorter w o v) a v) (behindMark a v (without v (k .marks)))
     unfolding withLineAfter linkedBetween unlinked oneOf
     moved-changed = record {
       holds = holds-numbered g src n ds between₂ v number place
@@ -276,14 +280,17 @@ module _ (g : Signs) (src w : List ℕ) (o : Order) (rs : List Rule) (n : ℕ) (
       old = λ x f e. behind-one a v x left f ∙ without-one v x marks f ∙ e;
     }
 
-    pub known-moved : Known g src (withLineAfter (unlinked w v) a v number place) (longerAfter (unlinked w v) (shorter w o v) a v) rs n cs
+    pub came-moved : Came g src w rs n cs (k .ds) (k .marks) v number place (withLineAfter (unlinked w v) a v number place) (longerAfter (unlinked w v) (shorter w o v) a v)
         (putAfter (subjectAt g src a) (newLine g src rs v number place) (takenOut (subjectAt g src v) ls))
-    known-moved =
-        with-lines g src after₂ order₂ rs n cs (map (lineAt g src rs after₂) (behindMark a v left))
+    came-moved =
+        known-changed g src w o rs n cs ls k v number place (listed-v .row) (listed-v .even) p after₂ order₂ (behindMark a v left) moved-changed
         (putAfter (subjectAt g src a) (newLine g src rs v number place) (takenOut (subjectAt g src v) ls))
         (ap (putAfter (subjectAt g src a) (newLine g src rs v number place)) (taken-known g src w o rs n cs ls k v own)
         ∙ put-lines g src w rs n ds (k .holds) (k .once) after₂ a v (newLine g src rs v number place) (listed-a .row) (listed-a .even)
         (line-new g src w o rs n cs ls k v number place (listed-v .row) (listed-v .even) p after₂ order₂ (behindMark a v left) moved-changed)
         (line-same g src w o rs n cs ls k v number place (listed-v .row) (listed-v .even) p after₂ order₂ (behindMark a v left) moved-changed)
         left (without-all (IsListed g src w ds) v marks (k .listed)) left-apart)
-        (known-changed g src w o rs n cs ls k v number place (listed-v .row) (listed-v .even) p after₂ order₂ (behindMark a v left) moved-changed)
+
+    pub known-moved : Known g src (withLineAfter (unlinked w v) a v number place) (longerAfter (unlinked w v) (shorter w o v) a v) rs n cs
+        (putAfter (subjectAt g src a) (newLine g src rs v number place) (takenOut (subjectAt g src v) ls))
+    known-moved = came-moved .known

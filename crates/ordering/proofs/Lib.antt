@@ -1,4 +1,5 @@
 pub mod FactLaws
+pub mod AgainLaws
 pub mod OwnLaws
 pub mod RowLaws
 pub mod RangeLaws

@@ -1,6 +1,6 @@
 -- A line that opens with a name, as an order line: what it is read as, and the row that it is given.
 use mathlib.Core.Path.{_≡_, refl, sym, ap, _∙_, subst}
-use mathlib.Core.Bool.{true, false≢true}
+use mathlib.Core.Bool.{Bool, true, false≢true}
 use mathlib.Core.List.{List, [], _∷_}
 use Prim.Native.Nat.{ℕ, _+_, _*_, _/_, _%_, _≤_, _<_}
 use native.Mathlib.Omega.{arith}
@@ -22,6 +22,8 @@ use Rattle.tokens.specs.declared.Tok.{Tok}
 use Rattle.tokens.specs.Left.{isInside, tokenThere}
 use Rattle.tokens.proofs.RefusalLaws.{lower-assoc}
 use Rattle.names.specs.Named.{nameLeft}
+use Rattle.rows.specs.Cells.{cell}
+use Rattle.listed.specs.Listed.{placeNumber}
 use Rattle.subjects.specs.Keys.{Key, item, chars, keyAt, subjectLeft}
 use Rattle.subjects.proofs.KeyLaws.{keyAt-quotes}
 use Rattle.subjects.proofs.SpotLaws.{keyAt-inside}
@@ -37,13 +39,15 @@ use Rattle.sheet.specs.declared.Step.{Step}
 use Rattle.sheet.specs.Sheets.{Open, SomeOpen, StepIs}
 use Rattle.sheet.specs.Names.{subjectIn, operandsFrom, NameLine}
 use Rattle.sheet.proofs.SheetLaws.{read-whole}
+use Rattle.sheet.proofs.BlockLaws.{mark-older, block-same}
 use Rattle.ordering.specs.declared.Facts.{Facts}
-use Rattle.ordering.specs.Facts.{FactsOf, OwnRefused, RowIs, Ready, Lists}
+use Rattle.ordering.specs.Facts.{isAgain, FactsOf, AgainIs, OwnRefused, RowIs, Ready, Lists}
 use Rattle.ordering.specs.Lines.{Reads}
 use Rattle.sheet.proofs.SheetLaws.{spot-behind}
 use Rattle.ordering.proofs.FactLaws.{mark-found, mark-is}
+use Rattle.ordering.proofs.AgainLaws.{again-is}
 use Rattle.ordering.proofs.RangeLaws.{Ranged, ranged-low, ranged-high, ranged-lower, ranged-unless, ranged-tokens, ranged-order, lower-left-zero, lower-right-zero, Taken}
-use Rattle.ordering.proofs.StepLaws.{line-taken, line-listed, Placed, placed-is, placed-lines, placed-small}
+use Rattle.ordering.proofs.StepLaws.{phase-of, line-taken, line-listed, Placed, placed-ready}
 
 -- ## Names
 
@@ -115,13 +119,19 @@ module _ (g : Signs) (src : List ℕ) (at : ℕ) (q : Spot) (t : Tok) (e : LineE
   pub name-some : 1 ≤ t .next .at
   name-some = let a = l .token .on in omega (arith, a)
 
-  module _ (w : List ℕ) (sh : Sheet) (number : ℕ) (k : Facts) (f : FactsOf g src w (subjectLeft g src (t .inside)) k) (r : ℕ) (v : OwnRefused g src w sh (t .next) k r) where
+  module _ (w : List ℕ) (sh : Sheet) (number : ℕ) (k : Facts) (f : FactsOf g src w (subjectLeft g src (t .inside)) k)
+      (i : Found) (d : Finds (keyAt g src) (length src) w (keyAt g src (2 * t .inside .at)) i) (again : Bool) (u : again ≡ isAgain w sh i) (r : ℕ) (v : OwnRefused g src w sh (t .next) k again r) where
+    second : AgainIs g src w sh (subjectIn g src t) again
+    second =
+        again-is g src w sh (subjectIn g src t) i again u
+        (λ cs at s o. mark-found (length src) (o .known .ds) (nameLeft g src (t .inside)) ∙ mark-is g src w (t .inside) i name-inside d (sh .order) (s .ordered .rules) (o .n) (s .declared) (s .ordered .lines) (o .known))
+
     module _ {x y : ℕ} (a : x ≡ lower (t .refusal) r) (b : y ≡ lower (2 unless e .text) x) where
       -- the whole refusal
       refusal-is : (cs : List Chain) (s : State) → Open g src w sh cs at s
           → lower (2 unless e .text) (lower (t .refusal) (lower (tokensRefusal (operandsFrom g src (t .next))) (orderLine s number (subjectIn g src t) (operandsFrom g src (t .next)) .refusal))) ≡ y
       refusal-is cs s o =
-          sym (b ∙ ap (lower (2 unless e .text)) (a ∙ ap (lower (t .refusal)) (v .is (subjectIn g src t) f cs at s number o)))
+          sym (b ∙ ap (lower (2 unless e .text)) (a ∙ ap (lower (t .refusal)) (v .is (subjectIn g src t) f second cs at s number o)))
 
       ranged : {depth : ℕ} → SomeOpen g src w sh at depth → Ranged y
       ranged so =
@@ -157,19 +167,19 @@ module _ (g : Signs) (src : List ℕ) (at : ℕ) (q : Spot) (t : Tok) (e : LineE
 
   module _ (w : List ℕ) (sh : Sheet) (number : ℕ) (cs : List Chain) (s : State) (o : Open g src w sh cs at s) (y : Taken s number (subjectIn g src t) (operandsFrom g src (t .next))) where
     rows-at : o .n ≤ (at + 1) / 8
-    rows-at = let h = o .rows (l .inside) in rw (sym (o .phase) ∙ y .phase) at h
+    rows-at = let p = phase-of (s .place .phase) (sh .phase) (o .phase) (y .phase) in rw (p .0, p .1) at (o .rows (l .inside))
 
     on : at < e .next
     on = l .line .on (l .inside)
 
     name-placed : (w′ : List ℕ) (m : ℕ) (f : Found) → Finds (keyAt g src) (length src) w (keyAt g src (2 * t .inside .at)) f
-        → RowIs g src w (2 * t .inside .at) w′ m f → Placed g src w sh (subjectIn g src t) (e .next) w′ m s
+        → RowIs g src w (2 * t .inside .at) w′ m f → Placed g src w sh (subjectIn g src t) at (e .next) w′ m s
     name-placed w′ m (At u) d h =
         let x = subjectIn g src t in
         let k = o .known in
         let i = mark-is g src w (t .inside) (At u) name-inside d (sh .order) (s .ordered .rules) (o .n) (s .declared) (s .ordered .lines) k in
-        subst (λ (z : List ℕ). Placed g src w sh x (e .next) z m s) (sym (h .1))
-        (subst (λ (z : ℕ). Placed g src w sh x (e .next) w z s) (sym (h .0)) (record {
+        subst (λ (z : List ℕ). Placed g src w sh x at (e .next) z m s) (sym (h .1))
+        (subst (λ (z : ℕ). Placed g src w sh x at (e .next) w z s) (sym (h .0)) (record {
           n = o .n;
           known = k;
           mark = mark-found (length src) (k .ds) (nameLeft g src (t .inside)) ∙ i;
@@ -178,6 +188,8 @@ module _ (g : Signs) (src : List ℕ) (at : ℕ) (q : Spot) (t : Tok) (e : LineE
           long = refl;
           beyond = λ j a. refl;
           rows = λ a. let b = rows-at in let c = on in omega (arith, b, c);
+          places = o .places;
+          block = o .block;
         }))
     name-placed w′ m Nothing d h =
         let v = 2 * t .inside .at in
@@ -195,8 +207,9 @@ module _ (g : Signs) (src : List ℕ) (at : ℕ) (q : Spot) (t : Tok) (e : LineE
         let some : 1 ≤ v = omega (arith, a) in
         let char : keyAt g src v ≡ item (character (z .code)) = key ∙ ap item (z .is) in
         let more = known-character-new g src w (sh .order) (s .ordered .rules) (o .n) (s .declared) (s .ordered .lines) k v w′ (h .1) room below new some (z .code) char in
+        let same : (u j : ℕ) → u / 16 ≤ length src / 8 + 1 → 1 ≤ j → j < 5 → cell w′ u j ≡ cell w u j = λ u j a b c. h .1 .five u j c in
         let found : first (keyAt g src v) (more .known .ds) ≡ At v = ap (first (keyAt g src v)) (more .same) ∙ first-fresh (keyAt g src) v (k .ds) in
-        subst (λ (j : ℕ). Placed g src w sh x (e .next) w′ j s) (sym (h .0)) (record {
+        subst (λ (j : ℕ). Placed g src w sh x at (e .next) w′ j s) (sym (h .0)) (record {
           n = v / 16 + 1;
           known = more .known;
           mark = mark-found (length src) (more .known .ds) (nameLeft g src (t .inside)) ∙ ap (λ (j : Key). first j (more .known .ds)) (sym key) ∙ found;
@@ -205,13 +218,21 @@ module _ (g : Signs) (src : List ℕ) (at : ℕ) (q : Spot) (t : Tok) (e : LineE
           long = h .1 .long;
           beyond = λ j n. h .1 .beyond j (omega (arith, n));
           rows = λ n. let p = name-far n in let q = l .token .long-name (l .name) in let r = shaped-long (nameLeft g src (t .inside)) (z .shaped) in omega (arith, p, q, r);
+          places = λ u j.
+              let was = mark-older g src w w′ (sh .order) (s .ordered .rules) (s .ordered .rules) (o .n) (v / 16 + 1) (s .declared) (s .declared) (s .ordered .lines) (s .ordered .lines) k (more .known) same u j in
+              let a = o .places u was in
+              let f = h .1 .five u placeNumber (omega arith) in
+              omega (arith, a, f);
+          block = λ p.
+              block-same g src w w′ (sh .order) (s .ordered .rules) (s .ordered .rules) (o .n) (v / 16 + 1) (s .declared) (s .declared) (s .ordered .lines) (s .ordered .lines) k (more .known) same
+              (sh .block) (s .ordered .block) (o .block p);
         })
 
   -- ## The step
 
   module _ (w : List ℕ) (sh : Sheet) (number depth : ℕ) (so : SomeOpen g src w sh at depth) (f : Found) (d : Finds (keyAt g src) (length src) w (keyAt g src (2 * t .inside .at)) f)
       (r : ℕ) (v : Reads g src w sh at number (subjectIn g src t) (t .next) r) (z : r ≡ 0) (w′ : List ℕ) (m : ℕ) (h : RowIs g src w (2 * t .inside .at) w′ m f) where
-    there : (cs : List Chain) (s : State) → Open g src w sh cs at s → Placed g src w sh (subjectIn g src t) (e .next) w′ m s
+    there : (cs : List Chain) (s : State) → Open g src w sh cs at s → Placed g src w sh (subjectIn g src t) at (e .next) w′ m s
     there cs s o = name-placed w sh number cs s o (line-taken v z cs s o) w′ m f d h
 
     pub name-ready : number ≤ at + 1 → Ready w′ sh m number (t .next .at)
@@ -220,10 +241,11 @@ module _ (g : Signs) (src : List ℕ) (at : ℕ) (q : Spot) (t : Tok) (e : LineE
         let a = so .short in
         let b = l .inside in
         let c = name-next in
-        let n = so .held .few in
-        record { row = placed-is k; lines = placed-lines k; small-mark = placed-small k; small-number = omega (arith, a, b, i); small-place = omega (arith, a, c); few = omega (arith, n) }
+        placed-ready k (line-taken v z (so .chains) (so .state) (so .held)) (t .next .at) (omega (arith, a, b, i)) (omega (arith, a, c)) (so .held .few)
 
     pub name-listed : (w″ : List ℕ) (st : Step) → Lists w′ sh m number (t .next .at) e w″ st → StepIs g src w sh at number depth w″ st
     name-listed w″ st a =
-        line-listed v z (l .line) (l .inside) there depth (t .next .at) w″ st
-        (spot-behind (t .next) name-plain (l .token .edge (let k = l .name in omega (arith, k)))) name-some name-next a
+        let i = l .from in
+        let j = l .token .on in
+        line-listed v z (l .line) (l .inside) there depth (t .next .at)
+        (spot-behind (t .next) name-plain (l .token .edge (let k = l .name in omega (arith, k)))) (omega (arith, i, j)) name-some name-next (l .reach) w″ st a

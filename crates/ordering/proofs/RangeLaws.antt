@@ -7,13 +7,13 @@ use Prim.Native.Nat.{ℕ, _≤_}
 use native.Mathlib.Omega.{arith}
 use lib.ListN.{length}
 use lib.Dec.{eqb, leb, ltb}
-use borrow.Author.Tests.{eqb-true, eqb-false}
+use borrow.Author.Tests.{eqb-true, eqb-false, not-true}
 use Rattle.lists.proofs.Bools.{by, and-left, and-right}
 use Rattle.lists.proofs.Lists.{All}
 use Rattle.rules.specs.Text.{every, is, _unless_, lower, lowest}
 use Rattle.rules.specs.Tokens.{Token, tokensRefusal}
-use Rattle.rules.specs.State.{inOrder, Declaration, Subject, State, inPhase}
-use Rattle.rules.specs.OrderLines.{isNames, subjectOf, stands, isSymbol, rankOf, weightRefusal, weightsRefusal, operandList, orderLine}
+use Rattle.rules.specs.State.{inOrder, inBlock, Declaration, Subject, State, inPhase}
+use Rattle.rules.specs.OrderLines.{isNames, subjectOf, stands, isSymbol, takenOut, again, weightRefusal, weightsRefusal, operandList, orderLine}
 use Rattle.operands.proofs.LineLaws.{Known, refusal-known}
 
 -- ## The range
@@ -98,10 +98,10 @@ module _ (s : State) (number : ℕ) (x : Subject) (os : List Token) where
   unfolding orderLine
   ranged-order =
       let ws = operandList os in
-      let a = inPhase inOrder s && (eqb (length os) 0 || not (isSymbol (s .declared) x)) in
-      let b = eqb (rankOf (s .ordered .lines) x) 0 in
+      let a = (inPhase inOrder s || inPhase inBlock s) && (eqb (length os) 0 || not (isSymbol (s .declared) x)) in
+      let b = not (again (s .ordered .block) x (s .ordered .lines)) in
       let c = stands (s .declared) x in
-      let d = leb (length ws) (length (s .ordered .rules)) && ltb (length (s .ordered .lines)) 32767 in
+      let d = leb (length ws) (length (s .ordered .rules)) && ltb (length (takenOut x (s .ordered .lines))) 32767 in
       ranged-lowest ((3 unless a) ∷ weightsRefusal (s .declared) ws ∷ (5 unless b) ∷ (6 unless c) ∷ (7 unless d) ∷ []) (
         ranged-unless 3 a (omega arith) (omega arith),
         (
@@ -112,29 +112,30 @@ module _ (s : State) (number : ℕ) (x : Subject) (os : List Token) where
 
   -- An order line that is not refused.
   pub record Taken : Type 0 where
-    pub phase : s .place .phase ≡ inOrder
-    pub rank : eqb (rankOf (s .ordered .lines) x) 0 ≡ true
+    pub phase : (inPhase inOrder s || inPhase inBlock s) ≡ true
+    pub first : again (s .ordered .block) x (s .ordered .lines) ≡ false
     pub stood : stands (s .declared) x ≡ true
-    pub room : ltb (length (s .ordered .lines)) 32767 ≡ true
+    pub room : ltb (length (takenOut x (s .ordered .lines))) 32767 ≡ true
     pub weights : weightsRefusal (s .declared) (operandList os) ≡ 0
 
   pub taken : orderLine s number x os .refusal ≡ 0 → Taken
   unfolding orderLine lowest
   taken h =
       let ws = operandList os in
-      let a = inPhase inOrder s && (eqb (length os) 0 || not (isSymbol (s .declared) x)) in
-      let d = leb (length ws) (length (s .ordered .rules)) && ltb (length (s .ordered .lines)) 32767 in
+      let a = (inPhase inOrder s || inPhase inBlock s) && (eqb (length os) 0 || not (isSymbol (s .declared) x)) in
+      let d = leb (length ws) (length (s .ordered .rules)) && ltb (length (takenOut x (s .ordered .lines))) 32767 in
+      let b = not (again (s .ordered .block) x (s .ordered .lines)) in
       let c7 = lower (7 unless d) 0 in
       let c6 = lower (6 unless stands (s .declared) x) c7 in
-      let c5 = lower (5 unless eqb (rankOf (s .ordered .lines) x) 0) c6 in
+      let c5 = lower (5 unless b) c6 in
       let cw = lower (weightsRefusal (s .declared) ws) c5 in
       let h1 : cw ≡ 0 = lower-right-zero (3 unless a) cw h in
       let h2 : c5 ≡ 0 = lower-right-zero (weightsRefusal (s .declared) ws) c5 h1 in
-      let h3 : c6 ≡ 0 = lower-right-zero (5 unless eqb (rankOf (s .ordered .lines) x) 0) c6 h2 in
+      let h3 : c6 ≡ 0 = lower-right-zero (5 unless b) c6 h2 in
       let h4 : c7 ≡ 0 = lower-right-zero (6 unless stands (s .declared) x) c7 h3 in
       record {
-        phase = eqb-true (s .place .phase) inOrder (and-left (inPhase inOrder s) _ (unless-zero 3 a (omega arith) (lower-left-zero (3 unless a) cw h)));
-        rank = unless-zero 5 (eqb (rankOf (s .ordered .lines) x) 0) (omega arith) (lower-left-zero (5 unless eqb (rankOf (s .ordered .lines) x) 0) c6 h2);
+        phase = and-left (inPhase inOrder s || inPhase inBlock s) _ (unless-zero 3 a (omega arith) (lower-left-zero (3 unless a) cw h));
+        first = not-true (again (s .ordered .block) x (s .ordered .lines)) (unless-zero 5 b (omega arith) (lower-left-zero (5 unless b) c6 h2));
         stood = unless-zero 6 (stands (s .declared) x) (omega arith) (lower-left-zero (6 unless stands (s .declared) x) c7 h3);
         room = and-right (leb (length ws) (length (s .ordered .rules))) _ (unless-zero 7 d (omega arith) (lower-left-zero (7 unless d) 0 h4));
         weights = lower-left-zero (weightsRefusal (s .declared) ws) c5 h1;

@@ -1,14 +1,14 @@
-// An order line: what is told of its subject, its refusal, and the line that it adds to the order.
+// An order line: what is told of its subject, its refusal, and where it comes to stand, in the order or in a block.
 ghost use mathlib.Core.Path.{_≡_};
 ghost use mathlib.Core.Bool.{true, false, not, _&&_, _||_};
 ghost use mathlib.Core.List.{[], _∷_};
-ghost use Prim.Native.Nat.{_+_, _*_, _/_, _≤_, _<_};
+ghost use Prim.Native.Nat.{_+_, _-_, _*_, _/_, _≤_, _<_};
 ghost use lib.ListN.{length};
 ghost use lib.Dec.{eqb, leb, ltb};
-ghost use Rattle.rules.specs.Text.{_unless_, bytes, lowest};
+ghost use Rattle.rules.specs.Text.{if_then_else_, _unless_, bytes, lowest};
 ghost use Rattle.rules.specs.Lines.{outside};
 ghost use Rattle.rules.specs.Tokens.{operands};
-ghost use Rattle.rules.specs.State.{inOrder, undefined};
+ghost use Rattle.rules.specs.State.{inOrder, inBlock, undefined};
 ghost use Rattle.tokens.specs.Left.{tokensLeft, isInside};
 ghost use Rattle.subjects.specs.Keys.{keyAt, subjectLeft};
 ghost use Rattle.store.specs.declared.Found.the-variants.{At};
@@ -16,18 +16,22 @@ ghost use Rattle.store.specs.Store.{undefinedMark, Finds, Roomy};
 ghost use Rattle.known.proofs.RankLaws.{isOrdered};
 ghost use Rattle.sheet.specs.Names.{subjectIn, NameLine};
 ghost use Rattle.sheet.specs.Sheets.{SomeOpen, StepIs};
-ghost use Rattle.ordering.specs.Facts.{Rowed, isBare, FactsOf, undefinedFacts, SomeKnown, OwnRefused, RowIs, Ready, Lists};
+ghost use Rattle.ordering.specs.Facts.{Rowed, isBare, isOwn, isAgain, FactsOf, undefinedFacts, SomeKnown, OwnRefused, RowIs, withLast, Ready, LastIs, NewIs, MovedIs, Lists};
 ghost use Rattle.sheet.specs.Words.{WordLine};
 ghost use Rattle.ordering.specs.Lines.{Reads};
 use lines::LineEnd;
 use lines::Signs;
 use lines::Spot;
+use listed::Order;
 use listed::add_line;
+use listed::put_after;
+use listed::take_out;
 use names::Code;
 use names::name_char;
 use opening::refusal_with;
 use operands::no_operand;
 use rows::told;
+use sheet::Block;
 use sheet::Sheet;
 use sheet::Step;
 use standing::stands_at;
@@ -77,6 +81,38 @@ fn is_listed(work: &[u32], f: Found) -> bool
     }
 }
 
+// Whether what is found is a block's named line, or one of its own lines: those are written from the block's place on.
+fn is_own(work: &[u32], b: Block, f: Found) -> bool
+    requires { ⌜ Rowed (now work) f ⌝ }
+    ensures { λ r. ⌜ r ≡ isOwn (now (work .entry)) b f ⌝ }
+{
+    match f {
+        Found::At(v) => {
+            if v == b.named {
+                return true;
+            }
+            let place = told(work, v, 2) as usize;
+            if b.from <= place {
+                return true;
+            }
+            return false;
+        }
+        Found::Nothing => return false,
+    }
+}
+
+// Whether an order line of what is found would be a second one: in a block beside the block's own lines and its named line, else beside all lines.
+fn is_again(work: &[u32], sh: Sheet, f: Found) -> bool
+    requires { ⌜ Rowed (now work) f ⌝ }
+    ensures { λ r. ⌜ r ≡ isAgain (now (work .entry)) sh f ⌝ }
+{
+    if sh.phase == 6 {
+        let b = sh.block;
+        return is_own(work, b, f);
+    }
+    is_listed(work, f)
+}
+
 // What is told of the name at a spot, where f is found for it.
 fn name_facts(src: &[u8], g: Signs, work: &[u32], p: Spot, f: Found) -> Facts
     requires { ⌜ (p .at ≤ length (now src)) × (isInside (p .mode) ≡ true) ⌝ }
@@ -105,12 +141,23 @@ fn name_facts(src: &[u8], g: Signs, work: &[u32], p: Spot, f: Found) -> Facts
     }
 }
 
-// Whether a line stands in the order, and has no operands if it is that of a symbol.
-fn is_formed(src: &[u8], g: Signs, phase: u8, p: Spot, symbol: bool) -> bool
-    requires { ⌜ (p .at ≤ length (now src)) × (p .mode ≡ outside) ⌝ }
-    ensures { λ r. ⌜ r ≡ (eqb phase inOrder && (eqb (length (operands (tokensLeft g (now (src .entry)) p))) 0 || not symbol)) ⌝ }
+// Whether order lines stand in this phase: in the order or in a block.
+fn takes_lines(phase: u8) -> bool
+    ensures { λ r. ⌜ r ≡ (eqb phase inOrder || eqb phase inBlock) ⌝ }
 {
     if phase == 4 {
+        return true;
+    }
+    phase == 6
+}
+
+// Whether a line stands in the order or in a block, and has no operands if it is that of a symbol.
+fn is_formed(src: &[u8], g: Signs, phase: u8, p: Spot, symbol: bool) -> bool
+    requires { ⌜ (p .at ≤ length (now src)) × (p .mode ≡ outside) ⌝ }
+    ensures { λ r. ⌜ r ≡ ((eqb phase inOrder || eqb phase inBlock) && (eqb (length (operands (tokensLeft g (now (src .entry)) p))) 0 || not symbol)) ⌝ }
+{
+    let takes = takes_lines(phase);
+    if takes {
         if symbol {
             return no_operand(src, g, p);
         }
@@ -119,16 +166,29 @@ fn is_formed(src: &[u8], g: Signs, phase: u8, p: Spot, symbol: bool) -> bool
     false
 }
 
-// The refusal of a second order line, of a subject that does not stand, and of a line that finds no room.
-fn late_refusal(k: Facts, operands: usize, levels: usize, count: usize) -> u8
-    ensures { λ r. ⌜ r ≡ lowest (5 unless not (k .ordered) ∷ 6 unless k .stands ∷ 7 unless (leb operands levels && ltb count 32767) ∷ []) ⌝ }
+// Whether a line more finds room beside count lines, where that of its subject, if it has one, leaves its place.
+fn has_room(ordered: bool, count: usize) -> bool
+    ensures { λ r. ⌜ r ≡ ltb (if ordered then count - 1 else count) 32767 ⌝ }
 {
-    if k.ordered {
+    if ordered {
+        if count < 32768 {
+            return true;
+        }
+        return false;
+    }
+    count < 32767
+}
+
+// The refusal of a second order line, of a subject that does not stand, and of a line that finds no room.
+fn late_refusal(again: bool, stands: bool, operands: usize, levels: usize, room: bool) -> u8
+    ensures { λ r. ⌜ r ≡ lowest (5 unless not again ∷ 6 unless stands ∷ 7 unless (leb operands levels && room) ∷ []) ⌝ }
+{
+    if again {
         return 5;
     }
-    if k.stands {
+    if stands {
         if operands <= levels {
-            if count < 32767 {
+            if room {
                 return 0;
             }
             return 7;
@@ -138,11 +198,11 @@ fn late_refusal(k: Facts, operands: usize, levels: usize, count: usize) -> u8
     6
 }
 
-// The refusal of an order line whose subject has these facts, and of its operands, which follow the spot p.
-fn own_refusal(src: &[u8], g: Signs, work: &[u32], sh: Sheet, p: Spot, k: Facts) -> u8
+// The refusal of an order line whose subject has these facts, again if it is a second one, and of its operands, which follow the spot p.
+fn own_refusal(src: &[u8], g: Signs, work: &[u32], sh: Sheet, p: Spot, k: Facts, again: bool) -> u8
     requires { ⌜ (p .at ≤ length (now src)) × (p .mode ≡ outside) ⌝ }
     requires { ⌜ SomeKnown g (now src) (now work) ⌝ }
-    ensures { λ r. ⌜ OwnRefused g (now (src .entry)) (now (work .entry)) sh p k r ⌝ }
+    ensures { λ r. ⌜ OwnRefused g (now (src .entry)) (now (work .entry)) sh p k again r ⌝ }
 {
     let ok = is_formed(src, g, sh.phase, p, k.symbol);
     if ok {
@@ -151,7 +211,8 @@ fn own_refusal(src: &[u8], g: Signs, work: &[u32], sh: Sheet, p: Spot, k: Facts)
         if f == 3 {
             return 3;
         }
-        let d = late_refusal(k, c.operands, sh.levels, sh.order.count);
+        let room = has_room(k.ordered, sh.order.count);
+        let d = late_refusal(again, k.stands, c.operands, sh.levels, room);
         return lower_of(f, d);
     }
     3
@@ -171,12 +232,13 @@ fn row_for(src: &[u8], g: Signs, work: &mut [u32], v: usize, f: Found) -> usize
     }
 }
 
-// An order line more, for the row of a mark: its number, and the place after its subject.
-fn list_line(work: &mut [u32], sh: Sheet, m: usize, number: usize, place: usize, e: LineEnd) -> Step
+// An order line more at the end of the order, for the row of a mark: its number, and the place after its subject.
+fn list_last(work: &mut [u32], sh: Sheet, m: usize, number: usize, place: usize, e: LineEnd) -> Step
     requires { ⌜ Ready (now work) sh m number place ⌝ }
-    ensures { λ r. ⌜ Lists (now (work .entry)) sh m number place e (now (work .exit)) r ⌝ }
+    ensures { λ r. ⌜ LastIs (now (work .entry)) sh m number place e (now (work .exit)) r ⌝ }
 {
     let o = add_line(work, sh.order, m, number, place);
+    let b = sh.block;
     Step::Next(
         Sheet {
             phase: sh.phase,
@@ -184,10 +246,72 @@ fn list_line(work: &mut [u32], sh: Sheet, m: usize, number: usize, place: usize,
             rules: sh.rules,
             levels: sh.levels,
             order: o,
+            block: b,
         },
         e.next,
         e.feeds,
     )
+}
+
+// The sheet with other order lines, of which that of the mark m is the last one of the open block: the next one comes to stand after it.
+fn with_last(sh: Sheet, o: Order, m: usize) -> Sheet
+    ensures { λ r. ⌜ r ≡ withLast sh o m ⌝ }
+{
+    Sheet {
+        phase: sh.phase,
+        toggles: sh.toggles,
+        rules: sh.rules,
+        levels: sh.levels,
+        order: o,
+        block: Block {
+            named: sh.block.named,
+            last: m,
+            from: sh.block.from,
+        },
+    }
+}
+
+// An order line in a block, for the row of a mark that has none yet.
+fn list_new(work: &mut [u32], sh: Sheet, m: usize, number: usize, place: usize, e: LineEnd) -> Step
+    requires { ⌜ Ready (now work) sh m number place × (sh .phase ≡ inBlock) ⌝ }
+    ensures { λ r. ⌜ NewIs (now (work .entry)) sh m number place e (now (work .exit)) r ⌝ }
+{
+    let o = put_after(work, sh.order, sh.block.last, m, number, place);
+    let s = with_last(sh, o, m);
+    Step::Next(s, e.next, e.feeds)
+}
+
+// An order line in a block, for the row of a mark whose line leaves its old place.
+fn list_moved(
+    work: &mut [u32],
+    sh: Sheet,
+    m: usize,
+    number: usize,
+    place: usize,
+    e: LineEnd,
+) -> Step
+    requires { ⌜ Ready (now work) sh m number place × (sh .phase ≡ inBlock) × (isOrdered (now work) (At m) ≡ true) ⌝ }
+    ensures { λ r. ⌜ MovedIs (now (work .entry)) sh m number place e (now (work .exit)) r ⌝ }
+{
+    let left = take_out(work, sh.order, m);
+    let o = put_after(work, left, sh.block.last, m, number, place);
+    let s = with_last(sh, o, m);
+    Step::Next(s, e.next, e.feeds)
+}
+
+// An order line, for the row of a mark: at the end of the order, or as the last one of the open block.
+fn list_line(work: &mut [u32], sh: Sheet, m: usize, number: usize, place: usize, e: LineEnd) -> Step
+    requires { ⌜ Ready (now work) sh m number place ⌝ }
+    ensures { λ r. ⌜ Lists (now (work .entry)) sh m number place e (now (work .exit)) r ⌝ }
+{
+    if sh.phase == 6 {
+        let moved = is_listed(work, Found::At(m));
+        if moved {
+            return list_moved(work, sh, m, number, place, e);
+        }
+        return list_new(work, sh, m, number, place, e);
+    }
+    list_last(work, sh, m, number, place, e)
 }
 
 // The refusal of a line that opens with the name t, for which f is found.
@@ -209,7 +333,8 @@ fn name_refusal(
     ensures { λ r. ⌜ Reads g (now (src .entry)) (now (work .entry)) sh at number (subjectIn g (now (src .entry)) t) (t .next) r ⌝ }
 {
     let k = name_facts(src, g, work, t.inside, f);
-    let o = own_refusal(src, g, work, sh, t.next, k);
+    let again = is_again(work, sh, f);
+    let o = own_refusal(src, g, work, sh, t.next, k, again);
     let l = lower_of(t.refusal, o);
     refusal_with(e.text, l)
 }
@@ -270,7 +395,8 @@ fn undefined_refusal(
     ensures { λ r. ⌜ Reads g (now (src .entry)) (now (work .entry)) sh at number undefined p r ⌝ }
 {
     let k = undefined_facts(work, m);
-    let o = own_refusal(src, g, work, sh, p, k);
+    let again = is_again(work, sh, Found::At(m));
+    let o = own_refusal(src, g, work, sh, p, k, again);
     refusal_with(e.text, o)
 }
 

@@ -1,5 +1,5 @@
 -- `ordering::name_refusal` meets its contract: it is that of the paper's order line.
-use Rattle.ordering.proofs.StepLaws.{some-known}
+use Rattle.ordering.proofs.StepLaws.{some-known, open-rowed}
 use Rattle.ordering.proofs.NameLaws.{name-to, name-inside, name-next, name-plain, name-reads}
 use borrow.Author.Needs.{needs}
 use Rattle.ordering.proofs.name_refusal.Statement.{statement}
@@ -7,6 +7,9 @@ use Rattle.ordering.proofs.name_refusal.Tie as tie
 
 name-facts-requires : tie.Need-name-facts-requires
 name-facts-requires c κs = ((search name-to, search name-inside), (search some-known, search needs))
+
+is-again-requires : tie.Need-is-again-requires
+is-again-requires c κs = search open-rowed
 
 own-refusal-requires : tie.Need-own-refusal-requires
 own-refusal-requires c κs = ((search name-next, search name-plain), search some-known)
@@ -25,6 +28,7 @@ name-refusal-spec =
     tie.close
     (tie.spec
     name-facts-requires
+    is-again-requires
     own-refusal-requires
     lower-of-requires
     refusal-with-requires

@@ -14,6 +14,9 @@ weights-refusal-requires c κs = (search needs, search known-sound)
 returns : tie.Need-returns
 returns c = search own-three
 
+has-room-requires : tie.Need-has-room-requires
+has-room-requires c κs = search needs
+
 late-refusal-requires : tie.Need-late-refusal-requires
 late-refusal-requires c κs = search needs
 
@@ -33,6 +36,7 @@ own-refusal-spec =
     is-formed-requires
     weights-refusal-requires
     returns
+    has-room-requires
     late-refusal-requires
     lower-of-requires
     returns-2
