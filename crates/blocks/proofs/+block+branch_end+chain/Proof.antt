@@ -248,7 +248,7 @@ block-loop-less-2 : (t : ℕ) → block-lts.Need-loop-less-2 (
   chain-below t,
   chain.Post,
 ) (block-at t) block.Post block-Inv-loop block-μ-loop
-block-loop-less-2 t c = search chain-less
+block-loop-less-2 t c = search (chain-less (c .before .before .before .before .before .before .before .before .before .before .before .before .before .before .before .loop .inv))
 
 block-loop-again-2 : (t : ℕ) → block-lts.Need-loop-again-2 (
   line-step-reads.Asked,
@@ -256,7 +256,7 @@ block-loop-again-2 : (t : ℕ) → block-lts.Need-loop-again-2 (
   chain-below t,
   chain.Post,
 ) (block-at t) block.Post block-Inv-loop block-μ-loop
-block-loop-again-2 t c = search going-chain
+block-loop-again-2 t c = search (going-chain (c .before .before .before .before .before .before .before .before .before .before .before .before .before .before .before .loop .inv))
 
 block-same-length-5 : (t : ℕ) → block-lts.Need-same-length-5 (
   line-step-reads.Asked,
@@ -520,7 +520,7 @@ chain-same-length-3 : (t : ℕ) → chain-lts.Need-same-length-3 (
   branch-line-reads.Asked,
   branch-line-reads.Learnt,
 ) (chain-at t) chain.Post chain-Inv-loop chain-μ-loop
-chain-same-length-3 t c = search (chaining-long, needs)
+chain-same-length-3 t c = search (chaining-long (c .before .before .before .before .before .before .before .before .before .before .before .before .before .before .loop .inv), needs)
 
 chain-returns-3 : (t : ℕ) → chain-lts.Need-returns-3 (
   branch-end-below t,
