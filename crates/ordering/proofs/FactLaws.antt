@@ -1,15 +1,17 @@
 -- What is told of a subject: by what is found in the store, and by its row.
 use mathlib.Core.Path.{_≡_, refl, sym, ap, _∙_, subst}
-use mathlib.Core.Bool.{Bool, true, false, not}
+use mathlib.Core.Bool.{Bool, true, false, not, or-true}
 use mathlib.Core.List.{List}
-use Prim.Native.Nat.{ℕ, _+_, _*_, _/_, _≤_}
+use Prim.Native.Nat.{ℕ, _+_, _-_, _*_, _/_, _≤_, _<_}
 use native.Mathlib.Omega.{arith}
 use lib.ListN.{length}
-use borrow.Author.Tests.{eq-eqb, ne-eqb}
+use lib.Dec.{eqb}
+use borrow.Author.Tests.{eq-eqb, ne-eqb, le-leb, lt-leb}
 use Rattle.lists.proofs.Bools.{by}
+use Rattle.rules.specs.Text.{if_then_else_}
 use Rattle.rules.specs.Names.{charShaped}
 use Rattle.rules.specs.Meaning.{Rule}
-use Rattle.rules.specs.State.{Declaration, Subject, character, named, undefined, OrderLine}
+use Rattle.rules.specs.State.{inBlock, Declaration, Subject, character, named, undefined, OrderLine}
 use Rattle.rules.specs.OrderLines.{subjectOf, stands, isSymbol}
 use Rattle.lines.specs.declared.Signs.{Signs}
 use Rattle.lines.specs.declared.Spot.{Spot}
@@ -31,8 +33,11 @@ use Rattle.standing.specs.Standing.{standsIn, Stands}
 use Rattle.known.specs.Known.{Says, markOf, Known}
 use Rattle.known.proofs.DeclaredLaws.{known-declared, none-later, known-symbol}
 use Rattle.known.proofs.RankLaws.{isOrdered, rank-none}
+use Rattle.known.proofs.MovedLaws.{known-length, taken-found}
+use Rattle.sheet.specs.declared.Block.{Block}
+use Rattle.sheet.specs.declared.Sheet.{Sheet}
 use Rattle.ordering.specs.declared.Facts.{Facts}
-use Rattle.ordering.specs.Facts.{Rowed, isBare, FactsOf, undefinedFacts, SomeKnown}
+use Rattle.ordering.specs.Facts.{Rowed, isBare, isOwn, isAgain, othersOf, FactsOf, undefinedFacts, SomeKnown}
 
 -- ## Rows
 
@@ -58,6 +63,27 @@ module _ (w : List ℕ) (f : Found) where
 
     pub listed-yes : {x : ℕ} → x ≡ cell w v placeNumber → (x ≡ 0 → ⊥) → true ≡ isOrdered w f
     listed-yes k z = sym (ap (isOrdered w) e ∙ ap not (ne-eqb (cell w v placeNumber) 0 (λ y. z (k ∙ y))))
+
+-- whether its line is one of a block's
+module _ (w : List ℕ) (b : Block) (f : Found) where
+  pub own-none : f ≡ Nothing → false ≡ isOwn w b f
+  own-none e = sym (ap (isOwn w b) e)
+
+  module _ {v : ℕ} (e : f ≡ At v) where
+    pub own-named : v ≡ b .named → true ≡ isOwn w b f
+    own-named h = sym (ap (isOwn w b) e ∙ rw (eq-eqb v (b .named) h))
+
+    pub own-written : {x : ℕ} → x ≡ cell w v placeNumber → b .from ≤ x → true ≡ isOwn w b f
+    own-written k h = sym (ap (isOwn w b) e ∙ rw (le-leb (b .from) (cell w v placeNumber) (rw k at h)) (or-true (eqb v (b .named))))
+
+    pub own-else : {x : ℕ} → (v ≡ b .named → ⊥) → x ≡ cell w v placeNumber → x < b .from → false ≡ isOwn w b f
+    own-else n k h = sym (ap (isOwn w b) e ∙ rw (ne-eqb v (b .named) n, lt-leb (b .from) (cell w v placeNumber) (rw k at h)))
+
+pub again-block : (w : List ℕ) (sh : Sheet) (f : Found) {r : Bool} → sh .phase ≡ 6 → r ≡ isOwn w (sh .block) f → r ≡ isAgain w sh f
+again-block w sh f h e = e ∙ sym (rw (eq-eqb (sh .phase) inBlock h))
+
+pub again-order : (w : List ℕ) (sh : Sheet) (f : Found) {r : Bool} → (sh .phase ≡ 6 → ⊥) → r ≡ isOrdered w f → r ≡ isAgain w sh f
+again-order w sh f h e = e ∙ sym (rw (ne-eqb (sh .phase) inBlock h))
 
 -- ## What the store finds
 
@@ -112,6 +138,8 @@ module _ (g : Signs) (src w : List ℕ) (p : Spot) (f : Found) (i : isInside (p 
         symbol = y o rs n cs ls k;
         ordered = rank-none g src w o rs n cs ls k (subjectLeft g src p) f (mark-found (length src) (k .ds) (nameLeft g src p) ∙ mark-is o rs n cs ls k) ∙ ap not (sym l);
         stands = sym (stands-known w (k .ds) cs (k .says) (subjectLeft g src p)) ∙ sym (t .is n (k .ds) (k .holds));
+        others = taken-found g src w o rs n cs ls k (subjectLeft g src p) f (mark-found (length src) (k .ds) (nameLeft g src p) ∙ mark-is o rs n cs ls k)
+            ∙ ap (λ (b : Bool). othersOf b (o .count)) (sym l) ∙ ap (othersOf ordered) (sym (known-length g src w o rs n cs ls k));
       };
     }
 
@@ -143,5 +171,7 @@ undefined-are g src w m k e f = record {
     symbol = ap (λ (y : Facts). y .symbol) (sym f);
     ordered = rank-none g src w o rs n cs ls h undefined (At m) (ap At (sym e)) ∙ ap (λ (y : Facts). not (y .ordered)) (sym f);
     stands = ap (λ (y : Facts). y .stands) (sym f);
+    others = taken-found g src w o rs n cs ls h undefined (At m) (ap At (sym e))
+        ∙ ap (λ (y : Facts). othersOf (y .ordered) (o .count)) (sym f) ∙ ap (othersOf (k .ordered)) (sym (known-length g src w o rs n cs ls h));
   };
 }

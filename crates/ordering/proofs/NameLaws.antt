@@ -1,6 +1,6 @@
 -- A line that opens with a name, as an order line: what it is read as, and the row that it is given.
 use mathlib.Core.Path.{_≡_, refl, sym, ap, _∙_, subst}
-use mathlib.Core.Bool.{true, false≢true}
+use mathlib.Core.Bool.{Bool, true, false≢true}
 use mathlib.Core.List.{List, [], _∷_}
 use Prim.Native.Nat.{ℕ, _+_, _*_, _/_, _%_, _≤_, _<_}
 use native.Mathlib.Omega.{arith}
@@ -29,6 +29,8 @@ use Rattle.store.specs.declared.Found.{Found}
 use Rattle.store.specs.declared.Found.the-variants.{At, Nothing}
 use Rattle.store.specs.Store.{Decl, first, isFound, knownIn, Holds, Finds}
 use Rattle.store.proofs.ListLaws.{first-fresh, found-key, found-place}
+use Rattle.rows.specs.Cells.{cell}
+use Rattle.listed.specs.Listed.{placeNumber}
 use Rattle.known.specs.Known.{Says}
 use Rattle.known.proofs.DeclaredLaws.{known-declared}
 use Rattle.known.proofs.NewLaws.{known-character-new}
@@ -37,13 +39,15 @@ use Rattle.sheet.specs.declared.Step.{Step}
 use Rattle.sheet.specs.Sheets.{Open, SomeOpen, StepIs}
 use Rattle.sheet.specs.Names.{subjectIn, operandsFrom, NameLine}
 use Rattle.sheet.proofs.SheetLaws.{read-whole}
+use Rattle.sheet.proofs.BlockLaws.{mark-older, block-same}
 use Rattle.ordering.specs.declared.Facts.{Facts}
-use Rattle.ordering.specs.Facts.{FactsOf, OwnRefused, RowIs, Ready, Lists}
+use Rattle.ordering.specs.Facts.{isAgain, FactsOf, AgainOf, OwnRefused, RowIs, Ready, Lists}
 use Rattle.ordering.specs.Lines.{Reads}
 use Rattle.sheet.proofs.SheetLaws.{spot-behind}
 use Rattle.ordering.proofs.FactLaws.{mark-found, mark-is}
+use Rattle.ordering.proofs.AgainLaws.{again-of}
 use Rattle.ordering.proofs.RangeLaws.{Ranged, ranged-low, ranged-high, ranged-lower, ranged-unless, ranged-tokens, ranged-order, lower-left-zero, lower-right-zero, Taken}
-use Rattle.ordering.proofs.StepLaws.{line-taken, line-listed, Placed, placed-is, placed-lines, placed-small}
+use Rattle.ordering.proofs.StepLaws.{rows-taken, line-taken, line-listed, Placed, placed-ready}
 
 -- ## Names
 
@@ -115,13 +119,21 @@ module _ (g : Signs) (src : List ℕ) (at : ℕ) (q : Spot) (t : Tok) (e : LineE
   pub name-some : 1 ≤ t .next .at
   name-some = let a = l .token .on in omega (arith, a)
 
-  module _ (w : List ℕ) (sh : Sheet) (number : ℕ) (k : Facts) (f : FactsOf g src w (subjectLeft g src (t .inside)) k) (r : ℕ) (v : OwnRefused g src w sh (t .next) k r) where
+  module _ (w : List ℕ) (sh : Sheet) (number : ℕ) (k : Facts) (f : FactsOf g src w (subjectLeft g src (t .inside)) k)
+      (there : Found) (found : Finds (keyAt g src) (length src) w (keyAt g src (2 * t .inside .at)) there) (second : Bool) (own : second ≡ isAgain w sh there)
+      (r : ℕ) (v : OwnRefused g src w sh (t .next) k second r) where
+    again-name : AgainOf g src w sh (subjectLeft g src (t .inside)) second
+    again-name =
+        again-of g src w sh (subjectLeft g src (t .inside)) there
+        (λ o rs n cs ls h. mark-found (length src) (h .ds) (nameLeft g src (t .inside)) ∙ mark-is g src w (t .inside) there name-inside found o rs n cs ls h)
+        second own
+
     module _ {x y : ℕ} (a : x ≡ lower (t .refusal) r) (b : y ≡ lower (2 unless e .text) x) where
       -- the whole refusal
       refusal-is : (cs : List Chain) (s : State) → Open g src w sh cs at s
           → lower (2 unless e .text) (lower (t .refusal) (lower (tokensRefusal (operandsFrom g src (t .next))) (orderLine s number (subjectIn g src t) (operandsFrom g src (t .next)) .refusal))) ≡ y
       refusal-is cs s o =
-          sym (b ∙ ap (lower (2 unless e .text)) (a ∙ ap (lower (t .refusal)) (v .is (subjectIn g src t) f cs at s number o)))
+          sym (b ∙ ap (lower (2 unless e .text)) (a ∙ ap (lower (t .refusal)) (v .is (subjectIn g src t) f again-name cs at s number o)))
 
       ranged : {depth : ℕ} → SomeOpen g src w sh at depth → Ranged y
       ranged so =
@@ -157,7 +169,7 @@ module _ (g : Signs) (src : List ℕ) (at : ℕ) (q : Spot) (t : Tok) (e : LineE
 
   module _ (w : List ℕ) (sh : Sheet) (number : ℕ) (cs : List Chain) (s : State) (o : Open g src w sh cs at s) (y : Taken s number (subjectIn g src t) (operandsFrom g src (t .next))) where
     rows-at : o .n ≤ (at + 1) / 8
-    rows-at = let h = o .rows (l .inside) in rw (sym (o .phase) ∙ y .phase) at h
+    rows-at = rows-taken o (l .inside) (y .phase)
 
     on : at < e .next
     on = l .line .on (l .inside)
@@ -178,6 +190,8 @@ module _ (g : Signs) (src : List ℕ) (at : ℕ) (q : Spot) (t : Tok) (e : LineE
           long = refl;
           beyond = λ j a. refl;
           rows = λ a. let b = rows-at in let c = on in omega (arith, b, c);
+          places = λ j a. let b = o .places j a in let c = on in omega (arith, b, c);
+          block = o .block;
         }))
     name-placed w′ m Nothing d h =
         let v = 2 * t .inside .at in
@@ -205,6 +219,16 @@ module _ (g : Signs) (src : List ℕ) (at : ℕ) (q : Spot) (t : Tok) (e : LineE
           long = h .1 .long;
           beyond = λ j n. h .1 .beyond j (omega (arith, n));
           rows = λ n. let p = name-far n in let q = l .token .long-name (l .name) in let r = shaped-long (nameLeft g src (t .inside)) (z .shaped) in omega (arith, p, q, r);
+          places = λ j n.
+              let same : (i q : ℕ) → i / 16 ≤ length src / 8 + 1 → 1 ≤ q → q < 5 → cell w′ i q ≡ cell w i q = λ i q a b c. h .1 .five i q c in
+              let older = mark-older g src w w′ (sh .order) (s .ordered .rules) (s .ordered .rules) (o .n) (v / 16 + 1) (s .declared) (s .declared) (s .ordered .lines) (s .ordered .lines) k (more .known) same j n in
+              let p = o .places j older in
+              let q = h .1 .five j placeNumber (omega arith) in
+              let r = on in
+              omega (arith, p, q, r);
+          block = λ a.
+              block-same g src w w′ (sh .order) (s .ordered .rules) (s .ordered .rules) (o .n) (v / 16 + 1) (s .declared) (s .declared) (s .ordered .lines) (s .ordered .lines) k (more .known)
+              (λ i q a b c. h .1 .five i q c) (sh .block) (s .ordered .block) (o .block a);
         })
 
   -- ## The step
@@ -216,14 +240,14 @@ module _ (g : Signs) (src : List ℕ) (at : ℕ) (q : Spot) (t : Tok) (e : LineE
 
     pub name-ready : number ≤ at + 1 → Ready w′ sh m number (t .next .at)
     name-ready i =
-        let k = there (so .chains) (so .state) (so .held) in
         let a = so .short in
         let b = l .inside in
         let c = name-next in
-        let n = so .held .few in
-        record { row = placed-is k; lines = placed-lines k; small-mark = placed-small k; small-number = omega (arith, a, b, i); small-place = omega (arith, a, c); few = omega (arith, n) }
+        placed-ready (there (so .chains) (so .state) (so .held)) (so .held) (line-taken v z (so .chains) (so .state) (so .held)) (t .next .at) (omega (arith, a, b, i)) (omega (arith, a, c))
 
     pub name-listed : (w″ : List ℕ) (st : Step) → Lists w′ sh m number (t .next .at) e w″ st → StepIs g src w sh at number depth w″ st
     name-listed w″ st a =
+        let x = l .from in
+        let y = l .token .on in
         line-listed v z (l .line) (l .inside) there depth (t .next .at) w″ st
-        (spot-behind (t .next) name-plain (l .token .edge (let k = l .name in omega (arith, k)))) name-some name-next a
+        (spot-behind (t .next) name-plain (l .token .edge (let k = l .name in omega (arith, k)))) name-some name-next (omega (arith, x, y)) (l .reach) a

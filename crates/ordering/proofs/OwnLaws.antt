@@ -3,7 +3,7 @@ use mathlib.Core.Path.{_≡_, refl, sym, ap, _∙_}
 use mathlib.Core.Logic.{inl}
 use mathlib.Core.Bool.{Bool, true, false, not, _&&_, _||_, or-true}
 use mathlib.Core.List.{List, [], _∷_}
-use Prim.Native.Nat.{ℕ, _≤_, _<_}
+use Prim.Native.Nat.{ℕ, _-_, _≤_, _<_}
 use native.Mathlib.Omega.{arith}
 use lib.ListN.{length, length-map}
 use lib.Dec.{eqb, leb, ltb}
@@ -11,8 +11,8 @@ use borrow.Author.Tests.{eq-eqb, ne-eqb, le-leb, lt-leb, lt-ltb, le-ltb}
 use Rattle.lists.proofs.Bools.{by}
 use Rattle.rules.specs.Text.{_unless_, lower, lowest}
 use Rattle.rules.specs.Tokens.{Token, operands, tokensRefusal}
-use Rattle.rules.specs.State.{inOrder, Subject, Chain, State}
-use Rattle.rules.specs.OrderLines.{operandList, stands, weightsRefusal, orderLine}
+use Rattle.rules.specs.State.{inOrder, inBlock, Subject, Chain, State}
+use Rattle.rules.specs.OrderLines.{operandList, stands, weightsRefusal, again, orderLine}
 use Rattle.lines.specs.declared.Signs.{Signs}
 use Rattle.lines.specs.declared.Spot.{Spot}
 use Rattle.tokens.specs.Left.{tokensLeft}
@@ -26,50 +26,70 @@ use Rattle.known.specs.Known.{lineAt}
 use Rattle.sheet.specs.declared.Sheet.{Sheet}
 use Rattle.sheet.specs.Sheets.{Open}
 use Rattle.ordering.specs.declared.Facts.{Facts}
-use Rattle.ordering.specs.Facts.{FactsIn, OwnRefused}
+use Rattle.ordering.specs.Facts.{othersOf, FactsIn, OwnRefused}
 use Rattle.ordering.proofs.FactLaws.{stands-known}
 
 -- ## Whether a line is formed
 
-module _ (phase many : ℕ) (symbol : Bool) where
+pub takes-order : (phase : ℕ) → phase ≡ 4 → true ≡ (eqb phase inOrder || eqb phase inBlock)
+takes-order phase h = sym (rw (eq-eqb phase inOrder h))
+
+pub takes-block : (phase : ℕ) → phase ≡ 6 → true ≡ (eqb phase inOrder || eqb phase inBlock)
+takes-block phase h = sym (rw (eq-eqb phase inBlock h) (or-true (eqb phase inOrder)))
+
+pub takes-none : (phase : ℕ) → (phase ≡ 4 → ⊥) → (phase ≡ 6 → ⊥) → false ≡ (eqb phase inOrder || eqb phase inBlock)
+takes-none phase h k = sym (rw (ne-eqb phase inOrder h, ne-eqb phase inBlock k))
+
+module _ (phase many : ℕ) (symbol : Bool) {takes : Bool} (f : takes ≡ (eqb phase inOrder || eqb phase inBlock)) where
   abbrev formed : Bool
-  formed = eqb phase inOrder && (eqb many 0 || not symbol)
+  formed = (eqb phase inOrder || eqb phase inBlock) && (eqb many 0 || not symbol)
 
-  pub formed-else : (phase ≡ 4 → ⊥) → false ≡ formed
-  formed-else h = sym (rw (ne-eqb phase inOrder h))
+  pub formed-else : takes ≡ false → false ≡ formed
+  formed-else h = sym (rw (sym f ∙ h))
 
-  pub formed-plain : phase ≡ 4 → symbol ≡ false → true ≡ formed
-  formed-plain h e = sym (rw (eq-eqb phase inOrder h, e) (or-true (eqb many 0)))
+  pub formed-plain : takes ≡ true → symbol ≡ false → true ≡ formed
+  formed-plain h e = sym (rw (sym f ∙ h, e) (or-true (eqb many 0)))
 
-  pub formed-symbol : {b : Bool} → phase ≡ 4 → symbol ≡ true → b ≡ eqb many 0 → b ≡ formed
-  formed-symbol {b} h e k = k ∙ sym (rw (eq-eqb phase inOrder h, e) (or-none (eqb many 0)))
+  pub formed-symbol : {b : Bool} → takes ≡ true → symbol ≡ true → b ≡ eqb many 0 → b ≡ formed
+  formed-symbol {b} h e k = k ∙ sym (rw (sym f ∙ h, e) (or-none (eqb many 0)))
     where
       or-none : (a : Bool) → (a || false) ≡ a
       or-none true = refl
       or-none false = refl
+
+-- ## The lines of others
+
+pub others-zero : (ordered : Bool) (count : ℕ) → ordered ≡ true → count ≡ 0 → 0 ≡ othersOf ordered count
+others-zero ordered count e z = sym (rw (e, z))
+
+pub others-less : (ordered : Bool) (count : ℕ) → ordered ≡ true → count - 1 ≡ othersOf ordered count
+others-less ordered count e = sym (rw e)
+
+pub others-all : (ordered : Bool) (count : ℕ) → ordered ≡ false → count ≡ othersOf ordered count
+others-all ordered count e = sym (rw e)
 
 -- ## The later refusals
 
 abbrev later : Bool → Bool → Bool → ℕ
 later ordered stood fits = lowest (5 unless not ordered ∷ 6 unless stood ∷ 7 unless fits ∷ [])
 
-module _ (k : Facts) (many levels count : ℕ) where
+module _ (second stood : Bool) (many levels count : ℕ) where
   abbrev fits : Bool
   fits = leb many levels && ltb count 32767
 
   abbrev there : ℕ
-  there = later (k .ordered) (k .stands) fits
+  there = later second stood fits
 
-  pub late-ordered : k .ordered ≡ true → _≡_ {A = ℕ} 5 there
+  pub late-ordered : second ≡ true → _≡_ {A = ℕ} 5 there
   unfolding lowest lower
-  late-ordered e = sym (rw e (by (k .stands) (λ t. rw t (by fits (λ u. rw u) (λ u. rw u))) (λ t. rw t (by fits (λ u. rw u) (λ u. rw u)))))
+  late-ordered e = sym (rw e (by stood (λ t. rw t (by fits (λ u. rw u) (λ u. rw u))) (λ t. rw t (by fits (λ u. rw u) (λ u. rw u)))))
 
-  module _ (e : k .ordered ≡ false) where
-    pub late-missing : k .stands ≡ false → _≡_ {A = ℕ} 6 there
+  module _ (e : second ≡ false) where
+    pub late-missing : stood ≡ false → _≡_ {A = ℕ} 6 there
     unfolding lowest lower
     late-missing t = sym (rw (e, t) (by fits (λ u. rw u) (λ u. rw u)))
 
-    module _ (t : k .stands ≡ true) where
+    module _ (t : stood ≡ true) where
       pub late-many : levels < many → _≡_ {A = ℕ} 7 there
       unfolding lowest lower
       late-many h = sym (rw (e, t, lt-leb many levels h))
@@ -116,11 +136,12 @@ module _ {g : Signs} {src w : List ℕ} {sh : Sheet} {cs : List Chain} {at : ℕ
   many-lines = ap length (o .known .are) ∙ length-map (o .known .marks) (lineAt g src (s .ordered .rules) w) ∙ sym (o .known .lines .count)
 
   -- the paper's refusal, by the facts
-  by-facts : (x : Subject) (k : Facts) (number : ℕ) (os : List Token) → FactsIn (s .declared) (s .ordered .lines) x k
+  by-facts : (x : Subject) (k : Facts) (b : Bool) (number : ℕ) (os : List Token) → FactsIn (s .declared) (s .ordered .lines) x k
+      → again (s .ordered .block) x (s .ordered .lines) ≡ b
       → orderLine s number x os .refusal
-      ≡ lowest (3 unless (eqb (sh .phase) inOrder && (eqb (length os) 0 || not (k .symbol))) ∷ weightsRefusal (s .declared) (operandList os) ∷ 5 unless not (k .ordered) ∷ 6 unless k .stands ∷ 7 unless (leb (length (operandList os)) (sh .levels) && ltb (sh .order .count) 32767) ∷ [])
+      ≡ lowest (3 unless ((eqb (sh .phase) inOrder || eqb (sh .phase) inBlock) && (eqb (length os) 0 || not (k .symbol))) ∷ weightsRefusal (s .declared) (operandList os) ∷ 5 unless not b ∷ 6 unless k .stands ∷ 7 unless (leb (length (operandList os)) (sh .levels) && ltb (othersOf (k .ordered) (sh .order .count)) 32767) ∷ [])
   unfolding orderLine
-  by-facts x k number os f = rw (o .phase, f .symbol, f .ordered, f .stands, o .levels, many-lines)
+  by-facts x k b number os f a = rw (o .phase, f .symbol, a, f .stands, o .levels, f .others, many-lines)
 
   -- its weights, by what the store holds
   weights-held : (os : List Token) (ws : List (List Token)) (r : Counted) → Counts g src w os ws r
@@ -135,36 +156,37 @@ module _ {g : Signs} {src w : List ℕ} {sh : Sheet} {cs : List Chain} {at : ℕ
       subst-late : {a b : ℕ} → a ≡ b → Late a → Late b
       subst-late e h = rw (← e) h
 
-module _ (g : Signs) (src w : List ℕ) (sh : Sheet) (p : Spot) (k : Facts) {ok : Bool}
-    (f : ok ≡ (eqb (sh .phase) inOrder && (eqb (length (operands (tokensLeft g src p))) 0 || not (k .symbol)))) where
+module _ (g : Signs) (src w : List ℕ) (sh : Sheet) (p : Spot) (k : Facts) (second : Bool) {ok : Bool}
+    (f : ok ≡ ((eqb (sh .phase) inOrder || eqb (sh .phase) inBlock) && (eqb (length (operands (tokensLeft g src p))) 0 || not (k .symbol)))) where
   abbrev os : List Token
   os = operands (tokensLeft g src p)
 
   abbrev room : Bool
-  room = leb (length (operandList os)) (sh .levels) && ltb (sh .order .count) 32767
+  room = leb (length (operandList os)) (sh .levels) && ltb (othersOf (k .ordered) (sh .order .count)) 32767
 
-  pub own-unformed : ok ≡ false → OwnRefused g src w sh p k 3
+  pub own-unformed : ok ≡ false → OwnRefused g src w sh p k second 3
   own-unformed e = record {
-    is = λ x a cs at s number o.
-        whole-unformed (tokensRefusal os) (weightsRefusal (s .declared) (operandList os)) _ (k .ordered) (k .stands) room (late-tokens os) (late-paper o (operandList os)) (sym f ∙ e)
-        ∙ ap (lower (tokensRefusal os)) (sym (by-facts o x k number os (a .are (sh .order) (s .ordered .rules) (o .n) (s .declared) (s .ordered .lines) (o .known))));
+    is = λ x a b cs at s number o.
+        whole-unformed (tokensRefusal os) (weightsRefusal (s .declared) (operandList os)) _ second (k .stands) room (late-tokens os) (late-paper o (operandList os)) (sym f ∙ e)
+        ∙ ap (lower (tokensRefusal os)) (sym (by-facts o x k second number os (a .are (sh .order) (s .ordered .rules) (o .n) (s .declared) (s .ordered .lines) (o .known)) (b .is cs at s o)));
   }
 
   module _ (e : ok ≡ true) {c : Counted} (v : Counts g src w os (operandList os) c) where
-    pub own-three : c .refusal ≡ 3 → OwnRefused g src w sh p k 3
+    pub own-three : c .refusal ≡ 3 → OwnRefused g src w sh p k second 3
     own-three h = record {
-      is = λ x a cs at s number o.
-          whole-three (tokensRefusal os) (weightsRefusal (s .declared) (operandList os)) _ (k .ordered) (k .stands) room (sym f ∙ e) (sym (weights-held o os (operandList os) c v) ∙ h)
-          ∙ ap (lower (tokensRefusal os)) (sym (by-facts o x k number os (a .are (sh .order) (s .ordered .rules) (o .n) (s .declared) (s .ordered .lines) (o .known))));
+      is = λ x a b cs at s number o.
+          whole-three (tokensRefusal os) (weightsRefusal (s .declared) (operandList os)) _ second (k .stands) room (sym f ∙ e) (sym (weights-held o os (operandList os) c v) ∙ h)
+          ∙ ap (lower (tokensRefusal os)) (sym (by-facts o x k second number os (a .are (sh .order) (s .ordered .rules) (o .n) (s .declared) (s .ordered .lines) (o .known)) (b .is cs at s o)));
     }
 
-    pub own-later : {d r : ℕ} → (c .refusal ≡ 3 → ⊥) → d ≡ lowest (5 unless not (k .ordered) ∷ 6 unless k .stands ∷ 7 unless (leb (c .operands) (sh .levels) && ltb (sh .order .count) 32767) ∷ [])
-        → r ≡ lower (c .refusal) d → OwnRefused g src w sh p k r
-    own-later {d} {r} h y z = record {
-      is = λ x a cs at s number o.
+    pub own-later : {d r n : ℕ} → (c .refusal ≡ 3 → ⊥) → n ≡ othersOf (k .ordered) (sh .order .count)
+        → d ≡ lowest (5 unless not second ∷ 6 unless k .stands ∷ 7 unless (leb (c .operands) (sh .levels) && ltb n 32767) ∷ [])
+        → r ≡ lower (c .refusal) d → OwnRefused g src w sh p k second r
+    own-later {d} {r} {n} h i y z = record {
+      is = λ x a b cs at s number o.
           z
           ∙ ap (λ (q : ℕ). lower q d) (weights-held o os (operandList os) c v)
-          ∙ ap (lower (lower (tokensRefusal os) (weightsRefusal (s .declared) (operandList os)))) (y ∙ ap (λ (m : ℕ). later (k .ordered) (k .stands) (leb m (sh .levels) && ltb (sh .order .count) 32767)) (v .many h))
-          ∙ sym (whole-formed (tokensRefusal os) (weightsRefusal (s .declared) (operandList os)) _ (k .ordered) (k .stands) room (sym f ∙ e))
-          ∙ ap (lower (tokensRefusal os)) (sym (by-facts o x k number os (a .are (sh .order) (s .ordered .rules) (o .n) (s .declared) (s .ordered .lines) (o .known))));
+          ∙ ap (lower (lower (tokensRefusal os) (weightsRefusal (s .declared) (operandList os)))) (y ∙ ap (λ (m : ℕ). later second (k .stands) (leb (c .operands) (sh .levels) && ltb m 32767)) i ∙ ap (λ (m : ℕ). later second (k .stands) (leb m (sh .levels) && ltb (othersOf (k .ordered) (sh .order .count)) 32767)) (v .many h))
+          ∙ sym (whole-formed (tokensRefusal os) (weightsRefusal (s .declared) (operandList os)) _ second (k .stands) room (sym f ∙ e))
+          ∙ ap (lower (tokensRefusal os)) (sym (by-facts o x k second number os (a .are (sh .order) (s .ordered .rules) (o .n) (s .declared) (s .ordered .lines) (o .known)) (b .is cs at s o)));
     }

@@ -8,7 +8,7 @@ ghost use lib.Dec.{eqb, leb, ltb};
 ghost use Rattle.rules.specs.Text.{_unless_, bytes, lowest};
 ghost use Rattle.rules.specs.Lines.{outside};
 ghost use Rattle.rules.specs.Tokens.{operands};
-ghost use Rattle.rules.specs.State.{inOrder, undefined};
+ghost use Rattle.rules.specs.State.{inOrder, inBlock, undefined};
 ghost use Rattle.tokens.specs.Left.{tokensLeft, isInside};
 ghost use Rattle.subjects.specs.Keys.{keyAt, subjectLeft};
 ghost use Rattle.store.specs.declared.Found.the-variants.{At};
@@ -16,18 +16,22 @@ ghost use Rattle.store.specs.Store.{undefinedMark, Finds, Roomy};
 ghost use Rattle.known.proofs.RankLaws.{isOrdered};
 ghost use Rattle.sheet.specs.Names.{subjectIn, NameLine};
 ghost use Rattle.sheet.specs.Sheets.{SomeOpen, StepIs};
-ghost use Rattle.ordering.specs.Facts.{Rowed, isBare, FactsOf, undefinedFacts, SomeKnown, OwnRefused, RowIs, Ready, Lists};
+ghost use Rattle.ordering.specs.Facts.{Rowed, isBare, isOwn, isAgain, othersOf, FactsOf, undefinedFacts, SomeKnown, OwnRefused, RowIs, freedArea, freedOrder, Leaving, Coming, Ready, ListsLast, ListsBlock, Lists};
 ghost use Rattle.sheet.specs.Words.{WordLine};
 ghost use Rattle.ordering.specs.Lines.{Reads};
 use lines::LineEnd;
 use lines::Signs;
 use lines::Spot;
+use listed::Order;
 use listed::add_line;
+use listed::put_after;
+use listed::take_out;
 use names::Code;
 use names::name_char;
 use opening::refusal_with;
 use operands::no_operand;
 use rows::told;
+use sheet::Block;
 use sheet::Sheet;
 use sheet::Step;
 use standing::stands_at;
@@ -77,6 +81,38 @@ fn is_listed(work: &[u32], f: Found) -> bool
     }
 }
 
+// Whether something is found whose line is the named line of a block, or one of the block's own.
+fn is_own(work: &[u32], b: Block, f: Found) -> bool
+    requires { ⌜ Rowed (now work) f ⌝ }
+    ensures { λ r. ⌜ r ≡ isOwn (now (work .entry)) b f ⌝ }
+{
+    match f {
+        Found::At(v) => {
+            if v == b.named {
+                return true;
+            }
+            let place = told(work, v, 2) as usize;
+            if b.from <= place {
+                return true;
+            }
+            return false;
+        }
+        Found::Nothing => return false,
+    }
+}
+
+// Whether something is found that may have no line here: it has one, or, in a block, one of the block.
+fn is_again(work: &[u32], sh: Sheet, f: Found) -> bool
+    requires { ⌜ Rowed (now work) f ⌝ }
+    ensures { λ r. ⌜ r ≡ isAgain (now (work .entry)) sh f ⌝ }
+{
+    if sh.phase == 6 {
+        let b = sh.block;
+        return is_own(work, b, f);
+    }
+    is_listed(work, f)
+}
+
 // What is told of the name at a spot, where f is found for it.
 fn name_facts(src: &[u8], g: Signs, work: &[u32], p: Spot, f: Found) -> Facts
     requires { ⌜ (p .at ≤ length (now src)) × (isInside (p .mode) ≡ true) ⌝ }
@@ -105,12 +141,26 @@ fn name_facts(src: &[u8], g: Signs, work: &[u32], p: Spot, f: Found) -> Facts
     }
 }
 
-// Whether a line stands in the order, and has no operands if it is that of a symbol.
-fn is_formed(src: &[u8], g: Signs, phase: u8, p: Spot, symbol: bool) -> bool
-    requires { ⌜ (p .at ≤ length (now src)) × (p .mode ≡ outside) ⌝ }
-    ensures { λ r. ⌜ r ≡ (eqb phase inOrder && (eqb (length (operands (tokensLeft g (now (src .entry)) p))) 0 || not symbol)) ⌝ }
+// Whether order lines stand in this phase: in the order, or in a block.
+fn takes_lines(phase: u8) -> bool
+    ensures { λ r. ⌜ r ≡ (eqb phase inOrder || eqb phase inBlock) ⌝ }
 {
     if phase == 4 {
+        return true;
+    }
+    if phase == 6 {
+        return true;
+    }
+    false
+}
+
+// Whether a line stands in the order or in a block, and has no operands if it is that of a symbol.
+fn is_formed(src: &[u8], g: Signs, phase: u8, p: Spot, symbol: bool) -> bool
+    requires { ⌜ (p .at ≤ length (now src)) × (p .mode ≡ outside) ⌝ }
+    ensures { λ r. ⌜ r ≡ ((eqb phase inOrder || eqb phase inBlock) && (eqb (length (operands (tokensLeft g (now (src .entry)) p))) 0 || not symbol)) ⌝ }
+{
+    let takes = takes_lines(phase);
+    if takes {
         if symbol {
             return no_operand(src, g, p);
         }
@@ -119,14 +169,27 @@ fn is_formed(src: &[u8], g: Signs, phase: u8, p: Spot, symbol: bool) -> bool
     false
 }
 
-// The refusal of a second order line, of a subject that does not stand, and of a line that finds no room.
-fn late_refusal(k: Facts, operands: usize, levels: usize, count: usize) -> u8
-    ensures { λ r. ⌜ r ≡ lowest (5 unless not (k .ordered) ∷ 6 unless k .stands ∷ 7 unless (leb operands levels && ltb count 32767) ∷ []) ⌝ }
+// How many lines of others there are, of so many, where the subject has a line or not.
+fn others(ordered: bool, count: usize) -> usize
+    ensures { λ r. ⌜ r ≡ othersOf ordered count ⌝ }
 {
-    if k.ordered {
+    if ordered {
+        if count == 0 {
+            return 0;
+        }
+        return count - 1;
+    }
+    count
+}
+
+// The refusal of a second order line, of a subject that does not stand, and of a line that finds no room.
+fn late_refusal(again: bool, stands: bool, operands: usize, levels: usize, count: usize) -> u8
+    ensures { λ r. ⌜ r ≡ lowest (5 unless not again ∷ 6 unless stands ∷ 7 unless (leb operands levels && ltb count 32767) ∷ []) ⌝ }
+{
+    if again {
         return 5;
     }
-    if k.stands {
+    if stands {
         if operands <= levels {
             if count < 32767 {
                 return 0;
@@ -138,11 +201,11 @@ fn late_refusal(k: Facts, operands: usize, levels: usize, count: usize) -> u8
     6
 }
 
-// The refusal of an order line whose subject has these facts, and of its operands, which follow the spot p.
-fn own_refusal(src: &[u8], g: Signs, work: &[u32], sh: Sheet, p: Spot, k: Facts) -> u8
+// The refusal of an order line whose subject has these facts, and has its line here already or not, and of its operands, which follow the spot p.
+fn own_refusal(src: &[u8], g: Signs, work: &[u32], sh: Sheet, p: Spot, k: Facts, again: bool) -> u8
     requires { ⌜ (p .at ≤ length (now src)) × (p .mode ≡ outside) ⌝ }
     requires { ⌜ SomeKnown g (now src) (now work) ⌝ }
-    ensures { λ r. ⌜ OwnRefused g (now (src .entry)) (now (work .entry)) sh p k r ⌝ }
+    ensures { λ r. ⌜ OwnRefused g (now (src .entry)) (now (work .entry)) sh p k again r ⌝ }
 {
     let ok = is_formed(src, g, sh.phase, p, k.symbol);
     if ok {
@@ -151,7 +214,8 @@ fn own_refusal(src: &[u8], g: Signs, work: &[u32], sh: Sheet, p: Spot, k: Facts)
         if f == 3 {
             return 3;
         }
-        let d = late_refusal(k, c.operands, sh.levels, sh.order.count);
+        let n = others(k.ordered, sh.order.count);
+        let d = late_refusal(again, k.stands, c.operands, sh.levels, n);
         return lower_of(f, d);
     }
     3
@@ -171,12 +235,13 @@ fn row_for(src: &[u8], g: Signs, work: &mut [u32], v: usize, f: Found) -> usize
     }
 }
 
-// An order line more, for the row of a mark: its number, and the place after its subject.
-fn list_line(work: &mut [u32], sh: Sheet, m: usize, number: usize, place: usize, e: LineEnd) -> Step
+// An order line more at the end of the order, for the row of a mark: its number, and the place after its subject.
+fn list_last(work: &mut [u32], sh: Sheet, m: usize, number: usize, place: usize, e: LineEnd) -> Step
     requires { ⌜ Ready (now work) sh m number place ⌝ }
-    ensures { λ r. ⌜ Lists (now (work .entry)) sh m number place e (now (work .exit)) r ⌝ }
+    ensures { λ r. ⌜ ListsLast (now (work .entry)) sh m number place e (now (work .exit)) r ⌝ }
 {
     let o = add_line(work, sh.order, m, number, place);
+    let b = sh.block;
     Step::Next(
         Sheet {
             phase: sh.phase,
@@ -184,10 +249,59 @@ fn list_line(work: &mut [u32], sh: Sheet, m: usize, number: usize, place: usize,
             rules: sh.rules,
             levels: sh.levels,
             order: o,
+            block: b,
         },
         e.next,
         e.feeds,
     )
+}
+
+// The line of a mark, if it has one, leaves its place.
+fn leave(work: &mut [u32], o: Order, m: usize) -> Order
+    requires { ⌜ Leaving (now work) o m ⌝ }
+    ensures { λ r. ⌜ (r ≡ freedOrder (now (work .entry)) o m) × (now (work .exit) ≡ freedArea (now (work .entry)) m) ⌝ }
+{
+    if told(work, m, 2) == 0 {
+        return o;
+    }
+    take_out(work, o, m)
+}
+
+// An order line after the last one of the open block, for the row of a mark, which leaves its old place.
+fn list_in_block(work: &mut [u32], sh: Sheet, m: usize, number: usize, place: usize, e: LineEnd) -> Step
+    requires { ⌜ Coming (now work) sh m × (m < 4294967296) × (number < 4294967296) × (place < 4294967296) ⌝ }
+    ensures { λ r. ⌜ ListsBlock (now (work .entry)) sh m number place e (now (work .exit)) r ⌝ }
+{
+    let o = leave(work, sh.order, m);
+    let q = put_after(work, o, sh.block.last, m, number, place);
+    let b = Block {
+        named: sh.block.named,
+        last: m,
+        from: sh.block.from,
+    };
+    Step::Next(
+        Sheet {
+            phase: sh.phase,
+            toggles: sh.toggles,
+            rules: sh.rules,
+            levels: sh.levels,
+            order: q,
+            block: b,
+        },
+        e.next,
+        e.feeds,
+    )
+}
+
+// An order line, for the row of a mark: its number, and the place after its subject.
+fn list_line(work: &mut [u32], sh: Sheet, m: usize, number: usize, place: usize, e: LineEnd) -> Step
+    requires { ⌜ Ready (now work) sh m number place ⌝ }
+    ensures { λ r. ⌜ Lists (now (work .entry)) sh m number place e (now (work .exit)) r ⌝ }
+{
+    if sh.phase == 6 {
+        return list_in_block(work, sh, m, number, place, e);
+    }
+    list_last(work, sh, m, number, place, e)
 }
 
 // The refusal of a line that opens with the name t, for which f is found.
@@ -209,7 +323,8 @@ fn name_refusal(
     ensures { λ r. ⌜ Reads g (now (src .entry)) (now (work .entry)) sh at number (subjectIn g (now (src .entry)) t) (t .next) r ⌝ }
 {
     let k = name_facts(src, g, work, t.inside, f);
-    let o = own_refusal(src, g, work, sh, t.next, k);
+    let a = is_again(work, sh, f);
+    let o = own_refusal(src, g, work, sh, t.next, k, a);
     let l = lower_of(t.refusal, o);
     refusal_with(e.text, l)
 }
@@ -270,7 +385,8 @@ fn undefined_refusal(
     ensures { λ r. ⌜ Reads g (now (src .entry)) (now (work .entry)) sh at number undefined p r ⌝ }
 {
     let k = undefined_facts(work, m);
-    let o = own_refusal(src, g, work, sh, p, k);
+    let a = is_again(work, sh, Found::At(m));
+    let o = own_refusal(src, g, work, sh, p, k, a);
     refusal_with(e.text, o)
 }
 

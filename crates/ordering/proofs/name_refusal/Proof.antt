@@ -1,12 +1,16 @@
--- `ordering::name_refusal` meets its contract: it is that of the paper's order line.
+-- `ordering::name_refusal` meets its contract.
 use Rattle.ordering.proofs.StepLaws.{some-known}
 use Rattle.ordering.proofs.NameLaws.{name-to, name-inside, name-next, name-plain, name-reads}
+use Rattle.ordering.proofs.FactLaws.{found-rowed}
 use borrow.Author.Needs.{needs}
 use Rattle.ordering.proofs.name_refusal.Statement.{statement}
 use Rattle.ordering.proofs.name_refusal.Tie as tie
 
 name-facts-requires : tie.Need-name-facts-requires
 name-facts-requires c κs = ((search name-to, search name-inside), (search some-known, search needs))
+
+is-again-requires : tie.Need-is-again-requires
+is-again-requires c κs = search (found-rowed, some-known)
 
 own-refusal-requires : tie.Need-own-refusal-requires
 own-refusal-requires c κs = ((search name-next, search name-plain), search some-known)
@@ -25,6 +29,7 @@ name-refusal-spec =
     tie.close
     (tie.spec
     name-facts-requires
+    is-again-requires
     own-refusal-requires
     lower-of-requires
     refusal-with-requires

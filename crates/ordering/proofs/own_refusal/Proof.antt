@@ -1,5 +1,5 @@
--- `ordering::own_refusal` meets its contract: a law for each way to return.
-use Rattle.ordering.proofs.FactLaws.{known-sound}
+-- `ordering::own_refusal` meets its contract.
+use Rattle.ordering.proofs.FactLaws.{own-later, known-sound}
 use Rattle.ordering.proofs.OwnLaws.{own-unformed, own-three, own-later}
 use borrow.Author.Needs.{needs}
 use Rattle.ordering.proofs.own_refusal.Statement.{statement}
@@ -13,6 +13,9 @@ weights-refusal-requires c κs = (search needs, search known-sound)
 
 returns : tie.Need-returns
 returns c = search own-three
+
+others-requires : tie.Need-others-requires
+others-requires c κs = search needs
 
 late-refusal-requires : tie.Need-late-refusal-requires
 late-refusal-requires c κs = search needs
@@ -33,6 +36,7 @@ own-refusal-spec =
     is-formed-requires
     weights-refusal-requires
     returns
+    others-requires
     late-refusal-requires
     lower-of-requires
     returns-2

@@ -1,4 +1,4 @@
--- `ordering::undefined_refusal` meets its contract: it is that of the paper's order line.
+-- `ordering::undefined_refusal` meets its contract.
 use Rattle.ordering.proofs.UndefinedLaws.{undefined-reads}
 use borrow.Author.Needs.{needs}
 use Rattle.ordering.proofs.undefined_refusal.Statement.{statement}
@@ -6,6 +6,9 @@ use Rattle.ordering.proofs.undefined_refusal.Tie as tie
 
 undefined-facts-requires : tie.Need-undefined-facts-requires
 undefined-facts-requires c κs = search needs
+
+is-again-requires : tie.Need-is-again-requires
+is-again-requires c κs = search needs
 
 own-refusal-requires : tie.Need-own-refusal-requires
 own-refusal-requires c κs = search needs
@@ -19,4 +22,9 @@ returns c = search undefined-reads
 pub undefined-refusal-spec : {M : Type 1} → statement M
 undefined-refusal-spec =
     tie.close
-    (tie.spec undefined-facts-requires own-refusal-requires refusal-with-requires returns)
+    (tie.spec
+    undefined-facts-requires
+    is-again-requires
+    own-refusal-requires
+    refusal-with-requires
+    returns)

@@ -1,0 +1,17 @@
+-- `ordering::list_last` meets its contract.
+use Rattle.ordering.proofs.RowLaws.{lists-last}
+use borrow.Author.Needs.{needs}
+use Rattle.ordering.proofs.list_last.Statement.{statement}
+use Rattle.ordering.proofs.list_last.Tie as tie
+
+add-line-requires : tie.Need-add-line-requires
+add-line-requires c κs = search needs
+
+same-length : tie.Need-same-length
+same-length c = search needs
+
+returns : tie.Need-returns
+returns c = search lists-last
+
+pub list-last-spec : {M : Type 1} → statement M
+list-last-spec = tie.close (tie.spec add-line-requires same-length returns)
