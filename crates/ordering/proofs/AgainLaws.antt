@@ -89,19 +89,21 @@ pub again-of : (g : Signs) (src w : List ℕ) (sh : Sheet) (x : Subject) (f : Fo
     → ((o : Order) (rs : List Rule) (n : ℕ) (cs : List Declaration) (ls : List OrderLine) (k : Known g src w o rs n cs ls) → markOf (length src) (k .ds) x ≡ f)
     → (r : Bool) → r ≡ isAgain w sh f → AgainOf g src w sh x r
 unfolding again
-again-of g src w sh x f mark r e = record { is = λ cs at s o. (
-    let m = mark (sh .order) (s .ordered .rules) (o .n) (s .declared) (s .ordered .lines) (o .known) in
-    by (eqb (sh .phase) inBlock)
-    (λ t. let i = o .block t in
-    ap (λ (ys : List Subject). again ys x (s .ordered .lines)) (i .subjects)
-    ∙ again-some (subjectAt g src) (i .own) (sh .block .named) x (s .ordered .lines)
-    ∙ same-marks g src w (sh .order) (s .ordered .rules) (o .n) (s .declared) (s .ordered .lines) (o .known) x f m (i .own ++ sh .block .named ∷ [])
-    (block-listed g src w (o .known .marks) (sh .block) (s .ordered .block) i (IsListed g src w (o .known .ds)) (o .known .listed))
-    ∙ own-at g src w (sh .order) (s .ordered .rules) (o .n) (s .declared) (s .ordered .lines) (o .known) (sh .block) (s .ordered .block) i x f m
-    ∙ sym (e ∙ rw t))
-    (λ t. ap (λ (ys : List Subject). again ys x (s .ordered .lines)) (o .closed t)
-    ∙ ap not (rank-none g src w (sh .order) (s .ordered .rules) (o .n) (s .declared) (s .ordered .lines) (o .known) x f m)
-    ∙ not-not (isOrdered w f) ∙ sym (e ∙ rw t))) }
+again-of g src w sh x f mark r e = record {
+  is = λ cs at s o. (
+      let m = mark (sh .order) (s .ordered .rules) (o .n) (s .declared) (s .ordered .lines) (o .known) in
+      by (eqb (sh .phase) inBlock)
+      (λ t. let i = o .block t in
+      ap (λ (ys : List Subject). again ys x (s .ordered .lines)) (i .subjects)
+      ∙ again-some (subjectAt g src) (i .own) (sh .block .named) x (s .ordered .lines)
+      ∙ same-marks g src w (sh .order) (s .ordered .rules) (o .n) (s .declared) (s .ordered .lines) (o .known) x f m (i .own ++ sh .block .named ∷ [])
+      (block-listed g src w (o .known .marks) (sh .block) (s .ordered .block) i (IsListed g src w (o .known .ds)) (o .known .listed))
+      ∙ own-at g src w (sh .order) (s .ordered .rules) (o .n) (s .declared) (s .ordered .lines) (o .known) (sh .block) (s .ordered .block) i x f m
+      ∙ sym (e ∙ rw t))
+      (λ t. ap (λ (ys : List Subject). again ys x (s .ordered .lines)) (o .closed t)
+      ∙ ap not (rank-none g src w (sh .order) (s .ordered .rules) (o .n) (s .declared) (s .ordered .lines) (o .known) x f m)
+      ∙ not-not (isOrdered w f) ∙ sym (e ∙ rw t)));
+}
   where
     not-not : (b : Bool) → not (not b) ≡ b
     not-not true = refl

@@ -280,7 +280,7 @@ module _ {g : Signs} {src w : List ℕ} {sh : Sheet} {x : Subject} {next : ℕ} 
         by (eqb (cell w′ m placeNumber) 0)
         (λ t. let z = eqb-true (cell w′ m placeNumber) 0 t in
         let y : takenOut (subjectAt g src m) ls ≡ ls = ap (λ (q : Subject). takenOut q ls) subject-is
-            ∙ taken-none g src w′ (sh .order) rs (k .n) (s .declared) ls (k .known) x (rank-none g src w′ (sh .order) rs (k .n) (s .declared) ls (k .known) x (At m) (k .mark) ∙ rw t) in
+        ∙ taken-none g src w′ (sh .order) rs (k .n) (s .declared) ls (k .known) x (rank-none g src w′ (sh .order) rs (k .n) (s .declared) ls (k .known) x (At m) (k .mark) ∙ rw t) in
         rw (t, y) (came-put g src w′ (sh .order) rs (k .n) (s .declared) ls (k .known) a m number place one placed-is p (unlisted z)))
         (λ t. rw t (came-moved g src w′ (sh .order) rs (k .n) (s .declared) ls (k .known) a m number place one placed-is p (listed (eqb-false (cell w′ m placeNumber) 0 t)) d))
 
@@ -393,7 +393,7 @@ module _ {g : Signs} {src w : List ℕ} {sh : Sheet} {x : Subject} {next : ℕ} 
       (λ t. let n = eqb-false v m t in
       let o : oneOf (eqb v) marks ≡ true = rw t at (one-has (λ (u : ℕ). oneOf (eqb u) (m ∷ marks) ≡ true) v marks″ (c .from) h) in
       let e = c .others v placeNumber (omega arith) (λ e. omega (arith, e)) (λ e. omega (arith, e))
-          (rows-apart g src w′ (k .n) (k .known .ds) (k .known .holds) (k .known .once) m v placed-row (listed-row v o) (λ e. n (sym e))) in
+      (rows-apart g src w′ (k .n) (k .known .ds) (k .known .holds) (k .known .once) m v placed-row (listed-row v o) (λ e. n (sym e))) in
       let q = k .places v o in
       omega (arith, e, q))
 

@@ -268,7 +268,14 @@ fn leave(work: &mut [u32], o: Order, m: usize) -> Order
 }
 
 // An order line after the last one of the open block, for the row of a mark, which leaves its old place.
-fn list_in_block(work: &mut [u32], sh: Sheet, m: usize, number: usize, place: usize, e: LineEnd) -> Step
+fn list_in_block(
+    work: &mut [u32],
+    sh: Sheet,
+    m: usize,
+    number: usize,
+    place: usize,
+    e: LineEnd,
+) -> Step
     requires { ⌜ Coming (now work) sh m × (m < 4294967296) × (number < 4294967296) × (place < 4294967296) ⌝ }
     ensures { λ r. ⌜ ListsBlock (now (work .entry)) sh m number place e (now (work .exit)) r ⌝ }
 {

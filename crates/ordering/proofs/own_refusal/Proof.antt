@@ -1,5 +1,5 @@
 -- `ordering::own_refusal` meets its contract.
-use Rattle.ordering.proofs.FactLaws.{own-later, known-sound}
+use Rattle.ordering.proofs.FactLaws.{known-sound}
 use Rattle.ordering.proofs.OwnLaws.{own-unformed, own-three, own-later}
 use borrow.Author.Needs.{needs}
 use Rattle.ordering.proofs.own_refusal.Statement.{statement}
