@@ -1,18 +1,17 @@
 -- Whether a subject has its line here already: in the order by its row, in a block by the block's place.
-use mathlib.Core.Path.{_≡_, refl, sym, ap, _∙_, subst}
+use mathlib.Core.Path.{_≡_, refl, sym, ap, _∙_}
 use mathlib.Core.Bool.{Bool, true, false, not, _||_, or-true}
 use mathlib.Core.List.{List, [], _∷_, _++_, map}
-use Prim.Native.Nat.{ℕ, _≤_, _<_}
+use Prim.Native.Nat.{ℕ}
 use native.Mathlib.Omega.{arith}
-use lib.ListN.{length, getD}
+use lib.ListN.{length}
 use lib.Dec.{eqb, leb}
-use borrow.Author.Tests.{eq-eqb, ne-eqb, eqb-true, le-leb, lt-leb, leb-true}
-use Rattle.lists.proofs.Bools.{by, clash, or-false-left, or-false-right}
+use borrow.Author.Tests.{le-leb, leb-true}
+use Rattle.lists.proofs.Bools.{by, clash}
 use Rattle.lists.proofs.Lists.{All}
 use Rattle.rules.specs.Text.{oneOf}
-use Rattle.rules.specs.State.{inBlock, Subject, OrderLine, Chain, State}
+use Rattle.rules.specs.State.{inBlock, Subject, OrderLine}
 use Rattle.rules.specs.OrderLines.{sameSubject, again}
-use Rattle.rules.proofs.RankLaws.{sameSubject-refl}
 use Rattle.rules.proofs.TextLaws.{oneOf-append}
 use Rattle.rules.specs.Meaning.{Rule}
 use Rattle.rules.specs.State.{Declaration}
@@ -29,7 +28,7 @@ use Rattle.known.proofs.MarkLaws.{isAt, subject-mark, mark-row}
 use Rattle.known.proofs.RankLaws.{isOrdered, rank-none}
 use Rattle.sheet.specs.declared.Block.{Block}
 use Rattle.sheet.specs.declared.Sheet.{Sheet}
-use Rattle.sheet.specs.Sheets.{InBlock, Open}
+use Rattle.sheet.specs.Sheets.{InBlock}
 use Rattle.ordering.specs.Facts.{isOwn, isAgain, AgainOf}
 
 -- in a block it is one of the block's subjects

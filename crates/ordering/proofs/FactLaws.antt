@@ -8,7 +8,6 @@ use lib.ListN.{length}
 use lib.Dec.{eqb}
 use borrow.Author.Tests.{eq-eqb, ne-eqb, le-leb, lt-leb}
 use Rattle.lists.proofs.Bools.{by}
-use Rattle.rules.specs.Text.{if_then_else_}
 use Rattle.rules.specs.Names.{charShaped}
 use Rattle.rules.specs.Meaning.{Rule}
 use Rattle.rules.specs.State.{inBlock, Declaration, Subject, character, named, undefined, OrderLine}

@@ -1,4 +1,4 @@
--- `ordering::is_again` meets its contract.
+-- `ordering::is_again` meets its contract: a law for each way to return.
 use Rattle.ordering.proofs.FactLaws.{again-block, again-order}
 use borrow.Author.Needs.{needs}
 use Rattle.ordering.proofs.is_again.Statement.{statement}

@@ -1,4 +1,4 @@
--- `ordering::is_formed` meets its contract.
+-- `ordering::is_formed` meets its contract: a law for each way to return.
 use Rattle.ordering.proofs.OwnLaws.{formed-else, formed-plain, formed-symbol}
 use borrow.Author.Needs.{needs}
 use Rattle.ordering.proofs.is_formed.Statement.{statement}

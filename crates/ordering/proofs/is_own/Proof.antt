@@ -1,6 +1,5 @@
--- `ordering::is_own` meets its contract.
+-- `ordering::is_own` meets its contract: a law for each way to return.
 use Rattle.ordering.proofs.FactLaws.{row-there, own-none, own-named, own-written, own-else}
-use Rattle.ordering.proofs.FactLaws.{row-there, own-none, own-named, own-else}
 use borrow.Author.Needs.{needs}
 use Rattle.ordering.proofs.is_own.Statement.{statement}
 use Rattle.ordering.proofs.is_own.Tie as tie

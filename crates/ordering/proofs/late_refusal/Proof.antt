@@ -1,4 +1,4 @@
--- `ordering::late_refusal` meets its contract.
+-- `ordering::late_refusal` meets its contract: a law for each way to return.
 use Rattle.ordering.proofs.OwnLaws.{late-ordered, late-missing, late-many, late-full, late-none}
 use Rattle.ordering.proofs.late_refusal.Statement.{statement}
 use Rattle.ordering.proofs.late_refusal.Tie as tie

@@ -1,4 +1,4 @@
--- `ordering::leave` meets its contract.
+-- `ordering::leave` meets its contract: a law for each way to return.
 use Rattle.ordering.proofs.RowLaws.{stays-order, stays-area, leaves-order, leaves-area, leaving-row, leaving-among}
 use borrow.Author.Needs.{needs}
 use Rattle.ordering.proofs.leave.Statement.{statement}

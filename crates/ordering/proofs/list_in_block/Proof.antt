@@ -1,4 +1,4 @@
--- `ordering::list_in_block` meets its contract.
+-- `ordering::list_in_block` meets its contract: the line leaves its old place, comes to stand after the last one, and the sheet takes it.
 use Rattle.ordering.proofs.RowLaws.{coming-leaves, coming-after, coming-row, coming-few, coming-small, lists-block}
 use borrow.Author.Needs.{needs}
 use Rattle.ordering.proofs.list_in_block.Statement.{statement}

@@ -1,4 +1,4 @@
--- `ordering::list_last` meets its contract.
+-- `ordering::list_last` meets its contract: the line is added, and the sheet takes it.
 use Rattle.ordering.proofs.RowLaws.{lists-last}
 use borrow.Author.Needs.{needs}
 use Rattle.ordering.proofs.list_last.Statement.{statement}

@@ -1,4 +1,4 @@
--- `ordering::list_line` meets its contract.
+-- `ordering::list_line` meets its contract: the line is listed where it stands.
 use Rattle.ordering.proofs.RowLaws.{lists-in-block, lists-in-order, ready-coming}
 use borrow.Author.Needs.{needs}
 use Rattle.ordering.proofs.list_line.Statement.{statement}

@@ -1,4 +1,4 @@
--- `ordering::name_refusal` meets its contract.
+-- `ordering::name_refusal` meets its contract: it is that of the paper's order line.
 use Rattle.ordering.proofs.StepLaws.{some-known}
 use Rattle.ordering.proofs.NameLaws.{name-to, name-inside, name-next, name-plain, name-reads}
 use Rattle.ordering.proofs.FactLaws.{found-rowed}

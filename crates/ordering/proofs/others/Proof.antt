@@ -1,4 +1,4 @@
--- `ordering::others` meets its contract.
+-- `ordering::others` meets its contract: a law for each way to return.
 use Rattle.ordering.proofs.OwnLaws.{others-zero, others-less, others-all}
 use borrow.Author.Needs.{needs}
 use Rattle.ordering.proofs.others.Statement.{statement}

@@ -1,4 +1,4 @@
--- `ordering::own_refusal` meets its contract.
+-- `ordering::own_refusal` meets its contract: a law for each way to return.
 use Rattle.ordering.proofs.FactLaws.{known-sound}
 use Rattle.ordering.proofs.OwnLaws.{own-unformed, own-three, own-later}
 use borrow.Author.Needs.{needs}

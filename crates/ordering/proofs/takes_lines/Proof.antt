@@ -1,4 +1,4 @@
--- `ordering::takes_lines` meets its contract.
+-- `ordering::takes_lines` meets its contract: a law for each way to return.
 use Rattle.ordering.proofs.OwnLaws.{takes-order, takes-block, takes-none}
 use Rattle.ordering.proofs.takes_lines.Statement.{statement}
 use Rattle.ordering.proofs.takes_lines.Tie as tie

@@ -1,4 +1,4 @@
--- `ordering::undefined_refusal` meets its contract.
+-- `ordering::undefined_refusal` meets its contract: it is that of the paper's order line.
 use Rattle.ordering.proofs.UndefinedLaws.{undefined-reads}
 use borrow.Author.Needs.{needs}
 use Rattle.ordering.proofs.undefined_refusal.Statement.{statement}
