@@ -9,8 +9,9 @@ const MOST: usize = 300;
 /// The letters that elements are made of.
 const LETTERS: &[u32] = &[0x61, 0x62, 0x63, 0x64, 0x65, 0x66, 0x67, 0x68];
 
-/// A source with many declarations and order lines, which in half of all cases has a fault: a
-/// name twice, two elements alike, a name that nothing declares, two order lines for one.
+/// A source with many declarations and order lines, and in half of all cases blocks behind them.
+/// In half of all cases it has a fault: a name twice, two elements alike, a name that nothing
+/// declares, two order lines for one, one line twice in a block.
 pub fn crowded_source(random: &mut Random) -> Vec<u8> {
     let mut symbols = names(random);
     let mut elements = names(random);
@@ -39,7 +40,8 @@ pub fn crowded_source(random: &mut Random) -> Vec<u8> {
     lines.push(format!("order_start {}", vec!["forward"; levels].join(";")));
     subjects.extend(codes(random));
     let mut named = [&symbols[..], &subjects[..]].concat();
-    let mut order: Vec<String> = symbols;
+    let all = named.clone();
+    let mut order: Vec<String> = symbols.clone();
     for subject in subjects {
         order.push(subject + &weights(levels, &named, random));
     }
@@ -56,9 +58,40 @@ pub fn crowded_source(random: &mut Random) -> Vec<u8> {
         _ => {}
     }
     lines.extend(order);
-    lines.extend(["order_end".to_string(), "END LC_COLLATE".to_string()]);
+    lines.push("order_end".to_string());
+    for _ in 0..random.below(8).saturating_sub(3) {
+        lines.extend(block(&all, &symbols, levels, random));
+    }
+    lines.push("END LC_COLLATE".to_string());
     let lines: Vec<Vec<u8>> = lines.into_iter().map(String::into_bytes).collect();
     joined(&lines, random)
+}
+
+/// A block of many lines, after one of these and with others of them.
+fn block(all: &[String], symbols: &[String], levels: usize, random: &mut Random) -> Vec<String> {
+    let mut written = all.to_vec();
+    shuffle(&mut written, random);
+    let Some(named) = written.pop() else {
+        return Vec::new();
+    };
+    written.truncate(random.below(MOST));
+    match random.below(30) {
+        0 => repeat_one(&mut written, random),
+        1 => written.push(named.clone()),
+        2 => written.push("<undeclared>".to_string()),
+        _ => {}
+    }
+    let mut lines = vec![format!("reorder-after {}", named)];
+    for subject in written {
+        let alone = symbols.contains(&subject);
+        lines.push(if alone {
+            subject
+        } else {
+            subject + &weights(levels, all, random)
+        });
+    }
+    lines.push("reorder-end".to_string());
+    lines
 }
 
 /// Different names, short and long, many of which differ in one byte.

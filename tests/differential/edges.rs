@@ -46,6 +46,24 @@ fn many_lines(count: usize, undefined: bool) -> Vec<u8> {
     text.into_bytes()
 }
 
+/// A source of so many order lines, with blocks behind them.
+fn tailored(count: usize, blocks: &str) -> Vec<u8> {
+    let text = String::from_utf8(many_lines(count, false)).expect("it is text");
+    text.replace("END LC_COLLATE", &format!("{}END LC_COLLATE", blocks))
+        .into_bytes()
+}
+
+/// A block after the first of many lines.
+fn after_first(lines: &str) -> String {
+    format!("reorder-after <U00010000>\n{}reorder-end\n", lines)
+}
+
+/// A block after the first of so many lines, which turns the others round.
+fn turned(count: usize) -> String {
+    let line = |k: usize| format!("<U{:08X}>\n", 0x10000 + k);
+    after_first(&(1..count).rev().map(line).collect::<String>())
+}
+
 /// A source with the most levels, weights and names.
 pub fn widest_source() -> Vec<u8> {
     let weight = format!("\"{}\"", repeated("<U0061>", 8));
@@ -74,6 +92,19 @@ pub fn edges() -> Vec<Request> {
     for (count, undefined) in [(32_767, false), (32_767, true), (32_768, false)] {
         list.push(compile(many_lines(count, undefined), 300_000));
     }
+    // A line that moves is not one more; one that first stands in a block is.
+    for (count, line) in [
+        (32_767, "<U00017FFE>\n"),
+        (32_767, "UNDEFINED\n"),
+        (32_766, "UNDEFINED\n"),
+        (32_766, "<U0061>\n<U0062>\n"),
+        (32_766, "<U0061>\n<U00017FFD> <x>;\n"),
+    ] {
+        list.push(compile(tailored(count, &after_first(line)), 300_000));
+    }
+    list.push(compile(tailored(5_000, &turned(5_000)), 300_000));
+    let many_blocks = after_first("<U0061>\n").repeat(5_000);
+    list.push(compile(tailored(5_000, &many_blocks), 300_000));
     for nested in [8, 9] {
         for keyword in ["ifdef A\n", "ifndef A\n"] {
             let text = repeated(keyword, nested) + &repeated("endif\n", nested);

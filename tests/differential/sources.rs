@@ -38,12 +38,24 @@ const TOGGLES: &[&str] =
     &["A", "B", "C", "LONG_TOGGLE_1", "_", "0", "ABCDEFGHIJKLMNOPQRSTUVWXYZ012345"];
 
 /// What an order line stands for in a planned source.
-#[derive(Clone)]
+#[derive(Clone, PartialEq)]
 enum Subject {
     Character(u32),
     Symbol(Vec<u8>),
     Element(Vec<u8>),
     Undefined,
+}
+
+/// The subjects of a source, as they stand after the lines that are written.
+#[derive(Default)]
+struct Subjects {
+    /// Those that have an order line.
+    listed: Vec<Subject>,
+    /// Those that have none.
+    spare: Vec<Subject>,
+    /// Those that a block must still list: weights name them, or the line that they have is to
+    /// go, as it has a weight that nothing lists.
+    due: Vec<Subject>,
 }
 
 struct Writer<'a> {
@@ -53,23 +65,27 @@ struct Writer<'a> {
     defined: Vec<&'static str>,
     /// Whether names and numbers may be wrong, on lines that are well formed.
     careless: bool,
+    /// Whether weights may name what has no line.
+    loose: bool,
 }
 
 /// A source without a fault, which is almost always accepted.
 pub fn good_source(random: &mut Random) -> Vec<u8> {
-    let (lines, _) = planned_lines(false, random);
+    let (lines, _) = planned_lines(false, false, random);
     joined(&lines, random)
 }
 
-/// A source of well-formed lines whose names and numbers may be wrong.
+/// A source of well-formed lines whose names and numbers may be wrong, or which is good but for
+/// weights that name what has no line.
 pub fn careless_source(random: &mut Random) -> Vec<u8> {
-    let (lines, _) = planned_lines(true, random);
+    let loose = random.chance(25);
+    let (lines, _) = planned_lines(!loose, loose, random);
     joined(&lines, random)
 }
 
 /// A source with so many faults, which need not all be seen.
 pub fn damaged_source(faults: usize, random: &mut Random) -> Vec<u8> {
-    let (mut lines, signs) = planned_lines(false, random);
+    let (mut lines, signs) = planned_lines(false, false, random);
     let to_lines = random.below(faults + 1);
     for _ in 0..to_lines {
         if random.chance(30) {
@@ -97,11 +113,13 @@ fn put_strange_line(lines: &mut Vec<Vec<u8>>, signs: Signs, random: &mut Random)
         .iter()
         .rposition(|line| line.starts_with(b"END"))
         .unwrap_or(0);
-    let (strange, from, to) = match random.below(4) {
+    let collate_end = place_of(b"END LC_COLLATE");
+    let (strange, from, to) = match random.below(5) {
         0 if random.chance(70) => (STRANGE_OUTSIDE, 0, collate),
         0 => (STRANGE_OUTSIDE, last_end + 1, lines.len()),
         1 => (STRANGE_BEFORE, collate + 1, start),
         2 => (STRANGE_IN_ORDER, start + 1, end),
+        3 => (STRANGE_IN_BLOCKS, end + 1, collate_end),
         _ => (STRANGE_ANYWHERE, collate + 1, lines.len()),
     };
     let (from, to) = if from > to || random.chance(20) {
@@ -121,6 +139,7 @@ pub fn hostile_source(random: &mut Random) -> Vec<u8> {
         STRANGE_OUTSIDE,
         STRANGE_BEFORE,
         STRANGE_IN_ORDER,
+        STRANGE_IN_BLOCKS,
         STRANGE_ANYWHERE,
     ] {
         if random.chance(40) {
@@ -129,7 +148,11 @@ pub fn hostile_source(random: &mut Random) -> Vec<u8> {
         if random.chance(50) {
             lines.push(
                 random
-                    .pick(&[&b"LC_COLLATE"[..], b"order_start position;backward"])
+                    .pick(&[
+                        &b"LC_COLLATE"[..],
+                        b"order_start position;backward",
+                        b"order_end",
+                    ])
                     .to_vec(),
             );
         }
@@ -137,7 +160,7 @@ pub fn hostile_source(random: &mut Random) -> Vec<u8> {
     joined(&lines, random)
 }
 
-fn planned_lines(careless: bool, random: &mut Random) -> (Vec<Vec<u8>>, Signs) {
+fn planned_lines(careless: bool, loose: bool, random: &mut Random) -> (Vec<Vec<u8>>, Signs) {
     let (lines, defined) = (Vec::new(), Vec::new());
     let mut writer = Writer {
         random,
@@ -145,6 +168,7 @@ fn planned_lines(careless: bool, random: &mut Random) -> (Vec<Vec<u8>>, Signs) {
         lines,
         defined,
         careless,
+        loose,
     };
     writer.sign_lines();
     writer.other_categories();
@@ -158,7 +182,7 @@ fn planned_lines(careless: bool, random: &mut Random) -> (Vec<Vec<u8>>, Signs) {
 impl Writer<'_> {
     /// Whether to make a mistake here.
     fn errs(&mut self) -> bool {
-        self.careless && self.random.chance(3)
+        self.careless && self.random.chance(2)
     }
 
     /// Adds a line, with what may stand around it.
@@ -226,40 +250,54 @@ impl Writer<'_> {
     fn collate(&mut self) {
         let mut names: Vec<&[u8]> = NAMES.to_vec();
         let mut elements: Vec<&[u32]> = ELEMENTS.to_vec();
-        let mut subjects: Vec<Subject> = Vec::new();
+        let mut declared: Vec<Subject> = Vec::new();
         let mut declarations: Vec<Vec<u8>> = Vec::new();
         for _ in 0..self.random.below(6) {
-            let taken = self.random.below(names.len());
-            let name = names[taken].to_vec();
-            if !self.errs() {
-                names.remove(taken);
-            }
-            let text = angled(&name, self.signs, self.random);
-            if self.random.chance(50) {
-                let line = [b"collating-symbol", blanks(self.random), &text].concat();
-                declarations.push(line);
-                subjects.push(Subject::Symbol(name));
-            } else {
-                let taken = self.random.below(elements.len());
-                let characters = elements[taken];
-                if !self.errs() {
-                    elements.remove(taken);
-                }
-                let mut line = [b"collating-element", blanks(self.random), &text].concat();
-                line.extend(blanks(self.random));
-                line.extend(b"from");
-                line.extend(blanks(self.random));
-                line.extend(self.quoted_characters(characters));
-                declarations.push(line);
-                subjects.push(Subject::Element(name));
-            }
+            let (line, subject) = self.declaration(&mut names, &mut elements);
+            declarations.push(line);
+            declared.push(subject);
         }
         self.block(&declarations, 0);
         let levels = self.order_start();
-        let orders = self.order_lines(subjects, levels);
+        let tailored = self.random.chance(50);
+        let (orders, subjects) = self.order_lines(declared, levels, tailored);
         self.block(&orders, 0);
         self.add(b"order_end");
-        self.block(&[], 0);
+        let behind = if tailored {
+            self.blocks(names, elements, subjects, levels)
+        } else {
+            Vec::new()
+        };
+        self.block(&behind, 0);
+    }
+
+    /// A declaration, with one of the names and, if it is an element's, one of the elements.
+    fn declaration(
+        &mut self,
+        names: &mut Vec<&[u8]>,
+        elements: &mut Vec<&[u32]>,
+    ) -> (Vec<u8>, Subject) {
+        let taken = self.random.below(names.len());
+        let name = names[taken].to_vec();
+        if !self.errs() {
+            names.remove(taken);
+        }
+        let text = angled(&name, self.signs, self.random);
+        if self.random.chance(50) || elements.is_empty() {
+            let line = [b"collating-symbol", blanks(self.random), &text].concat();
+            return (line, Subject::Symbol(name));
+        }
+        let taken = self.random.below(elements.len());
+        let characters = elements[taken];
+        if !self.errs() {
+            elements.remove(taken);
+        }
+        let mut line = [b"collating-element", blanks(self.random), &text].concat();
+        line.extend(blanks(self.random));
+        line.extend(b"from");
+        line.extend(blanks(self.random));
+        line.extend(self.quoted_characters(characters));
+        (line, Subject::Element(name))
     }
 
     fn quoted_characters(&mut self, characters: &[u32]) -> Vec<u8> {
@@ -326,12 +364,19 @@ impl Writer<'_> {
     }
 
     /// Order lines for the declared subjects, some characters, and sometimes UNDEFINED, in any
-    /// order. Their weights name each other.
-    fn order_lines(&mut self, declared: Vec<Subject>, levels: usize) -> Vec<Vec<u8>> {
-        let mut subjects: Vec<Subject> = Vec::new();
+    /// order. Their weights name each other, and where blocks follow also what those list.
+    fn order_lines(
+        &mut self,
+        declared: Vec<Subject>,
+        levels: usize,
+        tailored: bool,
+    ) -> (Vec<Vec<u8>>, Subjects) {
+        let mut subjects = Subjects::default();
         let mut pool = declared;
         if self.random.chance(40) {
             pool.push(Subject::Undefined);
+        } else {
+            subjects.spare.push(Subject::Undefined);
         }
         let mut characters = CHARACTERS.to_vec();
         for _ in 0..self.random.below(9) {
@@ -348,33 +393,147 @@ impl Writer<'_> {
         while !pool.is_empty() {
             let subject = pool.remove(self.random.below(pool.len()));
             if self.errs() {
-                subjects.push(subject.clone());
+                subjects.listed.push(subject.clone());
             }
-            if !self.random.chance(4) {
-                subjects.push(subject);
+            if self.random.chance(4) {
+                subjects.spare.push(subject);
+            } else if tailored && !subjects.listed.is_empty() && self.random.chance(10) {
+                subjects.due.push(subject);
+            } else {
+                subjects.listed.push(subject);
             }
         }
+        let rest = characters.into_iter().map(Subject::Character);
+        let named = [&subjects.listed[..], &subjects.due[..]].concat();
         let mut lines: Vec<Vec<u8>> = Vec::new();
-        for subject in &subjects {
-            let mut line = self.subject_text(subject);
-            if !matches!(subject, Subject::Symbol(_)) || self.errs() {
-                let more = usize::from(self.errs());
-                let operands = self.random.below(levels + 1) + more;
-                for operand in 0..operands {
-                    if operand == 0 {
-                        line.extend(blanks(self.random));
-                    } else {
-                        line.extend(maybe_blanks(self.random));
-                        line.push(b';');
-                        line.extend(maybe_blanks(self.random));
-                    }
-                    line.extend(self.weight(&subjects));
-                }
-            }
+        for subject in &subjects.listed {
+            // Of the lines that a block is to take out, some name what has no line. The first
+            // one stays, for the blocks to stand after.
+            let goes = tailored && !lines.is_empty() && self.random.chance(6);
+            let weights = if goes || self.loose && self.random.chance(20) {
+                rest.clone().collect()
+            } else {
+                named.clone()
+            };
+            let line = self.order_line(subject, levels, &weights);
             // A line that is left out may still be named by a weight.
             if !self.errs() {
                 lines.push(line);
             }
+            if goes {
+                subjects.due.push(subject.clone());
+            }
+        }
+        subjects.spare.extend(rest);
+        (lines, subjects)
+    }
+
+    /// An order line, with weights that name some of these.
+    fn order_line(&mut self, subject: &Subject, levels: usize, named: &[Subject]) -> Vec<u8> {
+        let mut line = self.subject_text(subject);
+        if !matches!(subject, Subject::Symbol(_)) || self.errs() {
+            let more = usize::from(self.errs());
+            let operands = self.random.below(levels + 1) + more;
+            for operand in 0..operands {
+                if operand == 0 {
+                    line.extend(blanks(self.random));
+                } else {
+                    line.extend(maybe_blanks(self.random));
+                    line.push(b';');
+                    line.extend(maybe_blanks(self.random));
+                }
+                line.extend(self.weight(named));
+            }
+        }
+        line
+    }
+
+    /// Blocks behind the order, with declarations between them. At their end every subject that
+    /// must have a line has one.
+    fn blocks(
+        &mut self,
+        mut names: Vec<&[u8]>,
+        mut elements: Vec<&[u32]>,
+        mut subjects: Subjects,
+        levels: usize,
+    ) -> Vec<Vec<u8>> {
+        let mut lines: Vec<Vec<u8>> = Vec::new();
+        let count = self.random.below(4);
+        for block in (0..=count).rev() {
+            while self.random.chance(20) && names.len() > 10 {
+                let (line, subject) = self.declaration(&mut names, &mut elements);
+                lines.push(line);
+                subjects.spare.push(subject);
+            }
+            let declared = lines.len();
+            lines.extend(self.one_block(&mut subjects, levels, block == 0));
+            // Another `reorder-after` ends the open block too.
+            while self.random.chance(25) {
+                lines.extend(self.one_block(&mut subjects, levels, block == 0));
+            }
+            if lines.len() > declared && !self.errs() {
+                lines.push(b"reorder-end".to_vec());
+            }
+        }
+        lines
+    }
+
+    /// `reorder-after` and order lines: of what has a line, what has none, and in the last block
+    /// all that must have one.
+    fn one_block(&mut self, subjects: &mut Subjects, levels: usize, last: bool) -> Vec<Vec<u8>> {
+        let mut pool = subjects.listed.clone();
+        if self.errs() {
+            pool = subjects.spare.clone();
+        }
+        // A line that must go, and one that is to come, are not named here.
+        pool.retain(|subject| {
+            !matches!(subject, Subject::Undefined) && !subjects.due.contains(subject)
+        });
+        if pool.is_empty() {
+            return Vec::new();
+        }
+        let named = self.random.pick(&pool);
+        let text = self.subject_text(&named);
+        let mut lines = vec![[b"reorder-after", blanks(self.random), &text].concat()];
+        let mut written: Vec<Subject> = Vec::new();
+        // Some that must have a line get none, and weights name what has none.
+        let slips = self.careless && self.random.chance(15) || self.loose && self.random.chance(50);
+        if last && !slips {
+            written.append(&mut subjects.due);
+        }
+        for _ in 0..self.random.below(5) {
+            let from = match self.random.below(10) {
+                0..=5 => &subjects.listed,
+                6 | 7 if !subjects.due.is_empty() => &subjects.due,
+                _ => &subjects.spare,
+            };
+            if !from.is_empty() {
+                let subject = self.random.pick(from);
+                if !written.contains(&subject) && subject != named {
+                    let at = self.random.below(written.len() + 1);
+                    written.insert(at, subject);
+                }
+            }
+        }
+        // Careless, one line stands twice, or the named one too.
+        if self.careless && self.random.chance(8) {
+            let mut again = written.clone();
+            again.push(named.clone());
+            let at = self.random.below(written.len() + 1);
+            written.insert(at, self.random.pick(&again));
+        }
+        for subject in &written {
+            for list in [&mut subjects.listed, &mut subjects.spare, &mut subjects.due] {
+                list.retain(|other| other != subject);
+            }
+            subjects.listed.push(subject.clone());
+        }
+        let mut named = [&subjects.listed[..], &subjects.due[..]].concat();
+        if slips {
+            named.extend(subjects.spare.clone());
+        }
+        for subject in &written {
+            lines.push(self.order_line(subject, levels, &named));
         }
         lines
     }

@@ -75,7 +75,42 @@ pub const STRANGE_IN_ORDER: &[&[u8]] = &[
     b"<U0077> \"<U0077><U0077><U0077><U0077><U0077><U0077><U0077><U0077><x>\"",
     b"<U0077> ;;;;;;;;<x>", b"<U0077> ;;;;;;;;,", b"<ABCDEFGHIJKLMNOPQRSTUVWXYZ0123456>",
     b"<U0077> <ABCDEFGHIJKLMNOPQRSTUVWXYZ0123456>", b"<U0077> IGNORE;\"<U0077><LOW>\"",
-    b"... <U0061>", b"reorder-after <U0061>", b"copy \"x\"",
+    b"... <U0061>", b"reorder-after <U0061>", b"reorder-end", b"copy \"x\"",
+];
+
+/// Of the blocks behind the order.
+#[rustfmt::skip]
+pub const STRANGE_IN_BLOCKS: &[&[u8]] = &[
+    b"reorder-after", b"reorder-after ", b"reorder-after <U0061>", b"reorder-after <U00000061>",
+    b"reorder-after UNDEFINED", b"reorder-after <UNDEFINED>", b"reorder-after \"<U0061>\"",
+    b"reorder-after <U0061> <U0062>", b"reorder-after <U0061>;<U0062>", b"reorder-after <U0061>;",
+    b"reorder-after ;<U0061>", b"reorder-after;<U0061>", b"reorder-after<U0061>",
+    b"reorder-after <>", b"reorder-after U0061", b"reorder-after <x>", b"reorder-after <x> x",
+    b"reorder-after <x>;", b"reorder-after <UD800>", b"reorder-after <U00110000>",
+    b"reorder-after <ABCDEFGHIJKLMNOPQRSTUVWXYZ0123456>", b"reorder-after <LOW>",
+    b"reorder-after <ch>", b"reorder-after <U0061> # \xFF", b"reorder-after <U0061># x",
+    b"reorder-after <U0061> \xFF", b"reorder-after \\\n<U0061>", b"reorder-\\\nafter <U0061>",
+    b"reorder-after <\\U0061>", b"reorder_after <U0061>", b"Reorder-after <U0061>",
+    b"reorder-end", b"reorder-end x", b"reorder-end <U0061>", b"reorder-end;", b"reorder-end ;",
+    b"reorder-end # x", b"reorder-end# x", b"reorder_end", b"reorder-\\\nend", b"reorder-end \x01",
+    b"reorder-scripts-after <LOW>", b"reorder-scripts-end", b"order_start", b"order_end",
+    b"END LC_COLLATE", b"collating-symbol <new>", b"collating-symbol <LOW>",
+    b"collating-element <new> from \"<U0061><U0062>\"", b"UNDEFINED", b"UNDEFINED <U0061>",
+    b"<U0061>", b"<U0061> <U0062>", b"<U0061> IGNORE;;", b"<U0077>", b"<LOW>", b"<LOW> ;", b"<x>",
+    b"<ch> <LOW>", b"<U0077> <U0078>",
+    b"reorder-after <U0061>\nreorder-end", b"reorder-after <U0061>\nreorder-after <U0062>",
+    b"reorder-after <U0061>\n<U0061>\nreorder-end", b"reorder-after <U0062>\n<U0061>\nreorder-end",
+    b"reorder-after <U0061>\n<U0062>\n<U0062>\nreorder-end",
+    b"reorder-after <U0061>\nUNDEFINED\nUNDEFINED\nreorder-end",
+    b"reorder-after <U0061>\n<U0077>\nreorder-after <U0061>\n<U0077>\nreorder-end",
+    b"reorder-after <U0061>\n<U0077> <U0078>\nreorder-after <U0061>\n<U0077>\nreorder-end",
+    b"reorder-after <U0061>\n<U0077>\nreorder-after <U0077>\n<U0061>\nreorder-end",
+    b"reorder-after <U0061>\n<U0077> <U0078>\nreorder-after <U0061>\n<U0079> <U0078>\nreorder-end",
+    b"reorder-after <U0061>\ncollating-symbol <new>\nreorder-end",
+    b"reorder-after <U0061>\nreorder-end\ncollating-symbol <new>\nreorder-after <U0061>\n<new>\nreorder-end",
+    b"ifdef Q\nreorder-after UNDEFINED\nreorder-end x\nendif", b"ifdef Q\nreorder-after <U0061>\nendif",
+    b"ifndef Q\nreorder-after <U0061>\nendif\n<U0077>\nreorder-end",
+    b"reorder-after <U0061>\nifndef Q\nreorder-end\nelse\n<U0061>\nendif",
 ];
 
 /// Of any part of LC_COLLATE.

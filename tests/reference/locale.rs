@@ -1,5 +1,5 @@
 // Locale sources: compiling an LC_COLLATE source to a table (01, "Reading lines" and "Inside
-// LC_COLLATE").
+// LC_COLLATE"; 02, K1).
 
 use crate::conditionals::{is_conditional, Conditionals};
 use crate::layout::store;
@@ -9,6 +9,7 @@ use crate::lines::{
 use crate::names::{character, shaped_code};
 use crate::refusals::{without_line, Grounds, Refused};
 use crate::signs::is_sign;
+use crate::standing::{Block, OrderLine, Standing, Subject, Weight};
 use crate::table::{Item, Meaning, Rule, UNDEFINED};
 use crate::tokens::{is_word, operands, split, tokens, Token};
 use std::collections::BTreeMap;
@@ -33,29 +34,6 @@ pub fn compile(source: &[u8], area: usize, work: usize) -> Result<Vec<u32>, Refu
     Ok(table)
 }
 
-/// What an order line stands for and a weight names.
-#[derive(Clone, PartialEq, Eq, PartialOrd, Ord)]
-enum Subject {
-    Character(u32),
-    /// A declared symbol or element, by its name.
-    Declared(Vec<u8>),
-    Undefined,
-}
-
-enum Weight {
-    /// "Empty or missing at the end means the line itself."
-    Itself,
-    /// The lines named; none for IGNORE, "IGNORE gives no weight".
-    Lines(Vec<Subject>),
-}
-
-/// An order line that is used. Its rank is its place in the list, from 1.
-struct OrderLine {
-    number: usize,
-    subject: Subject,
-    weights: Vec<Weight>,
-}
-
 /// Where in the source the reader is.
 enum Place {
     Outside,
@@ -65,11 +43,12 @@ enum Place {
 }
 
 /// Where in LC_COLLATE the reader is.
-#[derive(PartialEq)]
 enum Phase {
     BeforeOrder,
     InOrder,
     AfterOrder,
+    /// Between `reorder-after` and what ends its block.
+    InBlock(Block),
 }
 
 struct Reader {
@@ -84,9 +63,7 @@ struct Reader {
     /// The declared names, with the characters of an element, and none for a symbol.
     declared: BTreeMap<Vec<u8>, Vec<u32>>,
     rules: Vec<Rule>,
-    lines: Vec<OrderLine>,
-    /// The rank of each subject that has an order line.
-    ranks: BTreeMap<Subject, u32>,
+    standing: Standing,
 }
 
 impl Reader {
@@ -102,8 +79,7 @@ impl Reader {
             conditionals: Conditionals::new(),
             declared: BTreeMap::new(),
             rules: Vec::new(),
-            lines: Vec::new(),
-            ranks: BTreeMap::new(),
+            standing: Standing::new(),
         }
     }
 
@@ -223,6 +199,8 @@ impl Reader {
             Token::Word(word) if word == b"collating-element" => self.element_line(operands),
             Token::Word(word) if word == b"order_start" => self.order_start_line(operands),
             Token::Word(word) if word == b"order_end" => self.order_end_line(operands),
+            Token::Word(word) if word == b"reorder-after" => self.reorder_after_line(operands),
+            Token::Word(word) if word == b"reorder-end" => self.reorder_end_line(operands),
             Token::Word(word) if word == b"UNDEFINED" => self.order_line(None, operands, number),
             Token::Name(name) => self.order_line(Some(name), operands, number),
             _ => Err(3),
@@ -230,7 +208,7 @@ impl Reader {
     }
 
     fn end_line(&mut self, operands: &[Token]) -> Result<(), u32> {
-        let too_early = self.phase != Phase::AfterOrder || self.conditionals.any_open();
+        let too_early = !matches!(self.phase, Phase::AfterOrder) || self.conditionals.any_open();
         if !is_word(operands, b"LC_COLLATE") || too_early {
             return Err(3);
         }
@@ -238,10 +216,15 @@ impl Reader {
         Ok(())
     }
 
+    /// Before order_start, and between order_end and END outside blocks.
+    fn may_declare(&self) -> bool {
+        matches!(self.phase, Phase::BeforeOrder | Phase::AfterOrder)
+    }
+
     /// `collating-symbol <name>`.
     fn symbol_line(&mut self, operands: &[Token]) -> Result<(), u32> {
         let name = match operands {
-            [Token::Name(name)] if self.phase == Phase::BeforeOrder => name,
+            [Token::Name(name)] if self.may_declare() => name,
             _ => return Err(3),
         };
         let mut grounds = Grounds::new();
@@ -254,7 +237,7 @@ impl Reader {
     fn element_line(&mut self, operands: &[Token]) -> Result<(), u32> {
         let (name, names) = match operands {
             [Token::Name(name), Token::Word(from), Token::Quoted(names)]
-                if from == b"from" && self.phase == Phase::BeforeOrder =>
+                if from == b"from" && self.may_declare() =>
             {
                 (name, names)
             }
@@ -281,7 +264,7 @@ impl Reader {
 
     /// `order_start r;r;..`. "No operand at all means one forward level."
     fn order_start_line(&mut self, operands: &[Token]) -> Result<(), u32> {
-        if self.phase != Phase::BeforeOrder {
+        if !matches!(self.phase, Phase::BeforeOrder) {
             return Err(3);
         }
         self.phase = Phase::InOrder;
@@ -305,7 +288,30 @@ impl Reader {
     }
 
     fn order_end_line(&mut self, operands: &[Token]) -> Result<(), u32> {
-        if self.phase != Phase::InOrder || !operands.is_empty() {
+        if !matches!(self.phase, Phase::InOrder) || !operands.is_empty() {
+            return Err(3);
+        }
+        self.phase = Phase::AfterOrder;
+        Ok(())
+    }
+
+    /// `reorder-after <name>`. In an open block it ends that block as `reorder-end` does.
+    fn reorder_after_line(&mut self, operands: &[Token]) -> Result<(), u32> {
+        let name = match (operands, &self.phase) {
+            ([Token::Name(name)], Phase::AfterOrder | Phase::InBlock(_)) => name,
+            _ => return Err(3),
+        };
+        let named = self.subject(name)?;
+        // "6 for a named line that does not stand".
+        if !self.standing.has(&named) {
+            return Err(6);
+        }
+        self.phase = Phase::InBlock(Block::after(named));
+        Ok(())
+    }
+
+    fn reorder_end_line(&mut self, operands: &[Token]) -> Result<(), u32> {
+        if !matches!(self.phase, Phase::InBlock(_)) || !operands.is_empty() {
             return Err(3);
         }
         self.phase = Phase::AfterOrder;
@@ -319,7 +325,7 @@ impl Reader {
         operands: &[Token],
         number: usize,
     ) -> Result<(), u32> {
-        if self.phase != Phase::InOrder {
+        if !matches!(self.phase, Phase::InOrder | Phase::InBlock(_)) {
             return Err(3);
         }
         let mut grounds = Grounds::new();
@@ -330,20 +336,25 @@ impl Reader {
         if let Ok(subject) = &subject {
             // "An order line is a declared symbol alone".
             grounds.add_if(self.is_symbol(subject) && !operands.is_empty(), 3);
-            grounds.add_if(self.ranks.contains_key(subject), 5);
+            let again = match &self.phase {
+                Phase::InBlock(block) => block.forbids(subject),
+                _ => self.standing.has(subject),
+            };
+            grounds.add_if(again, 5);
+            grounds.add_if(self.standing.count_with(subject) > MOST_LINES, 7);
         }
         let weights = self.weights(operands, &mut grounds);
-        let rank = self.lines.len() + 1;
-        grounds.add_if(rank > MOST_LINES, 7);
         grounds.add(subject.as_ref().map(|_| ()).map_err(|&number| number));
         grounds.judge()?;
-        let subject = subject?;
-        self.ranks.insert(subject.clone(), rank as u32);
-        self.lines.push(OrderLine {
+        let line = OrderLine {
             number,
-            subject,
+            subject: subject?,
             weights,
-        });
+        };
+        match &mut self.phase {
+            Phase::InBlock(block) => self.standing.put(line, block),
+            _ => self.standing.append(line),
+        }
         Ok(())
     }
 
@@ -402,10 +413,15 @@ impl Reader {
         }
     }
 
-    /// The meaning of what was read. 8 where a weight's name has no order line, "by line".
+    /// The meaning of what was read. 8 where a weight's name has no order line, "by line": of
+    /// the lines that stand after the last block, the one that was written first.
     fn meaning(&self) -> Result<Meaning, Refused> {
+        if let Some(line) = self.standing.first_unranked() {
+            return Err(Refused { number: 8, line });
+        }
+        let ranks = self.standing.ranks();
         let mut items = Vec::new();
-        for line in &self.lines {
+        for line in &self.standing.lines {
             let characters = match &line.subject {
                 Subject::Character(code) => vec![*code],
                 Subject::Declared(name) => self.declared[name].clone(),
@@ -414,18 +430,17 @@ impl Reader {
             if self.is_symbol(&line.subject) {
                 continue;
             }
-            let mut weights = Vec::new();
-            for level in 0..self.rules.len() {
-                weights.push(self.ranks_at(line, level)?);
-            }
+            let weights = (0..self.rules.len())
+                .map(|level| ranks_at(line, level, &ranks))
+                .collect();
             items.push(Item {
                 characters,
                 weights,
             });
         }
-        if !self.ranks.contains_key(&Subject::Undefined) {
+        if !self.standing.has(&Subject::Undefined) {
             // "the rank one above the last line".
-            let rank = self.lines.len() as u32 + 1;
+            let rank = self.standing.lines.len() as u32 + 1;
             let weights = vec![vec![rank]; self.rules.len()];
             items.push(Item {
                 characters: UNDEFINED.to_vec(),
@@ -437,27 +452,13 @@ impl Reader {
             items,
         })
     }
+}
 
-    /// The weights of a line at a level, as ranks.
-    fn ranks_at(&self, line: &OrderLine, level: usize) -> Result<Vec<u32>, Refused> {
-        match line.weights.get(level) {
-            None | Some(Weight::Itself) => Ok(vec![self.ranks[&line.subject]]),
-            Some(Weight::Lines(subjects)) => {
-                let mut ranks = Vec::new();
-                for subject in subjects {
-                    match self.ranks.get(subject) {
-                        Some(rank) => ranks.push(*rank),
-                        None => {
-                            return Err(Refused {
-                                number: 8,
-                                line: line.number,
-                            })
-                        }
-                    }
-                }
-                Ok(ranks)
-            }
-        }
+/// The weights of a line at a level, as ranks; every name has one.
+fn ranks_at(line: &OrderLine, level: usize, ranks: &BTreeMap<&Subject, u32>) -> Vec<u32> {
+    match line.weights.get(level) {
+        None | Some(Weight::Itself) => vec![ranks[&line.subject]],
+        Some(Weight::Lines(subjects)) => subjects.iter().map(|subject| ranks[subject]).collect(),
     }
 }
 

@@ -1,5 +1,5 @@
-// The reference: an independent implementation of document 01, which answers requests on
-// standard input, one a line. README.md describes the requests and says what to read first.
+// The reference: an independent implementation of documents 01 and 02, which answers requests
+// on standard input, one a line. README.md describes the requests and says what to read first.
 
 mod charmap;
 mod conditionals;
@@ -11,6 +11,7 @@ mod order;
 mod refusals;
 mod shapes;
 mod signs;
+mod standing;
 mod table;
 mod tokens;
 

@@ -1,55 +1,38 @@
 -- The loop over a charmap's body: what the run from CHARMAP is, from the line that comes next; and the two loops together.
 use mathlib.Core.Path.{_≡_, refl, sym, ap, _∙_, subst}
-use mathlib.Core.Bool.{Bool, true, false}
+use mathlib.Core.Bool.{Bool, true, false, true≢false}
 use mathlib.Core.List.{List, []}
-use Prim.Native.Nat.{ℕ, suc, _+_, _-_, _^_, _≤_, _<_}
+use Prim.Native.Nat.{ℕ, suc, _+_, _^_, _≤_, _<_}
 use native.Mathlib.Omega.{arith}
 use lib.ListN.{length, drop}
-use Rattle.rules.specs.Charmap.{Given, Mapping, MapEnded, mapEnded, mapLinesFrom, areaOf}
+use Rattle.rules.specs.Charmap.{Given, MapEnded, mapEnded, mapLinesFrom, areaOf}
 use Rattle.rules.proofs.RunLaws.{map-run-closed, map-run-end}
-use Rattle.rules.proofs.CharmapLaws.{area-length}
 use Rattle.giving.proofs.KeptLaws.{kept-none}
 use Rattle.units.specs.Numbers.{numberOf}
 use Rattle.units.specs.declared.Refusal.{Refusal}
+use Rattle.units.specs.declared.Refusal.the-variants as refusal
+use Rattle.reader.specs.Turns.{Turns}
 use Rattle.signs.specs.declared.Chars.{Chars}
 use Rattle.heading.specs.Head.{signsOf}
 use Rattle.body.specs.declared.BodyLine.{BodyLine}
 use Rattle.body.specs.declared.BodyLine.the-variants as body
-use Rattle.body.specs.Outcomes.{Holds, Area}
-use Rattle.body.specs.Body.{charsOf, inBody, lineAt, LineGoes, LineRefused, BodyIs}
+use Rattle.body.specs.Outcomes.{Holds}
+use Rattle.body.specs.Body.{lineAt, LineGoes, LineRefused, BodyIs}
 use Rattle.body.proofs.BodyLaws.{body-run, body-run-refused}
 use Rattle.charmap.specs.declared.Header.{Header}
 use Rattle.charmap.specs.declared.Header.the-variants as header
 use Rattle.charmap.specs.declared.Entries.{Entries}
-use Rattle.charmap.specs.Read.{OfLine, wholeRun, bodyRun, Opened, HeaderIs, Opens, Closes, RunIs}
+use Rattle.charmap.specs.declared.Entries.the-variants as entries
+use Rattle.charmap.specs.declared.BodyRead.{BodyRead}
+use Rattle.charmap.specs.Read.{OfLine, wholeRun, bodyRun, Opened, HeaderIs, Opens, Closes, RunIs, EntriesAre, bodyState, Reads, BodyStands, bodyReading}
 use Rattle.charmap.proofs.KindLaws.{Kind, body-kind, of-line}
 
--- the state after CHARMAP with what is given
-abbrev state : Chars → Bool → List Given → Mapping
-state h closed gs = inBody (charsOf (signsOf h) (h .commented) (h .escaped)) closed gs
+reads-start : {src : List ℕ} {h : Chars} {from first : ℕ} {area : List ℕ} → Opens src from first area → Reads src h from first area from first
+reads-start o = record { given = []; holds = record { same = o .none; kept = kept-none }; same = refl; to = o .to; few = o .few }
 
--- The lines before a place are read, and the area holds what they give.
-pub record Reads (src : List ℕ) (h : Chars) (from first : ℕ) (area₀ area : List ℕ) (at number : ℕ) : Type 0 where
-  pub given : List Given
-  pub holds : Holds area given
-  pub same : bodyRun src h from first ≡ mapLinesFrom (state h false given) number 0 (drop at src)
-  pub to : at ≤ length src
-  pub few : number ≤ suc at
-  pub long : length area ≡ length area₀
-
--- an area that holds something has 512 numbers
-held-length : {area : List ℕ} {gs : List Given} → Holds area gs → length area ≡ 512
-held-length {area} {gs} h = ap length (h .same) ∙ area-length gs
-
-pub reads-start : {src : List ℕ} {h : Chars} {from first : ℕ} {area : List ℕ} → Opens src from first area → Reads src h from first area area from first
-reads-start o = record { given = []; holds = record { same = o .none; kept = kept-none }; same = refl; to = o .to; few = o .few; long = refl }
-
-module _ {src : List ℕ} {h : Chars} {from first : ℕ} {area₀ area : List ℕ} {at number : ℕ} (v : Reads src h from first area₀ area at number) where
-  pub reads-area : Area area
-  reads-area = record { given = v .given; holds = v .holds }
-
-  pub reads-end : length src ≤ at → bodyRun src h from first ≡ mapEnded 3 number []
-  reads-end l = v .same ∙ map-run-end (state h false (v .given)) number at src l refl
+module _ {src : List ℕ} {h : Chars} {from first : ℕ} {area : List ℕ} {at number : ℕ} (v : Reads src h from first area at number) where
+  reads-end : length src ≤ at → bodyRun src h from first ≡ mapEnded 3 number []
+  reads-end l = v .same ∙ map-run-end (bodyState h false (v .given)) number at src l refl
 
   module _ (in-source : at < length src) (after : List ℕ) {s : BodyLine} (w : BodyIs (signsOf h) src at area after s) where
     module _ {closed : Bool} {next feeds : ℕ} (e : s ≡ body.Line closed next feeds) where
@@ -63,7 +46,7 @@ module _ {src : List ℕ} {h : Chars} {from first : ℕ} {area₀ area : List �
       unfolding new
       new-held = line .goes (h .commented) (h .escaped) (v .given) (v .holds) .holds
 
-      goes : bodyRun src h from first ≡ mapLinesFrom (state h closed new) (number + feeds) 0 (drop next src)
+      goes : bodyRun src h from first ≡ mapLinesFrom (bodyState h closed new) (number + feeds) 0 (drop next src)
       unfolding new
       goes = v .same ∙ body-run (signsOf h) src at area after in-source (h .commented) (h .escaped) (v .given) (v .holds) number line
 
@@ -73,23 +56,19 @@ module _ {src : List ℕ} {h : Chars} {from first : ℕ} {area₀ area : List �
       pub reads-fits : length src ≤ 1048576 → number + feeds < 2 ^ 64
       reads-fits l = let x = counted in let y = line .line .to in omega arith
 
-      pub reads-less : length src - next < length src - at
-      reads-less = let x = line .line .on in-source in let y = line .line .to in omega arith
-
-      pub reads-more : closed ≡ false → Reads src h from first area₀ after next (number + feeds)
+      reads-more : closed ≡ false → Reads src h from first after next (number + feeds)
       reads-more c = record {
         given = new;
         holds = new-held;
-        same = goes ∙ ap (λ (b : Bool). mapLinesFrom (state h b new) (number + feeds) 0 (drop next src)) c;
+        same = goes ∙ ap (λ (b : Bool). mapLinesFrom (bodyState h b new) (number + feeds) 0 (drop next src)) c;
         to = line .line .to;
         few = counted;
-        long = held-length new-held ∙ sym (held-length (v .holds)) ∙ v .long;
       }
 
-      pub reads-closed : closed ≡ true → Closes (bodyRun src h from first) after
+      reads-closed : closed ≡ true → Closes (bodyRun src h from first) after
       reads-closed c = record {
         given = new;
-        ended = goes ∙ map-run-closed (state h closed new) (number + feeds) 0 (drop next src) c;
+        ended = goes ∙ map-run-closed (bodyState h closed new) (number + feeds) 0 (drop next src) c;
         holds = new-held .same;
       }
 
@@ -100,14 +79,67 @@ module _ {src : List ℕ} {h : Chars} {from first : ℕ} {area₀ area : List �
       pub reads-kind : OfLine n
       reads-kind =
           of-line n
-          (subst Kind (stops .refusal (h .commented) (h .escaped) (v .given) (v .holds)) (body-kind (state h false (v .given)) (lineAt (signsOf h) src at .marks)))
+          (subst Kind (stops .refusal (h .commented) (h .escaped) (v .given) (v .holds)) (body-kind (bodyState h false (v .given)) (lineAt (signsOf h) src at .marks)))
           (λ z. let p = stops .some in omega arith)
 
-      pub reads-refused : {k : ℕ} → k ≡ n → bodyRun src h from first ≡ mapEnded k number []
+      reads-refused : {k : ℕ} → k ≡ n → bodyRun src h from first ≡ mapEnded k number []
       reads-refused {k} f =
           v .same
           ∙ body-run-refused (signsOf h) src at area after in-source (h .commented) (h .escaped) (v .given) (v .holds) number stops
           ∙ ap (λ (x : ℕ). mapEnded x number []) (sym f)
+
+-- ## The reading of the body
+
+-- the state that it begins with
+abbrev begun : Chars → ℕ → ℕ → BodyRead
+begun h from first = record { over = false; next = from; number = first; answer = entries.Refused refusal.Malformed first; chars = h }
+
+pub reading-begins : {src : List ℕ} {h : Chars} {from first : ℕ} {area : List ℕ} → Opens src from first area
+    → BodyStands src (begun h from first, area) (begun h from first, area) from first
+reading-begins o = record { short = o .short; chars = refl; answer = refl; read = reads-start o }
+
+-- an answer with the characters of t is one with those of s
+answer-at : (src : List ℕ) (s t : BodyRead) (after : List ℕ) (k : Entries) → t .chars ≡ s .chars
+    → EntriesAre src (t .chars) (s .next) (s .number) after k → EntriesAre src (s .chars) (s .next) (s .number) after k
+answer-at src s t after k e h = subst (λ (c : Chars). EntriesAre src c (s .next) (s .number) after k) e h
+
+pub reading-used : {src : List ℕ} {s t : BodyRead × List ℕ} {at number : ℕ} → BodyStands src s t at number → length src ≤ at
+    → EntriesAre src (s .0 .chars) (s .0 .next) (s .0 .number) (t .1) (t .0 .answer)
+reading-used {src} {s} {t} v h =
+    answer-at src (s .0) (t .0) (t .1) (t .0 .answer) (v .chars)
+    (subst (EntriesAre src (t .0 .chars) (s .0 .next) (s .0 .number) (t .1)) (sym (v .answer)) (reads-end (v .read) h))
+
+-- what the line at a place does to it
+module _ {src : List ℕ} {t : BodyRead} {area : List ℕ} {at number : ℕ} (h : at < length src) {after : List ℕ} {k : BodyLine} (w : BodyIs (signsOf (t .chars)) src at area after k) where
+  pub reading-refused : {n : ℕ} {r : Refusal} → k ≡ body.Refused n → numberOf r ≡ n
+      → Turns bodyReading src (t, area) at number (record { over = true; next = at; number = number; answer = entries.Refused r number; chars = t .chars }, after)
+  reading-refused {n} {r} e f =
+      record {
+        further = λ g. absurd (true≢false g);
+        goes = λ g. absurd (true≢false g);
+        stops = λ g s v. answer-at src (s .0) t after (entries.Refused r number) (v .chars) (reads-refused (v .read) h after w e f);
+      }
+
+  module _ {closed : Bool} {next feeds : ℕ} (e : k ≡ body.Line closed next feeds) where
+    pub reading-closed : closed ≡ true
+        → Turns bodyReading src (t, area) at number (record { over = true; next = next; number = number + feeds; answer = entries.Closed; chars = t .chars }, after)
+    reading-closed c =
+        record {
+          further = λ g. absurd (true≢false g);
+          goes = λ g. absurd (true≢false g);
+          stops = λ g s v. answer-at src (s .0) t after entries.Closed (v .chars) (reads-closed (v .read) h after w e c);
+        }
+
+    pub reading-more : closed ≡ false
+        → Turns bodyReading src (t, area) at number
+        (record { over = false; next = next; number = number + feeds; answer = entries.Refused refusal.Malformed (number + feeds); chars = t .chars }, after)
+    reading-more c =
+        let l : LineGoes (signsOf (t .chars)) src at area after closed next feeds = subst (BodyIs (signsOf (t .chars)) src at area after) e w in
+        record {
+          further = λ g. l .line .on h;
+          goes = λ g s v. record { short = v .short; chars = v .chars; answer = refl; read = reads-more (v .read) h after w e c };
+          stops = λ g. absurd (true≢false (sym g));
+        }
 
 -- ## Header and body
 

@@ -5,3 +5,4 @@ pub mod EmptyLaws
 pub mod ReadLaws
 pub mod AnswerLaws
 pub mod CodeLaws
+mod Fields

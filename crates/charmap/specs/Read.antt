@@ -1,19 +1,26 @@
 -- The run over a charmap's lines, as far as its functions read it (Rattle.rules.specs.Charmap). No public contract cites this file.
 use mathlib.Core.Path.{_≡_}
-use mathlib.Core.Bool.{true}
+use mathlib.Core.Bool.{Bool, true, false}
 use mathlib.Core.List.{List, [], _∷_}
 use Prim.Native.Nat.{ℕ, suc, _≤_}
 use lib.ListN.{length, drop}
 use lib.Dec.{eqb}
 use Rattle.rules.specs.Text.{oneOf}
-use Rattle.rules.specs.Charmap.{Given, MapEnded, mapEnded, mapStart, mapLinesFrom, areaOf}
+use Rattle.rules.specs.Charmap.{Given, Mapping, MapEnded, mapEnded, mapStart, mapLinesFrom, areaOf}
 use Rattle.units.specs.Numbers.{numberOf}
+use Rattle.units.specs.declared.Refusal.the-variants as refusal
 use Rattle.signs.specs.declared.Chars.{Chars}
-use Rattle.heading.specs.Head.{headWith}
+use Rattle.taken.specs.Signed.{Visible}
+use Rattle.reader.specs.Turns.{Reading}
+use Rattle.heading.specs.Head.{signsOf, headWith}
+use Rattle.body.specs.Outcomes.{Holds}
+use Rattle.body.specs.Body.{charsOf, inBody}
 use Rattle.charmap.specs.declared.Header.{Header}
 use Rattle.charmap.specs.declared.Header.the-variants as header
+use Rattle.charmap.specs.declared.HeaderRead.{HeaderRead}
 use Rattle.charmap.specs.declared.Entries.{Entries}
 use Rattle.charmap.specs.declared.Entries.the-variants as entries
+use Rattle.charmap.specs.declared.BodyRead.{BodyRead}
 
 -- a refusal that a charmap's line can have
 abbrev pub OfLine : ℕ → Type 0
@@ -39,6 +46,28 @@ abbrev pub HeaderIs : List ℕ → Header → Type 0
 HeaderIs src (header.Opened h at number) = Opened src h at number
 HeaderIs src (header.Refused r line) = wholeRun src ≡ mapEnded (numberOf r) line []
 
+-- The lines before a place are read: the run goes on from there. At most each byte before the place was an LF.
+pub record Heads (src : List ℕ) (h : Chars) (at number : ℕ) : Type 0 where
+  pub same : wholeRun src ≡ mapLinesFrom (headWith h false) number 0 (drop at src)
+  pub to : at ≤ length src
+  pub few : number ≤ suc at
+  pub visible : Visible (signsOf h)
+
+-- A reading of the header has come to a place with the state t, and the source would end too early.
+pub record HeaderStands (src : List ℕ) (s t : HeaderRead) (at number : ℕ) : Type 0 where
+  pub short : length src ≤ 1048576
+  pub answer : t .answer ≡ header.Refused refusal.Malformed number
+  pub read : Heads src (t .chars) at number
+
+abbrev pub headerReading : Reading HeaderRead
+headerReading = record {
+  over = λ t. t .over;
+  next = λ t. t .next;
+  number = λ t. t .number;
+  Stands = HeaderStands;
+  Says = λ src s t. HeaderIs src (t .answer);
+}
+
 -- ## Up to END CHARMAP
 
 -- Nothing is given yet.
@@ -61,6 +90,34 @@ RunIs run after (entries.Refused r line) = run ≡ mapEnded (numberOf r) line []
 
 abbrev pub EntriesAre : List ℕ → Chars → ℕ → ℕ → List ℕ → Entries → Type 0
 EntriesAre src h at number after r = RunIs (bodyRun src h at number) after r
+
+-- the state after CHARMAP with what is given
+abbrev pub bodyState : Chars → Bool → List Given → Mapping
+bodyState h closed gs = inBody (charsOf (signsOf h) (h .commented) (h .escaped)) closed gs
+
+-- The lines before a place are read, and the area holds what they give.
+pub record Reads (src : List ℕ) (h : Chars) (from first : ℕ) (area : List ℕ) (at number : ℕ) : Type 0 where
+  pub given : List Given
+  pub holds : Holds area given
+  pub same : bodyRun src h from first ≡ mapLinesFrom (bodyState h false given) number 0 (drop at src)
+  pub to : at ≤ length src
+  pub few : number ≤ suc at
+
+-- A reading of the body that began with a state and an area has come to a place with another state and area, and the source would end too early.
+pub record BodyStands (src : List ℕ) (s t : BodyRead × List ℕ) (at number : ℕ) : Type 0 where
+  pub short : length src ≤ 1048576
+  pub chars : t .0 .chars ≡ s .0 .chars
+  pub answer : t .0 .answer ≡ entries.Refused refusal.Malformed number
+  pub read : Reads src (t .0 .chars) (s .0 .next) (s .0 .number) (t .1) at number
+
+abbrev pub bodyReading : Reading (BodyRead × List ℕ)
+bodyReading = record {
+  over = λ t. t .0 .over;
+  next = λ t. t .0 .next;
+  number = λ t. t .0 .number;
+  Stands = BodyStands;
+  Says = λ src s t. EntriesAre src (s .0 .chars) (s .0 .next) (s .0 .number) (t .1) (t .0 .answer);
+}
 
 -- ## All lines
 

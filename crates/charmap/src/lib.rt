@@ -7,13 +7,16 @@ ghost use Rattle.rules.specs.Charmap.{areaOf};
 ghost use Rattle.rules.specs.Calls.{charmapCall};
 ghost use Rattle.units.specs.Numbers.{numberOf};
 ghost use Rattle.charmap.specs.Answers.{readAs};
-ghost use Rattle.charmap.specs.Read.{OfLine, HeaderIs, Opens, EntriesAre, SourceIs};
+ghost use Rattle.reader.specs.Turns.{AtLine, Turns};
+ghost use Rattle.charmap.specs.Read.{OfLine, HeaderIs, HeaderStands, headerReading, Opens, EntriesAre, BodyStands, bodyReading, SourceIs};
 use body::BodyLine;
 use body::body_line;
 use giving::copy_area;
 use heading::Heading;
 use heading::header_line;
 use lines::Signs;
+use reader::reader_at;
+use reader::used_up;
 use signs::Chars;
 use signs::start;
 use units::Refusal;
@@ -56,29 +59,163 @@ fn refusal_of(n: u8) -> Refusal
     Refusal::ByteTwice
 }
 
+// How far the header is read. As in every state of a loop that holds a reader (crates/reader), the first three fields are whether the loop is over,
+// and the place and the number of the line that comes next.
+struct HeaderRead {
+    over: bool,
+    next: usize,
+    number: usize,
+    // what is answered if it is over, or no line comes next
+    answer: Header,
+    // the two characters in force
+    chars: Chars,
+}
+
+// The line at a place, which comes next.
+fn header_turn(src: &[u8], s: HeaderRead, at: usize, number: usize) -> HeaderRead
+    requires { ⌜ AtLine headerReading (now src) s at number ⌝ }
+    ensures { λ r. ⌜ Turns headerReading (now (src .entry)) s at number r ⌝ }
+{
+    let h = s.chars;
+    let t = header_line(src, h, at);
+    match t {
+        Heading::Refused(n) => {
+            let r = refusal_of(n);
+            return HeaderRead {
+                over: true,
+                next: at,
+                number: number,
+                answer: Header::Refused(r, number),
+                chars: h,
+            };
+        }
+        Heading::Line(c, opened, next, feeds) => {
+            let m = number + feeds;
+            if opened {
+                return HeaderRead {
+                    over: true,
+                    next: next,
+                    number: m,
+                    answer: Header::Opened(c, next, m),
+                    chars: c,
+                };
+            }
+            return HeaderRead {
+                over: false,
+                next: next,
+                number: m,
+                answer: Header::Refused(Refusal::Malformed, m),
+                chars: c,
+            };
+        }
+    }
+}
+
+// The lines that come next, up to CHARMAP or to one that is refused, or to the end of the source.
+fn header_turns(src: &[u8], s: HeaderRead) -> HeaderRead
+    requires { ⌜ HeaderStands (now src) s s (s .next) (s .number) ⌝ }
+    ensures { λ r. ⌜ HeaderIs (now (src .entry)) (r .answer) ⌝ }
+{
+    let mut t = s;
+    let mut q = reader_at(src, t.next, t.number);
+    while !used_up(q) {
+        t = header_turn(q.src, t, q.at, q.number);
+        if t.over {
+            return t;
+        }
+        q = reader_at(q.src, t.next, t.number);
+    }
+    t
+}
+
 // The lines up to CHARMAP.
 fn header_lines(src: &[u8]) -> Header
     requires { ⌜ length (now src) ≤ 1048576 ⌝ }
     ensures { λ r. ⌜ HeaderIs (now (src .entry)) r ⌝ }
 {
-    let mut h = start();
-    let mut at: usize = 0;
-    let mut number: usize = 1;
-    while at < src.len() {
-        let s = header_line(src, h, at);
-        match s {
-            Heading::Refused(n) => return Header::Refused(refusal_of(n), number),
-            Heading::Line(c, opened, next, feeds) => {
-                if opened {
-                    return Header::Opened(c, next, number + feeds);
-                }
-                h = c;
-                at = next;
-                number += feeds;
+    let h = start();
+    let first: usize = 1;
+    let s = HeaderRead {
+        over: false,
+        next: 0,
+        number: first,
+        answer: Header::Refused(Refusal::Malformed, first),
+        chars: h,
+    };
+    let t = header_turns(src, s);
+    t.answer
+}
+
+// How far the body is read, with the first three fields of every such state.
+struct BodyRead {
+    over: bool,
+    next: usize,
+    number: usize,
+    // what is answered if it is over, or no line comes next
+    answer: Entries,
+    // the two characters in force
+    chars: Chars,
+}
+
+// The line at a place, which comes next, and what it gives.
+fn body_turn(src: &[u8], s: BodyRead, at: usize, number: usize, area: &mut [u32]) -> BodyRead
+    requires { ⌜ AtLine bodyReading (now src) (s, now area) at number ⌝ }
+    ensures { λ r. ⌜ Turns bodyReading (now (src .entry)) (s, now (area .entry)) at number (r, now (area .exit)) ⌝ }
+{
+    let h = s.chars;
+    let g = Signs {
+        comment: h.comment,
+        escape: h.escape,
+    };
+    let t = body_line(src, g, at, area);
+    match t {
+        BodyLine::Refused(n) => {
+            let r = refusal_of(n);
+            return BodyRead {
+                over: true,
+                next: at,
+                number: number,
+                answer: Entries::Refused(r, number),
+                chars: h,
+            };
+        }
+        BodyLine::Line(closed, next, feeds) => {
+            let m = number + feeds;
+            if closed {
+                return BodyRead {
+                    over: true,
+                    next: next,
+                    number: m,
+                    answer: Entries::Closed,
+                    chars: h,
+                };
             }
+            return BodyRead {
+                over: false,
+                next: next,
+                number: m,
+                answer: Entries::Refused(Refusal::Malformed, m),
+                chars: h,
+            };
         }
     }
-    Header::Refused(Refusal::Malformed, number)
+}
+
+// The lines that come next, up to END CHARMAP or to one that is refused, or to the end of the source, and what they give.
+fn body_turns(src: &[u8], s: BodyRead, area: &mut [u32]) -> BodyRead
+    requires { ⌜ BodyStands (now src) (s, now area) (s, now area) (s .next) (s .number) ⌝ }
+    ensures { λ r. ⌜ EntriesAre (now (src .entry)) (s .chars) (s .next) (s .number) (now (area .exit)) (r .answer) ⌝ }
+{
+    let mut t = s;
+    let mut q = reader_at(src, t.next, t.number);
+    while !used_up(q) {
+        t = body_turn(q.src, t, q.at, q.number, area);
+        if t.over {
+            return t;
+        }
+        q = reader_at(q.src, t.next, t.number);
+    }
+    t
 }
 
 // The lines from CHARMAP to END CHARMAP, and what they give, in an area where nothing is given yet.
@@ -86,26 +223,15 @@ fn body_lines(src: &[u8], h: Chars, from: usize, first: usize, area: &mut [u32])
     requires { ⌜ Opens (now src) from first (now area) ⌝ }
     ensures { λ r. ⌜ EntriesAre (now (src .entry)) h from first (now (area .exit)) r ⌝ }
 {
-    let mut at = from;
-    let mut number = first;
-    while at < src.len() {
-        let g = Signs {
-            comment: h.comment,
-            escape: h.escape,
-        };
-        let s = body_line(src, g, at, area);
-        match s {
-            BodyLine::Refused(n) => return Entries::Refused(refusal_of(n), number),
-            BodyLine::Line(closed, next, feeds) => {
-                if closed {
-                    return Entries::Closed;
-                }
-                at = next;
-                number += feeds;
-            }
-        }
-    }
-    Entries::Refused(Refusal::Malformed, number)
+    let s = BodyRead {
+        over: false,
+        next: from,
+        number: first,
+        answer: Entries::Refused(Refusal::Malformed, first),
+        chars: h,
+    };
+    let t = body_turns(src, s, area);
+    t.answer
 }
 
 // All lines, and what they give.

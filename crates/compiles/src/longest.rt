@@ -102,13 +102,13 @@ fn put_lines(src: &mut [u8], from: usize, n: u32)
     }
 }
 
-// The source of n order lines: 23 bytes, 12 for each line, and 25 bytes from a place on.
-fn put_order(src: &mut [u8], n: u32, end: usize)
-    requires { ⌜ (23 + 12 * n ≤ length (now src)) × (end + 25 ≤ length (now src)) ⌝ }
+// The source of n order lines: 23 bytes, 12 for each line, and a text from a place on.
+fn put_order(src: &mut [u8], n: u32, end: usize, text: &[u8])
+    requires { ⌜ (23 + 12 * n ≤ length (now src)) × (end + length (now text) ≤ length (now src)) ⌝ }
 {
     put(src, 0, b"LC_COLLATE\norder_start\n");
     put_lines(src, 23, n);
-    put(src, end, b"order_end\nEND LC_COLLATE\n");
+    put(src, end, text);
 }
 
 // The first n bytes of a source, in the areas lent.
@@ -121,37 +121,61 @@ fn lines_in(name: &[u8], src: &[u8], n: usize, area: &mut [u32], work: &mut [u32
 // The same, of lengths that are known.
 fn lines_within(
     name: &[u8],
-    src: &[u8; 393264],
+    src: &[u8; 393302],
     n: usize,
     area: &mut [u32; 262200],
-    work: &mut [u32; 393328],
+    work: &mut [u32; 393366],
 ) {
     lines_in(name, src, n, area, work);
 }
 
 // The first n bytes of a source, in areas that are long enough.
-fn lines_of(name: &[u8], src: &[u8; 393264], n: usize) {
+fn lines_of(name: &[u8], src: &[u8; 393302], n: usize) {
     let mut area = [0xEEEEu32; 262200];
-    let mut work = [0xEEEEu32; 393328];
+    let mut work = [0xEEEEu32; 393366];
     lines_within(name, src, n, &mut area, &mut work);
 }
 
 // As many order lines as there may be.
-fn most_within(src: &mut [u8; 393264]) {
-    put_order(src, 32767, 393227);
+fn most_within(src: &mut [u8; 393302]) {
+    put_order(src, 32767, 393227, b"order_end\nEND LC_COLLATE\n");
     lines_of(b"32,767 order lines:", src, 393252);
 }
 
 // One more.
-fn more_within(src: &mut [u8; 393264]) {
-    put_order(src, 32768, 393239);
+fn more_within(src: &mut [u8; 393302]) {
+    put_order(src, 32768, 393239, b"order_end\nEND LC_COLLATE\n");
     lines_of(b"32,768 order lines:", src, 393264);
 }
 
+// As many as there may be, and a block that moves the last one.
+fn moved_within(src: &mut [u8; 393302]) {
+    put_order(
+        src,
+        32767,
+        393227,
+        b"order_end\nreorder-after <U00010000>\n<U00017FFE>\nreorder-end\nEND LC_COLLATE\n",
+    );
+    lines_of(b"32,767 order lines, the last moved:", src, 393302);
+}
+
+// One more, in a block.
+fn added_within(src: &mut [u8; 393302]) {
+    put_order(
+        src,
+        32767,
+        393227,
+        b"order_end\nreorder-after <U00010000>\n<U00017FFF>\nreorder-end\nEND LC_COLLATE\n",
+    );
+    lines_of(b"32,767 order lines, one more in a block:", src, 393302);
+}
+
 fn most_lines() {
-    let mut src = [10u8; 393264];
+    let mut src = [10u8; 393302];
     most_within(&mut src);
     more_within(&mut src);
+    moved_within(&mut src);
+    added_within(&mut src);
 }
 
 pub fn cases() {

@@ -168,7 +168,7 @@ read-line src area r area₁ e =
     (λ q. by (ltb (length area) 512) (λ k. rw (p, q, k)) (λ k. rw (p, q, k)))
     (λ q. rw (p, q))))
 
--- 8 carries that of the line with such a weight
+-- 8 carries that of the line with such a weight that was written first
 pub compile-line : (src area work : List ℕ) (r : Compiled) (area₁ work₁ : List ℕ) → Compiles src area work r area₁ work₁
     → let e : Ended = linesFrom start 1 0 src in
     toldAs r area₁ work₁ .line

@@ -1,17 +1,18 @@
 -- What is told of a subject: by what is found in the store, and by its row.
 use mathlib.Core.Path.{_≡_, refl, sym, ap, _∙_, subst}
-use mathlib.Core.Bool.{Bool, true, false, not, or-true}
+use mathlib.Core.Bool.{Bool, true, false, not, _||_}
 use mathlib.Core.List.{List}
 use Prim.Native.Nat.{ℕ, _+_, _-_, _*_, _/_, _≤_, _<_}
 use native.Mathlib.Omega.{arith}
 use lib.ListN.{length}
-use lib.Dec.{eqb}
+use lib.Dec.{eqb, leb}
 use borrow.Author.Tests.{eq-eqb, ne-eqb, le-leb, lt-leb}
-use Rattle.lists.proofs.Bools.{by}
+use Rattle.lists.proofs.Bools.{by, cond-true, cond-false}
+use Rattle.rules.specs.Text.{if_then_else_}
 use Rattle.rules.specs.Names.{charShaped}
 use Rattle.rules.specs.Meaning.{Rule}
 use Rattle.rules.specs.State.{inBlock, Declaration, Subject, character, named, undefined, OrderLine}
-use Rattle.rules.specs.OrderLines.{subjectOf, stands, isSymbol}
+use Rattle.rules.specs.OrderLines.{subjectOf, stands, isSymbol, takenOut}
 use Rattle.lines.specs.declared.Signs.{Signs}
 use Rattle.lines.specs.declared.Spot.{Spot}
 use Rattle.tokens.specs.Left.{isInside}
@@ -36,7 +37,7 @@ use Rattle.known.proofs.MovedLaws.{known-length, taken-found}
 use Rattle.sheet.specs.declared.Block.{Block}
 use Rattle.sheet.specs.declared.Sheet.{Sheet}
 use Rattle.ordering.specs.declared.Facts.{Facts}
-use Rattle.ordering.specs.Facts.{Rowed, isBare, isOwn, isAgain, othersOf, FactsOf, undefinedFacts, SomeKnown}
+use Rattle.ordering.specs.Facts.{Rowed, isBare, isOwn, isAgain, FactsOf, undefinedFacts, SomeKnown}
 
 -- ## Rows
 
@@ -50,7 +51,26 @@ module _ (w : List ℕ) (f : Found) where
   pub listed-none : f ≡ Nothing → false ≡ isOrdered w f
   listed-none e = sym (ap (isOrdered w) e)
 
+  pub own-none : (b : Block) → f ≡ Nothing → false ≡ isOwn w b f
+  own-none b e = sym (ap (isOwn w b) e)
+
+  -- in a block the block's lines count, else all
+  pub again-block : (sh : Sheet) {r : Bool} → sh .phase ≡ 6 → r ≡ isOwn w (sh .block) f → r ≡ isAgain w sh f
+  again-block sh h k = k ∙ sym (cond-true (isOwn w (sh .block) f) (isOrdered w f) (eq-eqb (sh .phase) inBlock h))
+
+  pub again-else : (sh : Sheet) {r : Bool} → (sh .phase ≡ 6 → ⊥) → r ≡ isOrdered w f → r ≡ isAgain w sh f
+  again-else sh h k = k ∙ sym (cond-false (isOwn w (sh .block) f) (isOrdered w f) (ne-eqb (sh .phase) inBlock h))
+
   module _ {v : ℕ} (e : f ≡ At v) where
+    pub own-named : (b : Block) → v ≡ b .named → true ≡ isOwn w b f
+    own-named b h = sym (ap (isOwn w b) e ∙ rw (eq-eqb v (b .named) h))
+
+    pub own-late : (b : Block) {x : ℕ} → x ≡ cell w v placeNumber → (v ≡ b .named → ⊥) → b .from ≤ x → true ≡ isOwn w b f
+    own-late b k n h = sym (ap (isOwn w b) e ∙ rw (ne-eqb v (b .named) n, le-leb (b .from) (cell w v placeNumber) (omega (arith, k, h))))
+
+    pub own-early : (b : Block) {x : ℕ} → x ≡ cell w v placeNumber → (v ≡ b .named → ⊥) → x < b .from → false ≡ isOwn w b f
+    own-early b k n h = sym (ap (isOwn w b) e ∙ rw (ne-eqb v (b .named) n, lt-leb (b .from) (cell w v placeNumber) (omega (arith, k, h))))
+
     pub bare-yes : {x : ℕ} → x ≡ cell w v charsNumber → x ≡ 0 → true ≡ isBare w f
     bare-yes k z = sym (ap (isBare w) e ∙ eq-eqb (cell w v charsNumber) 0 (sym k ∙ z))
 
@@ -62,27 +82,6 @@ module _ (w : List ℕ) (f : Found) where
 
     pub listed-yes : {x : ℕ} → x ≡ cell w v placeNumber → (x ≡ 0 → ⊥) → true ≡ isOrdered w f
     listed-yes k z = sym (ap (isOrdered w) e ∙ ap not (ne-eqb (cell w v placeNumber) 0 (λ y. z (k ∙ y))))
-
--- whether its line is one of a block's
-module _ (w : List ℕ) (b : Block) (f : Found) where
-  pub own-none : f ≡ Nothing → false ≡ isOwn w b f
-  own-none e = sym (ap (isOwn w b) e)
-
-  module _ {v : ℕ} (e : f ≡ At v) where
-    pub own-named : v ≡ b .named → true ≡ isOwn w b f
-    own-named h = sym (ap (isOwn w b) e ∙ rw (eq-eqb v (b .named) h))
-
-    pub own-written : {x : ℕ} → x ≡ cell w v placeNumber → b .from ≤ x → true ≡ isOwn w b f
-    own-written k h = sym (ap (isOwn w b) e ∙ rw (le-leb (b .from) (cell w v placeNumber) (rw k at h)) (or-true (eqb v (b .named))))
-
-    pub own-else : {x : ℕ} → (v ≡ b .named → ⊥) → x ≡ cell w v placeNumber → x < b .from → false ≡ isOwn w b f
-    own-else n k h = sym (ap (isOwn w b) e ∙ rw (ne-eqb v (b .named) n, lt-leb (b .from) (cell w v placeNumber) (rw k at h)))
-
-pub again-block : (w : List ℕ) (sh : Sheet) (f : Found) {r : Bool} → sh .phase ≡ 6 → r ≡ isOwn w (sh .block) f → r ≡ isAgain w sh f
-again-block w sh f h e = e ∙ sym (rw (eq-eqb (sh .phase) inBlock h))
-
-pub again-order : (w : List ℕ) (sh : Sheet) (f : Found) {r : Bool} → (sh .phase ≡ 6 → ⊥) → r ≡ isOrdered w f → r ≡ isAgain w sh f
-again-order w sh f h e = e ∙ sym (rw (ne-eqb (sh .phase) inBlock h))
 
 -- ## What the store finds
 
@@ -110,6 +109,12 @@ unfolding isSymbol knownIn
 symbol-known g src w o rs n cs ls k m (At v) e = known-symbol w m v (k .ds) cs (k .says) (k .once) e
 symbol-known g src w o rs n cs ls k m Nothing e = none-later m cs (sym (known-declared w m (k .ds) cs (k .says)) ∙ ap isFound e)
 
+-- how many lines there are without that of a subject
+others-known : (g : Signs) (src w : List ℕ) (o : Order) (rs : List Rule) (n : ℕ) (cs : List Declaration) (ls : List OrderLine) (k : Known g src w o rs n cs ls) (x : Subject) (f : Found)
+    → markOf (length src) (k .ds) x ≡ f → length (takenOut x ls) ≡ (if isOrdered w f then length ls - 1 else length ls)
+others-known g src w o rs n cs ls k x f m =
+    taken-found g src w o rs n cs ls k x f m ∙ ap (λ (c : ℕ). if isOrdered w f then c - 1 else c) (sym (known-length g src w o rs n cs ls k))
+
 -- ## The facts of a name
 
 other-named : (m : List ℕ) → charShaped m ≡ false → subjectOf m ≡ named m
@@ -136,9 +141,9 @@ module _ (g : Signs) (src w : List ℕ) (p : Spot) (f : Found) (i : isInside (p 
       are = λ o rs n cs ls k. record {
         symbol = y o rs n cs ls k;
         ordered = rank-none g src w o rs n cs ls k (subjectLeft g src p) f (mark-found (length src) (k .ds) (nameLeft g src p) ∙ mark-is o rs n cs ls k) ∙ ap not (sym l);
+        others = others-known g src w o rs n cs ls k (subjectLeft g src p) f (mark-found (length src) (k .ds) (nameLeft g src p) ∙ mark-is o rs n cs ls k)
+            ∙ ap (λ (b : Bool). if b then length ls - 1 else length ls) (sym l);
         stands = sym (stands-known w (k .ds) cs (k .says) (subjectLeft g src p)) ∙ sym (t .is n (k .ds) (k .holds));
-        others = taken-found g src w o rs n cs ls k (subjectLeft g src p) f (mark-found (length src) (k .ds) (nameLeft g src p) ∙ mark-is o rs n cs ls k)
-            ∙ ap (λ (b : Bool). othersOf b (o .count)) (sym l) ∙ ap (othersOf ordered) (sym (known-length g src w o rs n cs ls k));
       };
     }
 
@@ -169,8 +174,7 @@ undefined-are g src w m k e f = record {
   are = λ o rs n cs ls h. record {
     symbol = ap (λ (y : Facts). y .symbol) (sym f);
     ordered = rank-none g src w o rs n cs ls h undefined (At m) (ap At (sym e)) ∙ ap (λ (y : Facts). not (y .ordered)) (sym f);
+    others = others-known g src w o rs n cs ls h undefined (At m) (ap At (sym e)) ∙ ap (λ (y : Facts). if y .ordered then length ls - 1 else length ls) (sym f);
     stands = ap (λ (y : Facts). y .stands) (sym f);
-    others = taken-found g src w o rs n cs ls h undefined (At m) (ap At (sym e))
-        ∙ ap (λ (y : Facts). othersOf (y .ordered) (o .count)) (sym f) ∙ ap (othersOf (k .ordered)) (sym (known-length g src w o rs n cs ls h));
   };
 }

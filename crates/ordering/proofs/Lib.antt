@@ -1,6 +1,6 @@
 pub mod FactLaws
-pub mod OwnLaws
 pub mod AgainLaws
+pub mod OwnLaws
 pub mod RowLaws
 pub mod RangeLaws
 pub mod StepLaws

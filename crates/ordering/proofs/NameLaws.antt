@@ -22,6 +22,8 @@ use Rattle.tokens.specs.declared.Tok.{Tok}
 use Rattle.tokens.specs.Left.{isInside, tokenThere}
 use Rattle.tokens.proofs.RefusalLaws.{lower-assoc}
 use Rattle.names.specs.Named.{nameLeft}
+use Rattle.rows.specs.Cells.{cell}
+use Rattle.listed.specs.Listed.{placeNumber}
 use Rattle.subjects.specs.Keys.{Key, item, chars, keyAt, subjectLeft}
 use Rattle.subjects.proofs.KeyLaws.{keyAt-quotes}
 use Rattle.subjects.proofs.SpotLaws.{keyAt-inside}
@@ -29,8 +31,6 @@ use Rattle.store.specs.declared.Found.{Found}
 use Rattle.store.specs.declared.Found.the-variants.{At, Nothing}
 use Rattle.store.specs.Store.{Decl, first, isFound, knownIn, Holds, Finds}
 use Rattle.store.proofs.ListLaws.{first-fresh, found-key, found-place}
-use Rattle.rows.specs.Cells.{cell}
-use Rattle.listed.specs.Listed.{placeNumber}
 use Rattle.known.specs.Known.{Says}
 use Rattle.known.proofs.DeclaredLaws.{known-declared}
 use Rattle.known.proofs.NewLaws.{known-character-new}
@@ -41,13 +41,13 @@ use Rattle.sheet.specs.Names.{subjectIn, operandsFrom, NameLine}
 use Rattle.sheet.proofs.SheetLaws.{read-whole}
 use Rattle.sheet.proofs.BlockLaws.{mark-older, block-same}
 use Rattle.ordering.specs.declared.Facts.{Facts}
-use Rattle.ordering.specs.Facts.{isAgain, FactsOf, AgainOf, OwnRefused, RowIs, Ready, Lists}
+use Rattle.ordering.specs.Facts.{isAgain, FactsOf, AgainIs, OwnRefused, RowIs, Ready, Lists}
 use Rattle.ordering.specs.Lines.{Reads}
 use Rattle.sheet.proofs.SheetLaws.{spot-behind}
 use Rattle.ordering.proofs.FactLaws.{mark-found, mark-is}
-use Rattle.ordering.proofs.AgainLaws.{again-of}
+use Rattle.ordering.proofs.AgainLaws.{again-is}
 use Rattle.ordering.proofs.RangeLaws.{Ranged, ranged-low, ranged-high, ranged-lower, ranged-unless, ranged-tokens, ranged-order, lower-left-zero, lower-right-zero, Taken}
-use Rattle.ordering.proofs.StepLaws.{rows-taken, line-taken, line-listed, Placed, placed-ready}
+use Rattle.ordering.proofs.StepLaws.{phase-of, line-taken, line-listed, Placed, placed-ready}
 
 -- ## Names
 
@@ -120,20 +120,18 @@ module _ (g : Signs) (src : List ℕ) (at : ℕ) (q : Spot) (t : Tok) (e : LineE
   name-some = let a = l .token .on in omega (arith, a)
 
   module _ (w : List ℕ) (sh : Sheet) (number : ℕ) (k : Facts) (f : FactsOf g src w (subjectLeft g src (t .inside)) k)
-      (there : Found) (found : Finds (keyAt g src) (length src) w (keyAt g src (2 * t .inside .at)) there) (second : Bool) (own : second ≡ isAgain w sh there)
-      (r : ℕ) (v : OwnRefused g src w sh (t .next) k second r) where
-    again-name : AgainOf g src w sh (subjectLeft g src (t .inside)) second
-    again-name =
-        again-of g src w sh (subjectLeft g src (t .inside)) there
-        (λ o rs n cs ls h. mark-found (length src) (h .ds) (nameLeft g src (t .inside)) ∙ mark-is g src w (t .inside) there name-inside found o rs n cs ls h)
-        second own
+      (i : Found) (d : Finds (keyAt g src) (length src) w (keyAt g src (2 * t .inside .at)) i) (again : Bool) (u : again ≡ isAgain w sh i) (r : ℕ) (v : OwnRefused g src w sh (t .next) k again r) where
+    second : AgainIs g src w sh (subjectIn g src t) again
+    second =
+        again-is g src w sh (subjectIn g src t) i again u
+        (λ cs at s o. mark-found (length src) (o .known .ds) (nameLeft g src (t .inside)) ∙ mark-is g src w (t .inside) i name-inside d (sh .order) (s .ordered .rules) (o .n) (s .declared) (s .ordered .lines) (o .known))
 
     module _ {x y : ℕ} (a : x ≡ lower (t .refusal) r) (b : y ≡ lower (2 unless e .text) x) where
       -- the whole refusal
       refusal-is : (cs : List Chain) (s : State) → Open g src w sh cs at s
           → lower (2 unless e .text) (lower (t .refusal) (lower (tokensRefusal (operandsFrom g src (t .next))) (orderLine s number (subjectIn g src t) (operandsFrom g src (t .next)) .refusal))) ≡ y
       refusal-is cs s o =
-          sym (b ∙ ap (lower (2 unless e .text)) (a ∙ ap (lower (t .refusal)) (v .is (subjectIn g src t) f again-name cs at s number o)))
+          sym (b ∙ ap (lower (2 unless e .text)) (a ∙ ap (lower (t .refusal)) (v .is (subjectIn g src t) f second cs at s number o)))
 
       ranged : {depth : ℕ} → SomeOpen g src w sh at depth → Ranged y
       ranged so =
@@ -169,19 +167,19 @@ module _ (g : Signs) (src : List ℕ) (at : ℕ) (q : Spot) (t : Tok) (e : LineE
 
   module _ (w : List ℕ) (sh : Sheet) (number : ℕ) (cs : List Chain) (s : State) (o : Open g src w sh cs at s) (y : Taken s number (subjectIn g src t) (operandsFrom g src (t .next))) where
     rows-at : o .n ≤ (at + 1) / 8
-    rows-at = rows-taken o (l .inside) (y .phase)
+    rows-at = let p = phase-of (s .place .phase) (sh .phase) (o .phase) (y .phase) in rw (p .0, p .1) at (o .rows (l .inside))
 
     on : at < e .next
     on = l .line .on (l .inside)
 
     name-placed : (w′ : List ℕ) (m : ℕ) (f : Found) → Finds (keyAt g src) (length src) w (keyAt g src (2 * t .inside .at)) f
-        → RowIs g src w (2 * t .inside .at) w′ m f → Placed g src w sh (subjectIn g src t) (e .next) w′ m s
+        → RowIs g src w (2 * t .inside .at) w′ m f → Placed g src w sh (subjectIn g src t) at (e .next) w′ m s
     name-placed w′ m (At u) d h =
         let x = subjectIn g src t in
         let k = o .known in
         let i = mark-is g src w (t .inside) (At u) name-inside d (sh .order) (s .ordered .rules) (o .n) (s .declared) (s .ordered .lines) k in
-        subst (λ (z : List ℕ). Placed g src w sh x (e .next) z m s) (sym (h .1))
-        (subst (λ (z : ℕ). Placed g src w sh x (e .next) w z s) (sym (h .0)) (record {
+        subst (λ (z : List ℕ). Placed g src w sh x at (e .next) z m s) (sym (h .1))
+        (subst (λ (z : ℕ). Placed g src w sh x at (e .next) w z s) (sym (h .0)) (record {
           n = o .n;
           known = k;
           mark = mark-found (length src) (k .ds) (nameLeft g src (t .inside)) ∙ i;
@@ -190,7 +188,7 @@ module _ (g : Signs) (src : List ℕ) (at : ℕ) (q : Spot) (t : Tok) (e : LineE
           long = refl;
           beyond = λ j a. refl;
           rows = λ a. let b = rows-at in let c = on in omega (arith, b, c);
-          places = λ j a. let b = o .places j a in let c = on in omega (arith, b, c);
+          places = o .places;
           block = o .block;
         }))
     name-placed w′ m Nothing d h =
@@ -209,8 +207,9 @@ module _ (g : Signs) (src : List ℕ) (at : ℕ) (q : Spot) (t : Tok) (e : LineE
         let some : 1 ≤ v = omega (arith, a) in
         let char : keyAt g src v ≡ item (character (z .code)) = key ∙ ap item (z .is) in
         let more = known-character-new g src w (sh .order) (s .ordered .rules) (o .n) (s .declared) (s .ordered .lines) k v w′ (h .1) room below new some (z .code) char in
+        let same : (u j : ℕ) → u / 16 ≤ length src / 8 + 1 → 1 ≤ j → j < 5 → cell w′ u j ≡ cell w u j = λ u j a b c. h .1 .five u j c in
         let found : first (keyAt g src v) (more .known .ds) ≡ At v = ap (first (keyAt g src v)) (more .same) ∙ first-fresh (keyAt g src) v (k .ds) in
-        subst (λ (j : ℕ). Placed g src w sh x (e .next) w′ j s) (sym (h .0)) (record {
+        subst (λ (j : ℕ). Placed g src w sh x at (e .next) w′ j s) (sym (h .0)) (record {
           n = v / 16 + 1;
           known = more .known;
           mark = mark-found (length src) (more .known .ds) (nameLeft g src (t .inside)) ∙ ap (λ (j : Key). first j (more .known .ds)) (sym key) ∙ found;
@@ -219,35 +218,34 @@ module _ (g : Signs) (src : List ℕ) (at : ℕ) (q : Spot) (t : Tok) (e : LineE
           long = h .1 .long;
           beyond = λ j n. h .1 .beyond j (omega (arith, n));
           rows = λ n. let p = name-far n in let q = l .token .long-name (l .name) in let r = shaped-long (nameLeft g src (t .inside)) (z .shaped) in omega (arith, p, q, r);
-          places = λ j n.
-              let same : (i q : ℕ) → i / 16 ≤ length src / 8 + 1 → 1 ≤ q → q < 5 → cell w′ i q ≡ cell w i q = λ i q a b c. h .1 .five i q c in
-              let older = mark-older g src w w′ (sh .order) (s .ordered .rules) (s .ordered .rules) (o .n) (v / 16 + 1) (s .declared) (s .declared) (s .ordered .lines) (s .ordered .lines) k (more .known) same j n in
-              let p = o .places j older in
-              let q = h .1 .five j placeNumber (omega arith) in
-              let r = on in
-              omega (arith, p, q, r);
-          block = λ a.
-              block-same g src w w′ (sh .order) (s .ordered .rules) (s .ordered .rules) (o .n) (v / 16 + 1) (s .declared) (s .declared) (s .ordered .lines) (s .ordered .lines) k (more .known)
-              (λ i q a b c. h .1 .five i q c) (sh .block) (s .ordered .block) (o .block a);
+          places = λ u j.
+              let was = mark-older g src w w′ (sh .order) (s .ordered .rules) (s .ordered .rules) (o .n) (v / 16 + 1) (s .declared) (s .declared) (s .ordered .lines) (s .ordered .lines) k (more .known) same u j in
+              let a = o .places u was in
+              let f = h .1 .five u placeNumber (omega arith) in
+              omega (arith, a, f);
+          block = λ p.
+              block-same g src w w′ (sh .order) (s .ordered .rules) (s .ordered .rules) (o .n) (v / 16 + 1) (s .declared) (s .declared) (s .ordered .lines) (s .ordered .lines) k (more .known) same
+              (sh .block) (s .ordered .block) (o .block p);
         })
 
   -- ## The step
 
   module _ (w : List ℕ) (sh : Sheet) (number depth : ℕ) (so : SomeOpen g src w sh at depth) (f : Found) (d : Finds (keyAt g src) (length src) w (keyAt g src (2 * t .inside .at)) f)
       (r : ℕ) (v : Reads g src w sh at number (subjectIn g src t) (t .next) r) (z : r ≡ 0) (w′ : List ℕ) (m : ℕ) (h : RowIs g src w (2 * t .inside .at) w′ m f) where
-    there : (cs : List Chain) (s : State) → Open g src w sh cs at s → Placed g src w sh (subjectIn g src t) (e .next) w′ m s
+    there : (cs : List Chain) (s : State) → Open g src w sh cs at s → Placed g src w sh (subjectIn g src t) at (e .next) w′ m s
     there cs s o = name-placed w sh number cs s o (line-taken v z cs s o) w′ m f d h
 
     pub name-ready : number ≤ at + 1 → Ready w′ sh m number (t .next .at)
     name-ready i =
+        let k = there (so .chains) (so .state) (so .held) in
         let a = so .short in
         let b = l .inside in
         let c = name-next in
-        placed-ready (there (so .chains) (so .state) (so .held)) (so .held) (line-taken v z (so .chains) (so .state) (so .held)) (t .next .at) (omega (arith, a, b, i)) (omega (arith, a, c))
+        placed-ready k (line-taken v z (so .chains) (so .state) (so .held)) (t .next .at) (omega (arith, a, b, i)) (omega (arith, a, c)) (so .held .few)
 
     pub name-listed : (w″ : List ℕ) (st : Step) → Lists w′ sh m number (t .next .at) e w″ st → StepIs g src w sh at number depth w″ st
     name-listed w″ st a =
-        let x = l .from in
-        let y = l .token .on in
-        line-listed v z (l .line) (l .inside) there depth (t .next .at) w″ st
-        (spot-behind (t .next) name-plain (l .token .edge (let k = l .name in omega (arith, k)))) name-some name-next (omega (arith, x, y)) (l .reach) a
+        let i = l .from in
+        let j = l .token .on in
+        line-listed v z (l .line) (l .inside) there depth (t .next .at)
+        (spot-behind (t .next) name-plain (l .token .edge (let k = l .name in omega (arith, k)))) (omega (arith, i, j)) name-some name-next (l .reach) w″ st a

@@ -9,10 +9,10 @@ use lib.ListN.{length, length-map}
 use lib.Dec.{eqb, leb, ltb}
 use borrow.Author.Tests.{eq-eqb, ne-eqb, le-leb, lt-leb, lt-ltb, le-ltb}
 use Rattle.lists.proofs.Bools.{by}
-use Rattle.rules.specs.Text.{_unless_, lower, lowest}
+use Rattle.rules.specs.Text.{if_then_else_, _unless_, lower, lowest}
 use Rattle.rules.specs.Tokens.{Token, operands, tokensRefusal}
 use Rattle.rules.specs.State.{inOrder, inBlock, Subject, Chain, State}
-use Rattle.rules.specs.OrderLines.{operandList, stands, weightsRefusal, again, orderLine}
+use Rattle.rules.specs.OrderLines.{operandList, stands, weightsRefusal, orderLine}
 use Rattle.lines.specs.declared.Signs.{Signs}
 use Rattle.lines.specs.declared.Spot.{Spot}
 use Rattle.tokens.specs.Left.{tokensLeft}
@@ -26,7 +26,7 @@ use Rattle.known.specs.Known.{lineAt}
 use Rattle.sheet.specs.declared.Sheet.{Sheet}
 use Rattle.sheet.specs.Sheets.{Open}
 use Rattle.ordering.specs.declared.Facts.{Facts}
-use Rattle.ordering.specs.Facts.{othersOf, FactsIn, OwnRefused}
+use Rattle.ordering.specs.Facts.{FactsIn, AgainIs, OwnRefused}
 use Rattle.ordering.proofs.FactLaws.{stands-known}
 
 -- ## Whether a line is formed
@@ -34,57 +34,55 @@ use Rattle.ordering.proofs.FactLaws.{stands-known}
 pub takes-order : (phase : ℕ) → phase ≡ 4 → true ≡ (eqb phase inOrder || eqb phase inBlock)
 takes-order phase h = sym (rw (eq-eqb phase inOrder h))
 
-pub takes-block : (phase : ℕ) → phase ≡ 6 → true ≡ (eqb phase inOrder || eqb phase inBlock)
-takes-block phase h = sym (rw (eq-eqb phase inBlock h) (or-true (eqb phase inOrder)))
+pub takes-block : (phase : ℕ) → (phase ≡ 4 → ⊥) → eqb phase 6 ≡ (eqb phase inOrder || eqb phase inBlock)
+takes-block phase h = sym (rw (ne-eqb phase inOrder h))
 
-pub takes-none : (phase : ℕ) → (phase ≡ 4 → ⊥) → (phase ≡ 6 → ⊥) → false ≡ (eqb phase inOrder || eqb phase inBlock)
-takes-none phase h k = sym (rw (ne-eqb phase inOrder h, ne-eqb phase inBlock k))
-
-module _ (phase many : ℕ) (symbol : Bool) {takes : Bool} (f : takes ≡ (eqb phase inOrder || eqb phase inBlock)) where
+module _ (phase many : ℕ) (symbol : Bool) {t : Bool} (takes : t ≡ (eqb phase inOrder || eqb phase inBlock)) where
   abbrev formed : Bool
   formed = (eqb phase inOrder || eqb phase inBlock) && (eqb many 0 || not symbol)
 
-  pub formed-else : takes ≡ false → false ≡ formed
-  formed-else h = sym (rw (sym f ∙ h))
+  pub formed-else : t ≡ false → false ≡ formed
+  formed-else h = sym (rw (sym takes ∙ h))
 
-  pub formed-plain : takes ≡ true → symbol ≡ false → true ≡ formed
-  formed-plain h e = sym (rw (sym f ∙ h, e) (or-true (eqb many 0)))
+  pub formed-plain : t ≡ true → symbol ≡ false → true ≡ formed
+  formed-plain h e = sym (rw (sym takes ∙ h, e) (or-true (eqb many 0)))
 
-  pub formed-symbol : {b : Bool} → takes ≡ true → symbol ≡ true → b ≡ eqb many 0 → b ≡ formed
-  formed-symbol {b} h e k = k ∙ sym (rw (sym f ∙ h, e) (or-none (eqb many 0)))
+  pub formed-symbol : {b : Bool} → t ≡ true → symbol ≡ true → b ≡ eqb many 0 → b ≡ formed
+  formed-symbol {b} h e k = k ∙ sym (rw (sym takes ∙ h, e) (or-none (eqb many 0)))
     where
       or-none : (a : Bool) → (a || false) ≡ a
       or-none true = refl
       or-none false = refl
 
--- ## The lines of others
+-- ## Whether a line finds room
 
-pub others-zero : (ordered : Bool) (count : ℕ) → ordered ≡ true → count ≡ 0 → 0 ≡ othersOf ordered count
-others-zero ordered count e z = sym (rw (e, z))
+module _ (ordered : Bool) (count : ℕ) where
+  pub room-moved : ordered ≡ true → count < 32768 → true ≡ ltb (if ordered then count - 1 else count) 32767
+  room-moved e h = sym (rw e (lt-ltb (count - 1) 32767 (omega (arith, h))))
 
-pub others-less : (ordered : Bool) (count : ℕ) → ordered ≡ true → count - 1 ≡ othersOf ordered count
-others-less ordered count e = sym (rw e)
+  pub room-none : ordered ≡ true → 32768 ≤ count → false ≡ ltb (if ordered then count - 1 else count) 32767
+  room-none e h = sym (rw e (le-ltb (count - 1) 32767 (omega (arith, h))))
 
-pub others-all : (ordered : Bool) (count : ℕ) → ordered ≡ false → count ≡ othersOf ordered count
-others-all ordered count e = sym (rw e)
+  pub room-more : ordered ≡ false → ltb count 32767 ≡ ltb (if ordered then count - 1 else count) 32767
+  room-more e = sym (rw e)
 
 -- ## The later refusals
 
 abbrev later : Bool → Bool → Bool → ℕ
-later ordered stood fits = lowest (5 unless not ordered ∷ 6 unless stood ∷ 7 unless fits ∷ [])
+later again stood fits = lowest (5 unless not again ∷ 6 unless stood ∷ 7 unless fits ∷ [])
 
-module _ (second stood : Bool) (many levels count : ℕ) where
+module _ (again stood : Bool) (many levels : ℕ) (room : Bool) where
   abbrev fits : Bool
-  fits = leb many levels && ltb count 32767
+  fits = leb many levels && room
 
   abbrev there : ℕ
-  there = later second stood fits
+  there = later again stood fits
 
-  pub late-ordered : second ≡ true → _≡_ {A = ℕ} 5 there
+  pub late-again : again ≡ true → _≡_ {A = ℕ} 5 there
   unfolding lowest lower
-  late-ordered e = sym (rw e (by stood (λ t. rw t (by fits (λ u. rw u) (λ u. rw u))) (λ t. rw t (by fits (λ u. rw u) (λ u. rw u)))))
+  late-again e = sym (rw e (by stood (λ t. rw t (by fits (λ u. rw u) (λ u. rw u))) (λ t. rw t (by fits (λ u. rw u) (λ u. rw u)))))
 
-  module _ (e : second ≡ false) where
+  module _ (e : again ≡ false) where
     pub late-missing : stood ≡ false → _≡_ {A = ℕ} 6 there
     unfolding lowest lower
     late-missing t = sym (rw (e, t) (by fits (λ u. rw u) (λ u. rw u)))
@@ -95,38 +93,38 @@ module _ (second stood : Bool) (many levels count : ℕ) where
       late-many h = sym (rw (e, t, lt-leb many levels h))
 
       module _ (h : many ≤ levels) where
-        pub late-full : 32767 ≤ count → _≡_ {A = ℕ} 7 there
+        pub late-full : room ≡ false → _≡_ {A = ℕ} 7 there
         unfolding lowest lower
-        late-full l = sym (rw (e, t, le-leb many levels h, le-ltb count 32767 l))
+        late-full l = sym (rw (e, t, le-leb many levels h, l))
 
-        pub late-none : count < 32767 → _≡_ {A = ℕ} 0 there
+        pub late-none : room ≡ true → _≡_ {A = ℕ} 0 there
         unfolding lowest lower
-        late-none l = sym (rw (e, t, le-leb many levels h, lt-ltb count 32767 l))
+        late-none l = sym (rw (e, t, le-leb many levels h, l))
 
-late-later : (ordered stood fits : Bool) → Late (later ordered stood fits)
+late-later : (again stood fits : Bool) → Late (later again stood fits)
 unfolding lowest
-late-later ordered stood fits =
-    late-lower (5 unless not ordered) (lower (6 unless stood) (lower (7 unless fits) 0)) (late-unless 5 (not ordered) (omega arith))
+late-later again stood fits =
+    late-lower (5 unless not again) (lower (6 unless stood) (lower (7 unless fits) 0)) (late-unless 5 (not again) (omega arith))
     (late-lower (6 unless stood) (lower (7 unless fits) 0) (late-unless 6 stood (omega arith))
     (late-lower (7 unless fits) 0 (late-unless 7 fits (omega arith)) (inl refl)))
 
 -- ## The lowest of all
 
-module _ (t w : ℕ) (ok ordered stood fits : Bool) where
+module _ (t w : ℕ) (ok again stood fits : Bool) where
   abbrev whole : ℕ
-  whole = lower t (lowest (3 unless ok ∷ w ∷ 5 unless not ordered ∷ 6 unless stood ∷ 7 unless fits ∷ []))
+  whole = lower t (lowest (3 unless ok ∷ w ∷ 5 unless not again ∷ 6 unless stood ∷ 7 unless fits ∷ []))
 
   pub whole-unformed : Late t → Late w → ok ≡ false → _≡_ {A = ℕ} 3 whole
   unfolding lowest
   whole-unformed a b e =
-      sym (rw e (ap (lower t) (three-left (lower w (later ordered stood fits)) (late-lower w (later ordered stood fits) b (late-later ordered stood fits))) ∙ three-right t a))
+      sym (rw e (ap (lower t) (three-left (lower w (later again stood fits)) (late-lower w (later again stood fits) b (late-later again stood fits))) ∙ three-right t a))
 
-  whole-formed : ok ≡ true → whole ≡ lower (lower t w) (later ordered stood fits)
+  whole-formed : ok ≡ true → whole ≡ lower (lower t w) (later again stood fits)
   unfolding lowest
-  whole-formed e = rw e (ap (lower t) (lower-none-left (lower w (later ordered stood fits))) ∙ sym (lower-assoc t w (later ordered stood fits)))
+  whole-formed e = rw e (ap (lower t) (lower-none-left (lower w (later again stood fits))) ∙ sym (lower-assoc t w (later again stood fits)))
 
   pub whole-three : ok ≡ true → lower t w ≡ 3 → _≡_ {A = ℕ} 3 whole
-  whole-three e h = sym (whole-formed e ∙ ap (λ (x : ℕ). lower x (later ordered stood fits)) h ∙ three-left (later ordered stood fits) (late-later ordered stood fits))
+  whole-three e h = sym (whole-formed e ∙ ap (λ (x : ℕ). lower x (later again stood fits)) h ∙ three-left (later again stood fits) (late-later again stood fits))
 
 -- ## Of a state that is held
 
@@ -136,12 +134,11 @@ module _ {g : Signs} {src w : List ℕ} {sh : Sheet} {cs : List Chain} {at : ℕ
   many-lines = ap length (o .known .are) ∙ length-map (o .known .marks) (lineAt g src (s .ordered .rules) w) ∙ sym (o .known .lines .count)
 
   -- the paper's refusal, by the facts
-  by-facts : (x : Subject) (k : Facts) (b : Bool) (number : ℕ) (os : List Token) → FactsIn (s .declared) (s .ordered .lines) x k
-      → again (s .ordered .block) x (s .ordered .lines) ≡ b
+  by-facts : (x : Subject) (k : Facts) (b : Bool) (number : ℕ) (os : List Token) → FactsIn (s .declared) (s .ordered .lines) x k → AgainIs g src w sh x b
       → orderLine s number x os .refusal
-      ≡ lowest (3 unless ((eqb (sh .phase) inOrder || eqb (sh .phase) inBlock) && (eqb (length os) 0 || not (k .symbol))) ∷ weightsRefusal (s .declared) (operandList os) ∷ 5 unless not b ∷ 6 unless k .stands ∷ 7 unless (leb (length (operandList os)) (sh .levels) && ltb (othersOf (k .ordered) (sh .order .count)) 32767) ∷ [])
+      ≡ lowest (3 unless ((eqb (sh .phase) inOrder || eqb (sh .phase) inBlock) && (eqb (length os) 0 || not (k .symbol))) ∷ weightsRefusal (s .declared) (operandList os) ∷ 5 unless not b ∷ 6 unless k .stands ∷ 7 unless (leb (length (operandList os)) (sh .levels) && ltb (if k .ordered then sh .order .count - 1 else sh .order .count) 32767) ∷ [])
   unfolding orderLine
-  by-facts x k b number os f a = rw (o .phase, f .symbol, a, f .stands, o .levels, f .others, many-lines)
+  by-facts x k b number os f a = rw (o .phase, f .symbol, a .is cs at s o, f .stands, o .levels, f .others, many-lines)
 
   -- its weights, by what the store holds
   weights-held : (os : List Token) (ws : List (List Token)) (r : Counted) → Counts g src w os ws r
@@ -156,37 +153,42 @@ module _ {g : Signs} {src w : List ℕ} {sh : Sheet} {cs : List Chain} {at : ℕ
       subst-late : {a b : ℕ} → a ≡ b → Late a → Late b
       subst-late e h = rw (← e) h
 
-module _ (g : Signs) (src w : List ℕ) (sh : Sheet) (p : Spot) (k : Facts) (second : Bool) {ok : Bool}
+module _ (g : Signs) (src w : List ℕ) (sh : Sheet) (p : Spot) (k : Facts) (again : Bool) {ok : Bool}
     (f : ok ≡ ((eqb (sh .phase) inOrder || eqb (sh .phase) inBlock) && (eqb (length (operands (tokensLeft g src p))) 0 || not (k .symbol)))) where
   abbrev os : List Token
   os = operands (tokensLeft g src p)
 
-  abbrev room : Bool
-  room = leb (length (operandList os)) (sh .levels) && ltb (othersOf (k .ordered) (sh .order .count)) 32767
+  abbrev roomy : Bool
+  roomy = ltb (if k .ordered then sh .order .count - 1 else sh .order .count) 32767
 
-  pub own-unformed : ok ≡ false → OwnRefused g src w sh p k second 3
+  abbrev room : Bool
+  room = leb (length (operandList os)) (sh .levels) && roomy
+
+  pub own-unformed : ok ≡ false → OwnRefused g src w sh p k again 3
   own-unformed e = record {
     is = λ x a b cs at s number o.
-        whole-unformed (tokensRefusal os) (weightsRefusal (s .declared) (operandList os)) _ second (k .stands) room (late-tokens os) (late-paper o (operandList os)) (sym f ∙ e)
-        ∙ ap (lower (tokensRefusal os)) (sym (by-facts o x k second number os (a .are (sh .order) (s .ordered .rules) (o .n) (s .declared) (s .ordered .lines) (o .known)) (b .is cs at s o)));
+        whole-unformed (tokensRefusal os) (weightsRefusal (s .declared) (operandList os)) _ again (k .stands) room (late-tokens os) (late-paper o (operandList os)) (sym f ∙ e)
+        ∙ ap (lower (tokensRefusal os)) (sym (by-facts o x k again number os (a .are (sh .order) (s .ordered .rules) (o .n) (s .declared) (s .ordered .lines) (o .known)) b));
   }
 
   module _ (e : ok ≡ true) {c : Counted} (v : Counts g src w os (operandList os) c) where
-    pub own-three : c .refusal ≡ 3 → OwnRefused g src w sh p k second 3
+    pub own-three : c .refusal ≡ 3 → OwnRefused g src w sh p k again 3
     own-three h = record {
       is = λ x a b cs at s number o.
-          whole-three (tokensRefusal os) (weightsRefusal (s .declared) (operandList os)) _ second (k .stands) room (sym f ∙ e) (sym (weights-held o os (operandList os) c v) ∙ h)
-          ∙ ap (lower (tokensRefusal os)) (sym (by-facts o x k second number os (a .are (sh .order) (s .ordered .rules) (o .n) (s .declared) (s .ordered .lines) (o .known)) (b .is cs at s o)));
+          whole-three (tokensRefusal os) (weightsRefusal (s .declared) (operandList os)) _ again (k .stands) room (sym f ∙ e) (sym (weights-held o os (operandList os) c v) ∙ h)
+          ∙ ap (lower (tokensRefusal os)) (sym (by-facts o x k again number os (a .are (sh .order) (s .ordered .rules) (o .n) (s .declared) (s .ordered .lines) (o .known)) b));
     }
 
-    pub own-later : {d r n : ℕ} → (c .refusal ≡ 3 → ⊥) → n ≡ othersOf (k .ordered) (sh .order .count)
-        → d ≡ lowest (5 unless not second ∷ 6 unless k .stands ∷ 7 unless (leb (c .operands) (sh .levels) && ltb n 32767) ∷ [])
-        → r ≡ lower (c .refusal) d → OwnRefused g src w sh p k second r
-    own-later {d} {r} {n} h i y z = record {
+    pub own-later : {q : Bool} {d r : ℕ} → (c .refusal ≡ 3 → ⊥) → q ≡ ltb (if k .ordered then sh .order .count - 1 else sh .order .count) 32767
+        → d ≡ lowest (5 unless not again ∷ 6 unless k .stands ∷ 7 unless (leb (c .operands) (sh .levels) && q) ∷ []) → r ≡ lower (c .refusal) d → OwnRefused g src w sh p k again r
+    own-later {q} {d} {r} h u y z = record {
       is = λ x a b cs at s number o.
           z
-          ∙ ap (λ (q : ℕ). lower q d) (weights-held o os (operandList os) c v)
-          ∙ ap (lower (lower (tokensRefusal os) (weightsRefusal (s .declared) (operandList os)))) (y ∙ ap (λ (m : ℕ). later second (k .stands) (leb (c .operands) (sh .levels) && ltb m 32767)) i ∙ ap (λ (m : ℕ). later second (k .stands) (leb m (sh .levels) && ltb (othersOf (k .ordered) (sh .order .count)) 32767)) (v .many h))
-          ∙ sym (whole-formed (tokensRefusal os) (weightsRefusal (s .declared) (operandList os)) _ second (k .stands) room (sym f ∙ e))
-          ∙ ap (lower (tokensRefusal os)) (sym (by-facts o x k second number os (a .are (sh .order) (s .ordered .rules) (o .n) (s .declared) (s .ordered .lines) (o .known)) (b .is cs at s o)));
+          ∙ ap (λ (i : ℕ). lower i d) (weights-held o os (operandList os) c v)
+          ∙ ap (lower (lower (tokensRefusal os) (weightsRefusal (s .declared) (operandList os))))
+          (y
+          ∙ ap (λ (i : Bool). later again (k .stands) (leb (c .operands) (sh .levels) && i)) u
+          ∙ ap (λ (m : ℕ). later again (k .stands) (leb m (sh .levels) && roomy)) (v .many h))
+          ∙ sym (whole-formed (tokensRefusal os) (weightsRefusal (s .declared) (operandList os)) _ again (k .stands) room (sym f ∙ e))
+          ∙ ap (lower (tokensRefusal os)) (sym (by-facts o x k again number os (a .are (sh .order) (s .ordered .rules) (o .n) (s .declared) (s .ordered .lines) (o .known)) b));
     }

@@ -7,7 +7,7 @@ use Prim.Native.Nat.{ℕ, _≤_}
 use native.Mathlib.Omega.{arith}
 use lib.ListN.{length}
 use lib.Dec.{eqb, leb, ltb}
-use borrow.Author.Tests.{eqb-true, eqb-false}
+use borrow.Author.Tests.{eqb-true, eqb-false, not-true}
 use Rattle.lists.proofs.Bools.{by, and-left, and-right}
 use Rattle.lists.proofs.Lists.{All}
 use Rattle.rules.specs.Text.{every, is, _unless_, lower, lowest}
@@ -87,10 +87,6 @@ lower-left-zero a b h = lower-zero a b h .0
 pub lower-right-zero : (a b : ℕ) → lower a b ≡ 0 → b ≡ 0
 lower-right-zero a b h = lower-zero a b h .1
 
-not-true : (b : Bool) → not b ≡ true → b ≡ false
-not-true true h = absurd (mathlib.Core.Bool.false≢true h)
-not-true false h = refl
-
 unless-zero : (n : ℕ) (t : Bool) → 1 ≤ n → n unless t ≡ 0 → t ≡ true
 unless-zero n true l h = refl
 unless-zero n false l h = absurd (omega (arith, l, h))
@@ -116,8 +112,8 @@ module _ (s : State) (number : ℕ) (x : Subject) (os : List Token) where
 
   -- An order line that is not refused.
   pub record Taken : Type 0 where
-    pub phase : (eqb (s .place .phase) inOrder || eqb (s .place .phase) inBlock) ≡ true
-    pub fresh : again (s .ordered .block) x (s .ordered .lines) ≡ false
+    pub phase : (inPhase inOrder s || inPhase inBlock s) ≡ true
+    pub first : again (s .ordered .block) x (s .ordered .lines) ≡ false
     pub stood : stands (s .declared) x ≡ true
     pub room : ltb (length (takenOut x (s .ordered .lines))) 32767 ≡ true
     pub weights : weightsRefusal (s .declared) (operandList os) ≡ 0
@@ -128,17 +124,18 @@ module _ (s : State) (number : ℕ) (x : Subject) (os : List Token) where
       let ws = operandList os in
       let a = (inPhase inOrder s || inPhase inBlock s) && (eqb (length os) 0 || not (isSymbol (s .declared) x)) in
       let d = leb (length ws) (length (s .ordered .rules)) && ltb (length (takenOut x (s .ordered .lines))) 32767 in
+      let b = not (again (s .ordered .block) x (s .ordered .lines)) in
       let c7 = lower (7 unless d) 0 in
       let c6 = lower (6 unless stands (s .declared) x) c7 in
-      let c5 = lower (5 unless not (again (s .ordered .block) x (s .ordered .lines))) c6 in
+      let c5 = lower (5 unless b) c6 in
       let cw = lower (weightsRefusal (s .declared) ws) c5 in
       let h1 : cw ≡ 0 = lower-right-zero (3 unless a) cw h in
       let h2 : c5 ≡ 0 = lower-right-zero (weightsRefusal (s .declared) ws) c5 h1 in
-      let h3 : c6 ≡ 0 = lower-right-zero (5 unless not (again (s .ordered .block) x (s .ordered .lines))) c6 h2 in
+      let h3 : c6 ≡ 0 = lower-right-zero (5 unless b) c6 h2 in
       let h4 : c7 ≡ 0 = lower-right-zero (6 unless stands (s .declared) x) c7 h3 in
       record {
         phase = and-left (inPhase inOrder s || inPhase inBlock s) _ (unless-zero 3 a (omega arith) (lower-left-zero (3 unless a) cw h));
-        fresh = not-true (again (s .ordered .block) x (s .ordered .lines)) (unless-zero 5 (not (again (s .ordered .block) x (s .ordered .lines))) (omega arith) (lower-left-zero (5 unless not (again (s .ordered .block) x (s .ordered .lines))) c6 h2));
+        first = not-true (again (s .ordered .block) x (s .ordered .lines)) (unless-zero 5 b (omega arith) (lower-left-zero (5 unless b) c6 h2));
         stood = unless-zero 6 (stands (s .declared) x) (omega arith) (lower-left-zero (6 unless stands (s .declared) x) c7 h3);
         room = and-right (leb (length ws) (length (s .ordered .rules))) _ (unless-zero 7 d (omega arith) (lower-left-zero (7 unless d) 0 h4));
         weights = lower-left-zero (weightsRefusal (s .declared) ws) c5 h1;

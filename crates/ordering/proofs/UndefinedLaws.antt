@@ -22,14 +22,14 @@ use Rattle.sheet.specs.Sheets.{Open, SomeOpen, StepIs}
 use Rattle.sheet.specs.Names.{operandsFrom}
 use Rattle.sheet.proofs.SheetLaws.{read-whole}
 use Rattle.ordering.specs.declared.Facts.{Facts}
-use Rattle.ordering.specs.Facts.{isAgain, undefinedFacts, AgainOf, OwnRefused, Ready, Lists}
+use Rattle.ordering.specs.Facts.{isAgain, undefinedFacts, AgainIs, OwnRefused, Ready, Lists}
 use Rattle.sheet.specs.Words.{WordLine}
 use Rattle.ordering.specs.Lines.{Reads}
 use Rattle.sheet.proofs.SheetLaws.{spot-behind}
 use Rattle.ordering.proofs.FactLaws.{undefined-are}
-use Rattle.ordering.proofs.AgainLaws.{again-of}
+use Rattle.ordering.proofs.AgainLaws.{again-is}
 use Rattle.ordering.proofs.RangeLaws.{Ranged, ranged-low, ranged-high, ranged-lower, ranged-unless, ranged-tokens, ranged-order, lower-left-zero, lower-right-zero}
-use Rattle.ordering.proofs.StepLaws.{rows-taken, line-taken, line-listed, Placed, placed-ready}
+use Rattle.ordering.proofs.StepLaws.{phase-of, line-taken, line-listed, Placed, placed-ready}
 use Rattle.store.specs.Store.{undefinedMark}
 
 -- the line of that word is an order line
@@ -43,14 +43,14 @@ nine = refl
 
 module _ (g : Signs) (src : List ℕ) (at : ℕ) (p : Spot) (e : LineEnd) (l : WordLine g src at p e (bytes "UNDEFINED")) (w : List ℕ) (sh : Sheet) (number m : ℕ)
     (mark : m ≡ undefinedMark (length src)) where
-  module _ (k : Facts) (f : k ≡ undefinedFacts w m) (second : Bool) (own : second ≡ isAgain w sh (At m)) (r : ℕ) (v : OwnRefused g src w sh p k second r) {y : ℕ} (b : y ≡ lower (2 unless e .text) r) where
-    again-undefined : AgainOf g src w sh undefined second
+  module _ (k : Facts) (f : k ≡ undefinedFacts w m) (again : Bool) (u : again ≡ isAgain w sh (At m)) (r : ℕ) (v : OwnRefused g src w sh p k again r) {y : ℕ} (b : y ≡ lower (2 unless e .text) r) where
+    second : AgainIs g src w sh undefined again
     unfolding markOf
-    again-undefined = again-of g src w sh undefined (At m) (λ o rs n cs ls h. ap At (sym mark)) second own
+    second = again-is g src w sh undefined (At m) again u (λ cs at s o. ap At (sym mark))
 
     refusal-is : (cs : List Chain) (s : State) → Open g src w sh cs at s
         → lower (2 unless e .text) (lower (tokensRefusal (operandsFrom g src p)) (orderLine s number undefined (operandsFrom g src p) .refusal)) ≡ y
-    refusal-is cs s o = sym (b ∙ ap (lower (2 unless e .text)) (v .is undefined (undefined-are g src w m k mark f) again-undefined cs at s number o))
+    refusal-is cs s o = sym (b ∙ ap (lower (2 unless e .text)) (v .is undefined (undefined-are g src w m k mark f) second cs at s number o))
 
     ranged : {depth : ℕ} → SomeOpen g src w sh at depth → Ranged y
     ranged so =
@@ -83,11 +83,12 @@ module _ (g : Signs) (src : List ℕ) (at : ℕ) (p : Spot) (e : LineEnd) (l : W
   -- ## The step
 
   module _ (depth : ℕ) (so : SomeOpen g src w sh at depth) (r : ℕ) (v : Reads g src w sh at number undefined p r) (z : r ≡ 0) where
-    there : (cs : List Chain) (s : State) → Open g src w sh cs at s → Placed g src w sh undefined (e .next) w m s
+    there : (cs : List Chain) (s : State) → Open g src w sh cs at s → Placed g src w sh undefined at (e .next) w m s
     unfolding markOf
     there cs s o =
         let y = line-taken v z cs s o in
-        let rows : o .n ≤ (at + 1) / 8 = rows-taken o (l .inside) (y .phase) in
+        let q = phase-of (s .place .phase) (sh .phase) (o .phase) (y .phase) in
+        let rows : o .n ≤ (at + 1) / 8 = rw (q .0, q .1) at (o .rows (l .inside)) in
         let on = l .line .on (l .inside) in
         record {
           n = o .n;
@@ -98,19 +99,20 @@ module _ (g : Signs) (src : List ℕ) (at : ℕ) (p : Spot) (e : LineEnd) (l : W
           long = refl;
           beyond = λ j a. refl;
           rows = λ a. omega (arith, rows, on);
-          places = λ j a. let b = o .places j a in omega (arith, b, on);
+          places = o .places;
           block = o .block;
         }
 
     pub undefined-ready : number ≤ at + 1 → Ready w sh m number (p .at)
     undefined-ready i =
+        let k = there (so .chains) (so .state) (so .held) in
         let a = so .short in
         let b = l .inside in
         let c = l .to in
-        placed-ready (there (so .chains) (so .state) (so .held)) (so .held) (line-taken v z (so .chains) (so .state) (so .held)) (p .at) (omega (arith, a, b, i)) (omega (arith, a, c))
+        placed-ready k (line-taken v z (so .chains) (so .state) (so .held)) (p .at) (omega (arith, a, b, i)) (omega (arith, a, c)) (so .held .few)
 
     pub undefined-listed : (w″ : List ℕ) (st : Step) → Lists w sh m number (p .at) e w″ st → StepIs g src w sh at number depth w″ st
     undefined-listed w″ st a =
         let c = l .long in
         let n = nine in
-        line-listed v z (l .line) (l .inside) there depth (p .at) w″ st (spot-behind p (l .plain) (l .edge)) (omega (arith, c, n)) (l .to) (omega (arith, c)) (l .reach) a
+        line-listed v z (l .line) (l .inside) there depth (p .at) (spot-behind p (l .plain) (l .edge)) (omega (arith, c)) (omega (arith, c, n)) (l .to) (l .reach) w″ st a

@@ -5,7 +5,7 @@ use mathlib.Core.List.{List}
 use Prim.Native.Nat.{ℕ, _+_, _-_, _*_, _/_, _≤_, _<_}
 use lib.ListN.{length}
 use lib.Dec.{eqb, leb}
-use Rattle.rules.specs.Text.{if_then_else_, lower}
+use Rattle.rules.specs.Text.{if_then_else_, oneOf, lower}
 use Rattle.rules.specs.Tokens.{operands, tokensRefusal}
 use Rattle.rules.specs.Meaning.{Rule}
 use Rattle.rules.specs.State.{inBlock, Declaration, Subject, OrderLine, Chain, State}
@@ -20,7 +20,7 @@ use Rattle.store.specs.declared.Found.the-variants.{At, Nothing}
 use Rattle.store.specs.Store.{Declares}
 use Rattle.subjects.specs.Keys.{keyAt}
 use Rattle.listed.specs.declared.Order.{Order}
-use Rattle.listed.specs.Listed.{charsNumber, placeNumber, Row, SomeLines, longer, withLine, Among, unlinked, shorter, withLineAfter, longerAfter}
+use Rattle.listed.specs.Listed.{charsNumber, placeNumber, Row, Backed, Lines, SomeLines, longer, withLine, shorter, unlinked, longerAfter, withLineAfter}
 use Rattle.known.specs.Known.{Known}
 use Rattle.known.proofs.RankLaws.{isOrdered}
 use Rattle.sheet.specs.declared.Block.{Block}
@@ -42,27 +42,23 @@ abbrev pub isBare : List ℕ → Found → Bool
 isBare w (At v) = eqb (cell w v charsNumber) 0
 isBare w Nothing = false
 
--- it is found, and its line is the named line of a block, or one of the block's own: those are written from the block's place on
+-- it is the block's named line, or one of its own lines: those are written from the block's place on
 abbrev pub isOwn : List ℕ → Block → Found → Bool
 isOwn w b (At v) = eqb v (b .named) || leb (b .from) (cell w v placeNumber)
 isOwn w b Nothing = false
 
--- it may have no line here: in a block that of the block's own and of its named line, else that of all lines
+-- its order line would be a second one: in a block beside the block's lines, else beside all
 abbrev pub isAgain : List ℕ → Sheet → Found → Bool
 isAgain w sh f = if eqb (sh .phase) inBlock then isOwn w (sh .block) f else isOrdered w f
 
 -- ## Facts
 
--- the lines of others, of so many, where the subject has a line or not
-abbrev pub othersOf : Bool → ℕ → ℕ
-othersOf ordered count = if ordered then count - 1 else count
-
 -- The facts are those of the subject x, with these declarations and order lines.
 pub record FactsIn (cs : List Declaration) (ls : List OrderLine) (x : Subject) (k : Facts) : Type 0 where
   pub symbol : isSymbol cs x ≡ k .symbol
   pub ordered : eqb (rankOf ls x) 0 ≡ not (k .ordered)
+  pub others : length (takenOut x ls) ≡ (if k .ordered then length ls - 1 else length ls)
   pub stands : stands cs x ≡ k .stands
-  pub others : length (takenOut x ls) ≡ othersOf (k .ordered) (length ls)
 
 -- They are, whatever the area is known to hold.
 pub record FactsOf (g : Signs) (src w : List ℕ) (x : Subject) (k : Facts) : Type 0 where
@@ -71,6 +67,10 @@ pub record FactsOf (g : Signs) (src w : List ℕ) (x : Subject) (k : Facts) : Ty
 -- those of UNDEFINED, whose mark is m: it stands, and it is no symbol
 abbrev pub undefinedFacts : List ℕ → ℕ → Facts
 undefinedFacts w m = record { symbol = false; ordered = isOrdered w (At m); stands = true }
+
+-- An order line of the subject x is a second one, or it is not, whatever state is held.
+pub record AgainIs (g : Signs) (src w : List ℕ) (sh : Sheet) (x : Subject) (b : Bool) : Type 0 where
+  pub is : (cs : List Chain) (at : ℕ) (s : State) → Open g src w sh cs at s → again (s .ordered .block) x (s .ordered .lines) ≡ b
 
 -- The area is known to hold something.
 pub record SomeKnown (g : Signs) (src w : List ℕ) : Type 0 where
@@ -81,15 +81,11 @@ pub record SomeKnown (g : Signs) (src w : List ℕ) : Type 0 where
   pub ordered : List OrderLine
   pub known : Known g src w order rules n declared ordered
 
--- Whether the subject x has its line here already, whatever state is held.
-pub record AgainOf (g : Signs) (src w : List ℕ) (sh : Sheet) (x : Subject) (b : Bool) : Type 0 where
-  pub is : (cs : List Chain) (at : ℕ) (s : State) → Open g src w sh cs at s → again (s .ordered .block) x (s .ordered .lines) ≡ b
-
 -- ## The refusal
 
 -- r is the refusal of an order line whose subject has these facts, with the operands after the spot p, whatever state is held.
 pub record OwnRefused (g : Signs) (src w : List ℕ) (sh : Sheet) (p : Spot) (k : Facts) (b : Bool) (r : ℕ) : Type 0 where
-  pub is : (x : Subject) → FactsOf g src w x k → AgainOf g src w sh x b → (cs : List Chain) (at : ℕ) (s : State) (number : ℕ) → Open g src w sh cs at s
+  pub is : (x : Subject) → FactsOf g src w x k → AgainIs g src w sh x b → (cs : List Chain) (at : ℕ) (s : State) (number : ℕ) → Open g src w sh cs at s
       → r ≡ lower (tokensRefusal (operands (tokensLeft g src p))) (orderLine s number x (operands (tokensLeft g src p)) .refusal)
 
 -- ## The row
@@ -101,45 +97,30 @@ RowIs g src w v w′ m Nothing = (m ≡ v) × Declares (keyAt g src) (length src
 
 -- ## The line
 
--- the area after a line, if the mark m has one, has left its place
-abbrev pub freedArea : List ℕ → ℕ → List ℕ
-freedArea w m = if eqb (cell w m placeNumber) 0 then w else unlinked w m
-
--- and the list
-abbrev pub freedOrder : List ℕ → Order → ℕ → Order
-freedOrder w o m = if eqb (cell w m placeNumber) 0 then o else shorter w o m
-
 -- the sheet with other order lines
 abbrev pub withOrder : Sheet → Order → Sheet
 withOrder sh o = record { phase = sh .phase; toggles = sh .toggles; rules = sh .rules; levels = sh .levels; order = o; block = sh .block }
 
--- the open block with the line of m as its last
-abbrev pub blockTo : Block → ℕ → Block
-blockTo b m = record { named = b .named; last = m; from = b .from }
-
--- the sheet with a line more in the open block
-abbrev pub withBlockLine : List ℕ → Sheet → ℕ → Sheet
-withBlockLine w sh m = record {
+-- and with that of the mark m as the open block's last
+abbrev pub withLast : Sheet → Order → ℕ → Sheet
+withLast sh o m = record {
   phase = sh .phase;
   toggles = sh .toggles;
   rules = sh .rules;
   levels = sh .levels;
-  order = longerAfter (freedArea w m) (freedOrder w (sh .order) m) (sh .block .last) m;
-  block = blockTo (sh .block) m;
+  order = o;
+  block = record { named = sh .block .named; last = m; from = sh .block .from };
 }
 
--- The line of the mark m, if it has one, can leave its place.
-pub record Leaving (w : List ℕ) (o : Order) (m : ℕ) : Type 0 where
-  pub row : Row w m
-  pub among : (cell w m placeNumber ≡ 0 → ⊥) → Among w o m
-
--- And it can come to stand after the last line of the block.
-pub record Coming (w : List ℕ) (sh : Sheet) (m : ℕ) : Type 0 where
-  pub leaving : Leaving w (sh .order) m
-  pub after : Among (freedArea w m) (freedOrder w (sh .order) m) (sh .block .last)
-  pub row : Row (freedArea w m) m
-  pub small-last : sh .block .last < 4294967296
-  pub few : freedOrder w (sh .order) m .count < 4294967296
+-- The line of the mark v can come to stand directly after that of a, which is another, and leave its place if it has one.
+pub record Behind (w : List ℕ) (o : Order) (a v : ℕ) : Type 0 where
+  pub marks : List ℕ
+  pub lines : Lines w o marks
+  pub backed : Backed w 0 marks
+  pub one : oneOf (eqb a) marks ≡ true
+  pub other : a ≡ v → ⊥
+  pub placed : isOrdered w (At v) ≡ true → oneOf (eqb v) marks ≡ true
+  pub small : a < 4294967296
 
 -- The row of the mark m can be given an order line.
 pub record Ready (w : List ℕ) (sh : Sheet) (m number place : ℕ) : Type 0 where
@@ -150,19 +131,25 @@ pub record Ready (w : List ℕ) (sh : Sheet) (m number place : ℕ) : Type 0 whe
   pub small-place : place < 4294967296
   pub few : sh .order .count < 4294967296
   pub small-last : sh .order .last < 4294967296
-  pub block : sh .phase ≡ inBlock → Coming w sh m
+  pub block : sh .phase ≡ inBlock → Behind w (sh .order) (sh .block .last) m
 
 -- The row of the mark m gets an order line at the end of the order, and the sheet a line more.
-pub record ListsLast (w : List ℕ) (sh : Sheet) (m number place : ℕ) (e : LineEnd) (w′ : List ℕ) (r : Step) : Type 0 where
+pub record LastIs (w : List ℕ) (sh : Sheet) (m number place : ℕ) (e : LineEnd) (w′ : List ℕ) (r : Step) : Type 0 where
   pub step : r ≡ Next (withOrder sh (longer (sh .order) m)) (e .next) (e .feeds)
   pub area : w′ ≡ withLine w (sh .order) m number place
 
--- It gets one after the last line of the open block, and leaves its old place.
-pub record ListsBlock (w : List ℕ) (sh : Sheet) (m number place : ℕ) (e : LineEnd) (w′ : List ℕ) (r : Step) : Type 0 where
-  pub step : r ≡ Next (withBlockLine w sh m) (e .next) (e .feeds)
-  pub area : w′ ≡ withLineAfter (freedArea w m) (sh .block .last) m number place
+-- It gets its first order line, as the open block's last.
+pub record NewIs (w : List ℕ) (sh : Sheet) (m number place : ℕ) (e : LineEnd) (w′ : List ℕ) (r : Step) : Type 0 where
+  pub step : r ≡ Next (withLast sh (longerAfter w (sh .order) (sh .block .last) m) m) (e .next) (e .feeds)
+  pub put : w′ ≡ withLineAfter w (sh .block .last) m number place
 
--- It gets one where the line stands.
-pub record Lists (w : List ℕ) (sh : Sheet) (m number place : ℕ) (e : LineEnd) (w′ : List ℕ) (r : Step) : Type 0 where
-  pub ordered : (sh .phase ≡ inBlock → ⊥) → ListsLast w sh m number place e w′ r
-  pub blocked : sh .phase ≡ inBlock → ListsBlock w sh m number place e w′ r
+-- Its order line leaves its place, and comes to stand as the open block's last.
+pub record MovedIs (w : List ℕ) (sh : Sheet) (m number place : ℕ) (e : LineEnd) (w′ : List ℕ) (r : Step) : Type 0 where
+  pub step : r ≡ Next (withLast sh (longerAfter (unlinked w m) (shorter w (sh .order) m) (sh .block .last) m) m) (e .next) (e .feeds)
+  pub moved : w′ ≡ withLineAfter (unlinked w m) (sh .block .last) m number place
+
+-- One of these.
+pub data Lists (w : List ℕ) (sh : Sheet) (m number place : ℕ) (e : LineEnd) (w′ : List ℕ) (r : Step) : Type 0 where
+  atEnd : (sh .phase ≡ inBlock → ⊥) → LastIs w sh m number place e w′ r → Lists w sh m number place e w′ r
+  firstly : sh .phase ≡ inBlock → isOrdered w (At m) ≡ false → NewIs w sh m number place e w′ r → Lists w sh m number place e w′ r
+  anew : sh .phase ≡ inBlock → isOrdered w (At m) ≡ true → MovedIs w sh m number place e w′ r → Lists w sh m number place e w′ r

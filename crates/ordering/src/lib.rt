@@ -1,11 +1,11 @@
-// An order line: what is told of its subject, its refusal, and the line that it adds to the order.
+// An order line: what is told of its subject, its refusal, and where it comes to stand, in the order or in a block.
 ghost use mathlib.Core.Path.{_≡_};
 ghost use mathlib.Core.Bool.{true, false, not, _&&_, _||_};
 ghost use mathlib.Core.List.{[], _∷_};
-ghost use Prim.Native.Nat.{_+_, _*_, _/_, _≤_, _<_};
+ghost use Prim.Native.Nat.{_+_, _-_, _*_, _/_, _≤_, _<_};
 ghost use lib.ListN.{length};
 ghost use lib.Dec.{eqb, leb, ltb};
-ghost use Rattle.rules.specs.Text.{_unless_, bytes, lowest};
+ghost use Rattle.rules.specs.Text.{if_then_else_, _unless_, bytes, lowest};
 ghost use Rattle.rules.specs.Lines.{outside};
 ghost use Rattle.rules.specs.Tokens.{operands};
 ghost use Rattle.rules.specs.State.{inOrder, inBlock, undefined};
@@ -16,7 +16,7 @@ ghost use Rattle.store.specs.Store.{undefinedMark, Finds, Roomy};
 ghost use Rattle.known.proofs.RankLaws.{isOrdered};
 ghost use Rattle.sheet.specs.Names.{subjectIn, NameLine};
 ghost use Rattle.sheet.specs.Sheets.{SomeOpen, StepIs};
-ghost use Rattle.ordering.specs.Facts.{Rowed, isBare, isOwn, isAgain, othersOf, FactsOf, undefinedFacts, SomeKnown, OwnRefused, RowIs, freedArea, freedOrder, Leaving, Coming, Ready, ListsLast, ListsBlock, Lists};
+ghost use Rattle.ordering.specs.Facts.{Rowed, isBare, isOwn, isAgain, FactsOf, undefinedFacts, SomeKnown, OwnRefused, RowIs, withLast, Ready, LastIs, NewIs, MovedIs, Lists};
 ghost use Rattle.sheet.specs.Words.{WordLine};
 ghost use Rattle.ordering.specs.Lines.{Reads};
 use lines::LineEnd;
@@ -81,7 +81,7 @@ fn is_listed(work: &[u32], f: Found) -> bool
     }
 }
 
-// Whether something is found whose line is the named line of a block, or one of the block's own.
+// Whether what is found is a block's named line, or one of its own lines: those are written from the block's place on.
 fn is_own(work: &[u32], b: Block, f: Found) -> bool
     requires { ⌜ Rowed (now work) f ⌝ }
     ensures { λ r. ⌜ r ≡ isOwn (now (work .entry)) b f ⌝ }
@@ -101,7 +101,7 @@ fn is_own(work: &[u32], b: Block, f: Found) -> bool
     }
 }
 
-// Whether something is found that may have no line here: it has one, or, in a block, one of the block.
+// Whether an order line of what is found would be a second one: in a block beside the block's own lines and its named line, else beside all lines.
 fn is_again(work: &[u32], sh: Sheet, f: Found) -> bool
     requires { ⌜ Rowed (now work) f ⌝ }
     ensures { λ r. ⌜ r ≡ isAgain (now (work .entry)) sh f ⌝ }
@@ -141,17 +141,14 @@ fn name_facts(src: &[u8], g: Signs, work: &[u32], p: Spot, f: Found) -> Facts
     }
 }
 
-// Whether order lines stand in this phase: in the order, or in a block.
+// Whether order lines stand in this phase: in the order or in a block.
 fn takes_lines(phase: u8) -> bool
     ensures { λ r. ⌜ r ≡ (eqb phase inOrder || eqb phase inBlock) ⌝ }
 {
     if phase == 4 {
         return true;
     }
-    if phase == 6 {
-        return true;
-    }
-    false
+    phase == 6
 }
 
 // Whether a line stands in the order or in a block, and has no operands if it is that of a symbol.
@@ -169,29 +166,29 @@ fn is_formed(src: &[u8], g: Signs, phase: u8, p: Spot, symbol: bool) -> bool
     false
 }
 
-// How many lines of others there are, of so many, where the subject has a line or not.
-fn others(ordered: bool, count: usize) -> usize
-    ensures { λ r. ⌜ r ≡ othersOf ordered count ⌝ }
+// Whether a line more finds room beside count lines, where that of its subject, if it has one, leaves its place.
+fn has_room(ordered: bool, count: usize) -> bool
+    ensures { λ r. ⌜ r ≡ ltb (if ordered then count - 1 else count) 32767 ⌝ }
 {
     if ordered {
-        if count == 0 {
-            return 0;
+        if count < 32768 {
+            return true;
         }
-        return count - 1;
+        return false;
     }
-    count
+    count < 32767
 }
 
 // The refusal of a second order line, of a subject that does not stand, and of a line that finds no room.
-fn late_refusal(again: bool, stands: bool, operands: usize, levels: usize, count: usize) -> u8
-    ensures { λ r. ⌜ r ≡ lowest (5 unless not again ∷ 6 unless stands ∷ 7 unless (leb operands levels && ltb count 32767) ∷ []) ⌝ }
+fn late_refusal(again: bool, stands: bool, operands: usize, levels: usize, room: bool) -> u8
+    ensures { λ r. ⌜ r ≡ lowest (5 unless not again ∷ 6 unless stands ∷ 7 unless (leb operands levels && room) ∷ []) ⌝ }
 {
     if again {
         return 5;
     }
     if stands {
         if operands <= levels {
-            if count < 32767 {
+            if room {
                 return 0;
             }
             return 7;
@@ -201,7 +198,7 @@ fn late_refusal(again: bool, stands: bool, operands: usize, levels: usize, count
     6
 }
 
-// The refusal of an order line whose subject has these facts, and has its line here already or not, and of its operands, which follow the spot p.
+// The refusal of an order line whose subject has these facts, again if it is a second one, and of its operands, which follow the spot p.
 fn own_refusal(src: &[u8], g: Signs, work: &[u32], sh: Sheet, p: Spot, k: Facts, again: bool) -> u8
     requires { ⌜ (p .at ≤ length (now src)) × (p .mode ≡ outside) ⌝ }
     requires { ⌜ SomeKnown g (now src) (now work) ⌝ }
@@ -214,8 +211,8 @@ fn own_refusal(src: &[u8], g: Signs, work: &[u32], sh: Sheet, p: Spot, k: Facts,
         if f == 3 {
             return 3;
         }
-        let n = others(k.ordered, sh.order.count);
-        let d = late_refusal(again, k.stands, c.operands, sh.levels, n);
+        let room = has_room(k.ordered, sh.order.count);
+        let d = late_refusal(again, k.stands, c.operands, sh.levels, room);
         return lower_of(f, d);
     }
     3
@@ -238,7 +235,7 @@ fn row_for(src: &[u8], g: Signs, work: &mut [u32], v: usize, f: Found) -> usize
 // An order line more at the end of the order, for the row of a mark: its number, and the place after its subject.
 fn list_last(work: &mut [u32], sh: Sheet, m: usize, number: usize, place: usize, e: LineEnd) -> Step
     requires { ⌜ Ready (now work) sh m number place ⌝ }
-    ensures { λ r. ⌜ ListsLast (now (work .entry)) sh m number place e (now (work .exit)) r ⌝ }
+    ensures { λ r. ⌜ LastIs (now (work .entry)) sh m number place e (now (work .exit)) r ⌝ }
 {
     let o = add_line(work, sh.order, m, number, place);
     let b = sh.block;
@@ -256,19 +253,36 @@ fn list_last(work: &mut [u32], sh: Sheet, m: usize, number: usize, place: usize,
     )
 }
 
-// The line of a mark, if it has one, leaves its place.
-fn leave(work: &mut [u32], o: Order, m: usize) -> Order
-    requires { ⌜ Leaving (now work) o m ⌝ }
-    ensures { λ r. ⌜ (r ≡ freedOrder (now (work .entry)) o m) × (now (work .exit) ≡ freedArea (now (work .entry)) m) ⌝ }
+// The sheet with other order lines, of which that of the mark m is the last one of the open block: the next one comes to stand after it.
+fn with_last(sh: Sheet, o: Order, m: usize) -> Sheet
+    ensures { λ r. ⌜ r ≡ withLast sh o m ⌝ }
 {
-    if told(work, m, 2) == 0 {
-        return o;
+    Sheet {
+        phase: sh.phase,
+        toggles: sh.toggles,
+        rules: sh.rules,
+        levels: sh.levels,
+        order: o,
+        block: Block {
+            named: sh.block.named,
+            last: m,
+            from: sh.block.from,
+        },
     }
-    take_out(work, o, m)
 }
 
-// An order line after the last one of the open block, for the row of a mark, which leaves its old place.
-fn list_in_block(
+// An order line in a block, for the row of a mark that has none yet.
+fn list_new(work: &mut [u32], sh: Sheet, m: usize, number: usize, place: usize, e: LineEnd) -> Step
+    requires { ⌜ Ready (now work) sh m number place × (sh .phase ≡ inBlock) ⌝ }
+    ensures { λ r. ⌜ NewIs (now (work .entry)) sh m number place e (now (work .exit)) r ⌝ }
+{
+    let o = put_after(work, sh.order, sh.block.last, m, number, place);
+    let s = with_last(sh, o, m);
+    Step::Next(s, e.next, e.feeds)
+}
+
+// An order line in a block, for the row of a mark whose line leaves its old place.
+fn list_moved(
     work: &mut [u32],
     sh: Sheet,
     m: usize,
@@ -276,37 +290,26 @@ fn list_in_block(
     place: usize,
     e: LineEnd,
 ) -> Step
-    requires { ⌜ Coming (now work) sh m × (m < 4294967296) × (number < 4294967296) × (place < 4294967296) ⌝ }
-    ensures { λ r. ⌜ ListsBlock (now (work .entry)) sh m number place e (now (work .exit)) r ⌝ }
+    requires { ⌜ Ready (now work) sh m number place × (sh .phase ≡ inBlock) × (isOrdered (now work) (At m) ≡ true) ⌝ }
+    ensures { λ r. ⌜ MovedIs (now (work .entry)) sh m number place e (now (work .exit)) r ⌝ }
 {
-    let o = leave(work, sh.order, m);
-    let q = put_after(work, o, sh.block.last, m, number, place);
-    let b = Block {
-        named: sh.block.named,
-        last: m,
-        from: sh.block.from,
-    };
-    Step::Next(
-        Sheet {
-            phase: sh.phase,
-            toggles: sh.toggles,
-            rules: sh.rules,
-            levels: sh.levels,
-            order: q,
-            block: b,
-        },
-        e.next,
-        e.feeds,
-    )
+    let left = take_out(work, sh.order, m);
+    let o = put_after(work, left, sh.block.last, m, number, place);
+    let s = with_last(sh, o, m);
+    Step::Next(s, e.next, e.feeds)
 }
 
-// An order line, for the row of a mark: its number, and the place after its subject.
+// An order line, for the row of a mark: at the end of the order, or as the last one of the open block.
 fn list_line(work: &mut [u32], sh: Sheet, m: usize, number: usize, place: usize, e: LineEnd) -> Step
     requires { ⌜ Ready (now work) sh m number place ⌝ }
     ensures { λ r. ⌜ Lists (now (work .entry)) sh m number place e (now (work .exit)) r ⌝ }
 {
     if sh.phase == 6 {
-        return list_in_block(work, sh, m, number, place, e);
+        let moved = is_listed(work, Found::At(m));
+        if moved {
+            return list_moved(work, sh, m, number, place, e);
+        }
+        return list_new(work, sh, m, number, place, e);
     }
     list_last(work, sh, m, number, place, e)
 }
@@ -330,8 +333,8 @@ fn name_refusal(
     ensures { λ r. ⌜ Reads g (now (src .entry)) (now (work .entry)) sh at number (subjectIn g (now (src .entry)) t) (t .next) r ⌝ }
 {
     let k = name_facts(src, g, work, t.inside, f);
-    let a = is_again(work, sh, f);
-    let o = own_refusal(src, g, work, sh, t.next, k, a);
+    let again = is_again(work, sh, f);
+    let o = own_refusal(src, g, work, sh, t.next, k, again);
     let l = lower_of(t.refusal, o);
     refusal_with(e.text, l)
 }
@@ -392,8 +395,8 @@ fn undefined_refusal(
     ensures { λ r. ⌜ Reads g (now (src .entry)) (now (work .entry)) sh at number undefined p r ⌝ }
 {
     let k = undefined_facts(work, m);
-    let a = is_again(work, sh, Found::At(m));
-    let o = own_refusal(src, g, work, sh, p, k, a);
+    let again = is_again(work, sh, Found::At(m));
+    let o = own_refusal(src, g, work, sh, p, k, again);
     refusal_with(e.text, o)
 }
 

@@ -1,8 +1,8 @@
 -- Line after line outside LC_COLLATE: the turns of the loop over them.
-use mathlib.Core.Path.{_≡_, refl, ap, _∙_, subst}
-use mathlib.Core.Bool.{Bool}
+use mathlib.Core.Path.{_≡_, refl, sym, ap, _∙_, subst}
+use mathlib.Core.Bool.{Bool, true, false, true≢false}
 use mathlib.Core.List.{List}
-use Prim.Native.Nat.{ℕ, _+_, _-_, _≤_, _<_}
+use Prim.Native.Nat.{ℕ, _≤_}
 use native.Mathlib.Omega.{arith}
 use lib.ListN.{length, drop}
 use Rattle.rules.specs.State.{State}
@@ -10,12 +10,16 @@ use Rattle.rules.specs.Source.{linesFrom}
 use Rattle.rules.proofs.RunLaws.{run-end}
 use Rattle.signs.specs.declared.Chars.{Chars}
 use Rattle.taken.specs.Signed.{Visible}
-use Rattle.outer.specs.Outside.{signsOf, Stands}
+use Rattle.outer.specs.Outside.{signsOf}
+use Rattle.reader.specs.Turns.{Turns}
 use Rattle.skips.specs.Passing.{Begins}
 use Rattle.skips.proofs.LineRuns.{refuses-from}
 use Rattle.outers.specs.declared.Turn.{Turn}
 use Rattle.outers.specs.declared.Turn.the-variants as turn
-use Rattle.outers.specs.Stretches.{Keeps, collatedBy, Reaches, GoesOn, Opens, Fails, TurnIs, EndsAll}
+use Rattle.outers.specs.declared.Outers.{Outers}
+use Rattle.outers.specs.declared.Outers.the-variants as outers
+use Rattle.outers.specs.declared.Stretch.{Stretch}
+use Rattle.outers.specs.Stretches.{Keeps, collatedBy, GoesOn, Opens, Fails, TurnIs, EndsAll, OutersIs, Outside, StretchStands, stretchReading}
 
 -- ## One stretch after the other
 
@@ -29,17 +33,9 @@ keeps-then v w = record { blocks = w .blocks ∙ v .blocks; declared = w .declar
 collated-kept : (c : Chars) {s t : State} → Keeps s t → collatedBy c t ≡ collatedBy c s
 collated-kept c v = rw (v .blocks, v .declared, v .ordered)
 
--- ## The loop
+-- ## From one place to the next
 
--- From the place `at` to i only lines outside LC_COLLATE are read.
-pub record Outside (h : Chars) (before collated : Bool) (src : List ℕ) (at number : ℕ) (c : Chars) (first : Bool) (i n : ℕ) : Type 0 where
-  pub reaches : (s : State) → Stands h before collated s → Reaches s src at number collated c first i n
-  pub visible : Visible (signsOf c)
-  pub from : at ≤ i
-  pub to : i ≤ length src
-  pub few : n ≤ i + 1
-
-pub outside-none : (h : Chars) (before collated : Bool) (src : List ℕ) (at number : ℕ) → Begins src at number → Visible (signsOf h)
+outside-none : (h : Chars) (before collated : Bool) (src : List ℕ) (at number : ℕ) → Begins src at number → Visible (signsOf h)
     → Outside h before collated src at number h before at number
 outside-none h before collated src at number b v =
     record {
@@ -52,7 +48,7 @@ outside-none h before collated src at number b v =
 
 module _ {h : Chars} {before collated : Bool} {src : List ℕ} {at number : ℕ} {c : Chars} {first : Bool} {i n : ℕ}
     (v : Outside h before collated src at number c first i n) where
-  pub outside-end : length src ≤ i → EndsAll h before collated src at number c first n
+  outside-end : length src ≤ i → EndsAll h before collated src at number c first n
   outside-end l =
       record {
         ends = λ s u.
@@ -67,10 +63,7 @@ module _ {h : Chars} {before collated : Bool} {src : List ℕ} {at number : ℕ}
       on : GoesOn c first collated src i n d still next m
       on = subst (TurnIs c first collated src i n) e w
 
-      pub outside-less : i < length src → length src - next < length src - i
-      outside-less l = omega (arith, on .from, on .to)
-
-      pub outside-more : Outside h before collated src at number d still next m
+      outside-more : Outside h before collated src at number d still next m
       outside-more =
           record {
             reaches = λ s u.
@@ -83,7 +76,7 @@ module _ {h : Chars} {before collated : Bool} {src : List ℕ} {at number : ℕ}
             few = on .few;
           }
 
-    pub outside-collate : {d : Chars} {next m : ℕ} → t ≡ turn.Collate d next m → Opens h before collated src at number d next m
+    outside-collate : {d : Chars} {next m : ℕ} → t ≡ turn.Collate d next m → Opens h before collated src at number d next m
     outside-collate {d} {next} {m} e =
         let o : Opens c first collated src i n d next m = subst (TurnIs c first collated src i n) e w in
         record {
@@ -98,10 +91,61 @@ module _ {h : Chars} {before collated : Bool} {src : List ℕ} {at number : ℕ}
           few = o .few;
         }
 
-    pub outside-refused : {r l : ℕ} → t ≡ turn.Refused r l → Fails h before collated src at number r l
+    outside-refused : {r l : ℕ} → t ≡ turn.Refused r l → Fails h before collated src at number r l
     outside-refused {r} {l} e =
         let o : Fails c first collated src i n r l = subst (TurnIs c first collated src i n) e w in
         record {
           run = λ s u. let q = v .reaches s u in refuses-from (q .run) (o .run (q .state) (q .stands));
           kinds = o .kinds;
         }
+
+-- ## The reading of the lines
+
+-- the state that it begins with
+abbrev begun : Chars → Bool → Bool → ℕ → ℕ → Stretch
+begun h before collated at number = record { over = false; next = at; number = number; answer = outers.End h before number; chars = h; before = before; collated = collated }
+
+pub reading-begins : {h : Chars} {before collated : Bool} {src : List ℕ} {at number : ℕ} → Begins src at number → Visible (signsOf h)
+    → StretchStands src (begun h before collated at number) (begun h before collated at number) at number
+reading-begins {h} {before} {collated} {src} {at} {number} b v = record { collated = refl; answer = refl; passed = outside-none h before collated src at number b v }
+
+-- an answer by whether LC_COLLATE has stood for t is one by whether it has for s
+answer-at : (src : List ℕ) (s t : Stretch) (k : Outers) → t .collated ≡ s .collated
+    → OutersIs (s .chars) (s .before) (t .collated) src (s .next) (s .number) k → OutersIs (s .chars) (s .before) (s .collated) src (s .next) (s .number) k
+answer-at src s t k e h = subst (λ (x : Bool). OutersIs (s .chars) (s .before) x src (s .next) (s .number) k) e h
+
+module _ {src : List ℕ} {s t : Stretch} {i n : ℕ} (v : StretchStands src s t i n) where
+  pub reading-used : length src ≤ i → OutersIs (s .chars) (s .before) (s .collated) src (s .next) (s .number) (t .answer)
+  reading-used h =
+      answer-at src s t (t .answer) (v .collated)
+      (subst (OutersIs (s .chars) (s .before) (t .collated) src (s .next) (s .number)) (sym (v .answer)) (outside-end (v .passed) h))
+
+-- what the line at a place does to it
+module _ {src : List ℕ} {t : Stretch} {at number : ℕ} {k : Turn} (w : TurnIs (t .chars) (t .before) (t .collated) src at number k) where
+  pub reading-on : {d : Chars} {still : Bool} {next m : ℕ} → k ≡ turn.On d still next m
+      → Turns stretchReading src t at number (record { over = false; next = next; number = m; answer = outers.End d still m; chars = d; before = still; collated = t .collated })
+  reading-on {d} {still} {next} {m} e =
+      let on : GoesOn (t .chars) (t .before) (t .collated) src at number d still next m = subst (TurnIs (t .chars) (t .before) (t .collated) src at number) e w in
+      record {
+        further = λ f. on .from;
+        goes = λ f s v. record { collated = v .collated; answer = refl; passed = outside-more (v .passed) w e };
+        stops = λ f. absurd (true≢false (sym f));
+      }
+
+  pub reading-collate : {d : Chars} {next m : ℕ} → k ≡ turn.Collate d next m
+      → Turns stretchReading src t at number (record { over = true; next = next; number = m; answer = outers.Collate d next m; chars = d; before = t .before; collated = t .collated })
+  reading-collate {d} {next} {m} e =
+      record {
+        further = λ f. absurd (true≢false f);
+        goes = λ f. absurd (true≢false f);
+        stops = λ f s v. answer-at src s t (outers.Collate d next m) (v .collated) (outside-collate (v .passed) w e);
+      }
+
+  pub reading-refused : {r l : ℕ} → k ≡ turn.Refused r l
+      → Turns stretchReading src t at number (record { over = true; next = at; number = number; answer = outers.Refused r l; chars = t .chars; before = t .before; collated = t .collated })
+  reading-refused {r} {l} e =
+      record {
+        further = λ f. absurd (true≢false f);
+        goes = λ f. absurd (true≢false f);
+        stops = λ f s v. answer-at src s t (outers.Refused r l) (v .collated) (outside-refused (v .passed) w e);
+      }

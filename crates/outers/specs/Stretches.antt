@@ -12,11 +12,13 @@ use Rattle.signs.specs.declared.Chars.{Chars}
 use Rattle.signs.specs.Force.{charsAs}
 use Rattle.taken.specs.Signed.{Visible}
 use Rattle.outer.specs.Outside.{signsOf, Stands}
+use Rattle.reader.specs.Turns.{Reading}
 use Rattle.skips.specs.Passing.{Refuses}
 use Rattle.outers.specs.declared.Turn.{Turn}
 use Rattle.outers.specs.declared.Turn.the-variants as turn
 use Rattle.outers.specs.declared.Outers.{Outers}
 use Rattle.outers.specs.declared.Outers.the-variants as outers
+use Rattle.outers.specs.declared.Stretch.{Stretch}
 
 -- ## The states
 
@@ -94,3 +96,28 @@ abbrev pub OutersIs : Chars → Bool → Bool → List ℕ → ℕ → ℕ → O
 OutersIs h before collated src at number (outers.Collate c next n) = Opens h before collated src at number c next n
 OutersIs h before collated src at number (outers.End c first n) = EndsAll h before collated src at number c first n
 OutersIs h before collated src at number (outers.Refused r l) = Fails h before collated src at number r l
+
+-- ## Line after line
+
+-- From the place `at` to i only lines outside LC_COLLATE are read.
+pub record Outside (h : Chars) (before collated : Bool) (src : List ℕ) (at number : ℕ) (c : Chars) (first : Bool) (i n : ℕ) : Type 0 where
+  pub reaches : (s : State) → Stands h before collated s → Reaches s src at number collated c first i n
+  pub visible : Visible (signsOf c)
+  pub from : at ≤ i
+  pub to : i ≤ length src
+  pub few : n ≤ i + 1
+
+-- A reading that began with the state s has come to a place with the state t, and the source may end there.
+pub record StretchStands (src : List ℕ) (s t : Stretch) (i n : ℕ) : Type 0 where
+  pub collated : t .collated ≡ s .collated
+  pub answer : t .answer ≡ outers.End (t .chars) (t .before) n
+  pub passed : Outside (s .chars) (s .before) (t .collated) src (s .next) (s .number) (t .chars) (t .before) i n
+
+abbrev pub stretchReading : Reading Stretch
+stretchReading = record {
+  over = λ t. t .over;
+  next = λ t. t .next;
+  number = λ t. t .number;
+  Stands = StretchStands;
+  Says = λ src s t. OutersIs (s .chars) (s .before) (s .collated) src (s .next) (s .number) (t .answer);
+}

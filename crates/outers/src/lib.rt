@@ -3,11 +3,14 @@ ghost use Prim.Native.Nat.{_≤_, _<_, _+_};
 ghost use lib.ListN.{length};
 ghost use Rattle.taken.specs.Signed.{Visible};
 ghost use Rattle.outer.specs.Outside.{signsOf};
+ghost use Rattle.reader.specs.Turns.{AtLine, Turns};
 ghost use Rattle.skips.specs.Passing.{Begins};
-ghost use Rattle.outers.specs.Stretches.{TurnIs, OutersIs};
+ghost use Rattle.outers.specs.Stretches.{TurnIs, OutersIs, StretchStands, stretchReading};
 use lines::Signs;
 use outer::Outer;
 use outer::outer_line;
+use reader::reader_at;
+use reader::used_up;
 use signs::Chars;
 use skips::Skip;
 use skips::skip_category;
@@ -61,6 +64,83 @@ fn outer_turn(src: &[u8], h: Chars, before: bool, collated: bool, at: usize, num
     }
 }
 
+// How far the lines are read. As in every state of a loop that holds a reader (crates/reader), the first three fields are whether the loop is over,
+// and the place and the number of the line that comes next.
+struct Stretch {
+    over: bool,
+    next: usize,
+    number: usize,
+    // what is answered if it is over, or no line comes next
+    answer: Outers,
+    // the two characters, whether no category has stood, and whether LC_COLLATE has
+    chars: Chars,
+    before: bool,
+    collated: bool,
+}
+
+// The line at a place, which comes next, and all lines of the category that it opens, if that is not LC_COLLATE.
+fn outer_stretch(src: &[u8], s: Stretch, at: usize, number: usize) -> Stretch
+    requires { ⌜ AtLine stretchReading (now src) s at number ⌝ }
+    ensures { λ r. ⌜ Turns stretchReading (now (src .entry)) s at number r ⌝ }
+{
+    let c = s.chars;
+    let before = s.before;
+    let collated = s.collated;
+    let t = outer_turn(src, c, before, collated, at, number);
+    match t {
+        Turn::On(d, still, next, n) => {
+            return Stretch {
+                over: false,
+                next: next,
+                number: n,
+                answer: Outers::End(d, still, n),
+                chars: d,
+                before: still,
+                collated: collated,
+            };
+        }
+        Turn::Collate(d, next, n) => {
+            return Stretch {
+                over: true,
+                next: next,
+                number: n,
+                answer: Outers::Collate(d, next, n),
+                chars: d,
+                before: before,
+                collated: collated,
+            };
+        }
+        Turn::Refused(r, l) => {
+            return Stretch {
+                over: true,
+                next: at,
+                number: number,
+                answer: Outers::Refused(r, l),
+                chars: c,
+                before: before,
+                collated: collated,
+            };
+        }
+    }
+}
+
+// The lines that come next, up to the one that opens LC_COLLATE or is refused, or to the end of the source.
+fn outer_stretches(src: &[u8], s: Stretch) -> Stretch
+    requires { ⌜ StretchStands (now src) s s (s .next) (s .number) ⌝ }
+    ensures { λ r. ⌜ OutersIs (s .chars) (s .before) (s .collated) (now (src .entry)) (s .next) (s .number) (r .answer) ⌝ }
+{
+    let mut t = s;
+    let mut q = reader_at(src, t.next, t.number);
+    while !used_up(q) {
+        t = outer_stretch(q.src, t, q.at, q.number);
+        if t.over {
+            return t;
+        }
+        q = reader_at(q.src, t.next, t.number);
+    }
+    t
+}
+
 // The lines from a place on, with two characters in force that are no blanks; whether no category stands before them, and whether LC_COLLATE
 // does.
 pub fn outer_lines(
@@ -74,22 +154,15 @@ pub fn outer_lines(
     requires { ⌜ Begins (now src) at number × Visible (signsOf h) ⌝ }
     ensures { λ r. ⌜ OutersIs h before collated (now (src .entry)) at number r ⌝ }
 {
-    let mut c = h;
-    let mut first = before;
-    let mut i = at;
-    let mut n = number;
-    while i < src.len() {
-        let t = outer_turn(src, c, first, collated, i, n);
-        match t {
-            Turn::On(d, still, next, m) => {
-                c = d;
-                first = still;
-                i = next;
-                n = m;
-            }
-            Turn::Collate(d, next, m) => return Outers::Collate(d, next, m),
-            Turn::Refused(r, l) => return Outers::Refused(r, l),
-        }
-    }
-    Outers::End(c, first, n)
+    let s = Stretch {
+        over: false,
+        next: at,
+        number: number,
+        answer: Outers::End(h, before, number),
+        chars: h,
+        before: before,
+        collated: collated,
+    };
+    let t = outer_stretches(src, s);
+    t.answer
 }

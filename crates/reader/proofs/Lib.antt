@@ -1,1 +1,5 @@
 pub mod Owned
+mod LentArea
+pub mod Held
+pub mod LineLoop
+pub mod LentLoop

@@ -1,6 +1,6 @@
 -- The lines of an unused branch: what each kind of line does there, and the turns of the loop over them.
 use mathlib.Core.Path.{_≡_, refl, sym, ap, _∙_, subst}
-use mathlib.Core.Bool.{Bool, true, false, and-false, or-true}
+use mathlib.Core.Bool.{Bool, true, false, and-false, or-true, true≢false}
 use mathlib.Core.List.{List, [], _∷_}
 use Prim.Native.Nat.{ℕ, suc, pred, _+_, _-_, _≤_, _<_}
 use native.Mathlib.Omega.{arith}
@@ -16,12 +16,15 @@ use Rattle.rules.specs.Source.{signs, otherLine, unusedLine, wholeLine, lineOut
 use Rattle.lines.specs.declared.Signs.{Signs}
 use Rattle.lines.specs.declared.LineEnd.{LineEnd}
 use Rattle.lines.specs.Stream.{plainSigns, lineStart, marksLeft, LineIs}
+use Rattle.reader.specs.Turns.{Turns}
 use Rattle.passed.specs.Words.{firstWord}
 use Rattle.skips.specs.declared.Kind.{Kind}
 use Rattle.skips.specs.declared.Kind.the-variants as kind
 use Rattle.skips.specs.declared.Turn.{Turn}
 use Rattle.skips.specs.declared.Turn.the-variants as turn
-use Rattle.skips.specs.Passing.{Unused, Begins, opens, branches, turns, KindIs, opened, TurnOn, TurnOwn, TurnDeep, TurnIs, BranchStops, BranchRefused}
+use Rattle.skips.specs.declared.Branch.{Branch}
+use Rattle.skips.specs.declared.Skip.the-variants as skip
+use Rattle.skips.specs.Passing.{Unused, Begins, opens, branches, turns, KindIs, opened, TurnOn, TurnOwn, TurnDeep, TurnIs, BranchStops, BranchRefused, BranchIs, InBranch, BranchStands, branchReading}
 use Rattle.skips.proofs.LineRuns.{collate-signs, run-passed, run-refuses, run-unended, refuses-from}
 
 -- ## States in an unused branch
@@ -212,14 +215,6 @@ total-some depth total d h = omega arith
 
 -- ## Line after line
 
--- From the place `at` to i only lines of the branch are passed over.
-pub record InBranch (g : Signs) (src : List ℕ) (at number depth i n total : ℕ) : Type 0 where
-  pub from : at ≤ i
-  pub to : i ≤ length src
-  pub few : n ≤ i + 1
-  pub deep : depth ≤ total
-  pub run : (s : State) → Unused g depth s → linesFrom s number 0 (drop at src) ≡ linesFrom (opened depth total s) n 0 (drop i src)
-
 pub branch-begins : (g : Signs) (src : List ℕ) (at number depth : ℕ) → Begins src at number → InBranch g src at number depth at number depth
 branch-begins g src at number depth h =
     record {
@@ -272,3 +267,49 @@ module _ {g : Signs} {src : List ℕ} {at number depth i n total : ℕ} (v : InB
           run = λ s u. v .run s u
               ∙ run-passed g src i n (opened depth total s) (opened-signs g depth total s u) (opened depth o s) x h l (p .outcome s u n);
         }
+
+-- ## The reading of a branch
+
+-- the state that it begins with
+abbrev begun : Signs → ℕ → ℕ → ℕ → Branch
+begun g at number depth = record { over = false; next = at; number = number; total = depth; answer = skip.Refused 3 number; depth = depth; signs = g }
+
+pub reading-begins : {g : Signs} {src : List ℕ} {at number depth : ℕ} → Begins src at number
+    → BranchStands src (begun g at number depth) (begun g at number depth) at number
+reading-begins {g} {src} {at} {number} {depth} b = record { signs = refl; depth = refl; answer = refl; passed = branch-begins g src at number depth b }
+
+module _ {src : List ℕ} {s t : Branch} {i n : ℕ} (v : BranchStands src s t i n) where
+  -- what a line is to the characters and the chains of t, it is to those of s
+  same-turn : (k : Turn) → TurnIs (t .signs) src i (t .depth) (t .total) k → TurnIs (s .signs) src i (s .depth) (t .total) k
+  same-turn k w = subst (λ (x : Signs). TurnIs x src i (s .depth) (t .total) k) (v .signs) (subst (λ (x : ℕ). TurnIs (t .signs) src i x (t .total) k) (v .depth) w)
+
+  same-line : {x : LineEnd} → LineIs (t .signs) src (lineStart i) x → LineIs (s .signs) src (lineStart i) x
+  same-line {x} l = subst (λ (g : Signs). LineIs g src (lineStart i) x) (v .signs) l
+
+  pub reading-used : length src ≤ i → BranchIs (s .signs) src (s .next) (s .number) (s .depth) (t .answer)
+  reading-used h = subst (BranchIs (s .signs) src (s .next) (s .number) (s .depth)) (sym (v .answer)) (branch-end (v .passed) h)
+
+  pub reading-chains : t .depth ≤ t .total
+  reading-chains = subst (λ (x : ℕ). x ≤ t .total) (sym (v .depth)) (v .passed .deep)
+
+-- what the line at a place does to it
+module _ {src : List ℕ} {t : Branch} {at number : ℕ} (h : at < length src) {k : Turn} (w : TurnIs (t .signs) src at (t .depth) (t .total) k) where
+  pub reading-own : k ≡ turn.Own
+      → Turns branchReading src t at number (record { over = true; next = at; number = number; total = t .total; answer = skip.Stop at number; depth = t .depth; signs = t .signs })
+  reading-own e =
+      record { further = λ f. absurd (true≢false f); goes = λ f. absurd (true≢false f); stops = λ f s v. branch-stops (v .passed) h (same-turn v k w) e }
+
+  pub reading-deep : k ≡ turn.Deep
+      → Turns branchReading src t at number (record { over = true; next = at; number = number; total = t .total; answer = skip.Refused 7 number; depth = t .depth; signs = t .signs })
+  reading-deep e =
+      record { further = λ f. absurd (true≢false f); goes = λ f. absurd (true≢false f); stops = λ f s v. branch-deep (v .passed) h (same-turn v k w) e }
+
+  pub reading-on : {o : ℕ} {x : LineEnd} → k ≡ turn.On o → LineIs (t .signs) src (lineStart at) x
+      → Turns branchReading src t at number
+      (record { over = false; next = x .next; number = number + x .feeds; total = o; answer = skip.Refused 3 (number + x .feeds); depth = t .depth; signs = t .signs })
+  reading-on e l =
+      record {
+        further = λ f. l .on h;
+        goes = λ f s v. record { signs = v .signs; depth = v .depth; answer = refl; passed = branch-on (v .passed) h (same-turn v k w) e (same-line v l) };
+        stops = λ f. absurd (true≢false (sym f));
+      }

@@ -12,6 +12,7 @@ use Rattle.rules.specs.Source.{wholeLine, lineOutcome, Ended, linesFrom}
 use Rattle.lines.specs.declared.LineEnd.{LineEnd}
 use Rattle.lines.specs.declared.Signs.{Signs}
 use Rattle.lines.specs.Stream.{lineStart, marksLeft, LineIs}
+use Rattle.reader.specs.Turns.{Reading}
 use Rattle.tokens.specs.Left.{wordIn}
 use Rattle.passed.specs.Words.{wordsLeft, firstWord, areTwo}
 use Rattle.skips.specs.declared.Kind.{Kind}
@@ -20,6 +21,7 @@ use Rattle.skips.specs.declared.Turn.{Turn}
 use Rattle.skips.specs.declared.Turn.the-variants as turn
 use Rattle.skips.specs.declared.Skip.{Skip}
 use Rattle.skips.specs.declared.Skip.the-variants as skip
+use Rattle.skips.specs.declared.Branch.{Branch}
 
 -- ## The states
 
@@ -135,6 +137,30 @@ pub record BranchRefused (g : Signs) (src : List ℕ) (at number depth r l : ℕ
 abbrev pub BranchIs : Signs → List ℕ → ℕ → ℕ → ℕ → Skip → Type 0
 BranchIs g src at number depth (skip.Stop next n) = BranchStops g src at number depth next n
 BranchIs g src at number depth (skip.Refused r l) = BranchRefused g src at number depth r l
+
+-- From the place `at` to i only lines of the branch are passed, with no inner chain open at first, and then `total` chains in all.
+pub record InBranch (g : Signs) (src : List ℕ) (at number depth i n total : ℕ) : Type 0 where
+  pub from : at ≤ i
+  pub to : i ≤ length src
+  pub few : n ≤ i + 1
+  pub deep : depth ≤ total
+  pub run : (s : State) → Unused g depth s → linesFrom s number 0 (drop at src) ≡ linesFrom (opened depth total s) n 0 (drop i src)
+
+-- A reading that began with the state s has come to a place with the state t: only lines of the branch are passed, and the source would end too early.
+pub record BranchStands (src : List ℕ) (s t : Branch) (i n : ℕ) : Type 0 where
+  pub signs : t .signs ≡ s .signs
+  pub depth : t .depth ≡ s .depth
+  pub answer : t .answer ≡ skip.Refused 3 n
+  pub passed : InBranch (s .signs) src (s .next) (s .number) (s .depth) i n (t .total)
+
+abbrev pub branchReading : Reading Branch
+branchReading = record {
+  over = λ t. t .over;
+  next = λ t. t .next;
+  number = λ t. t .number;
+  Stands = BranchStands;
+  Says = λ src s t. BranchIs (s .signs) src (s .next) (s .number) (s .depth) (t .answer);
+}
 
 -- ## Another category
 

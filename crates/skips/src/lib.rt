@@ -3,8 +3,9 @@ ghost use mathlib.Core.Path.{_≡_};
 ghost use Prim.Native.Nat.{_≤_, _<_};
 ghost use lib.ListN.{length};
 ghost use Rattle.lines.specs.Stream.{lineStart};
+ghost use Rattle.reader.specs.Turns.{AtLine, Turns};
 ghost use Rattle.passed.specs.Words.{firstWord};
-ghost use Rattle.skips.specs.Passing.{KindIs, Begins, TurnIs, BranchIs, Named, nameAt, Copies, isEnd, Reaches, AfterIs, CategoryIs};
+ghost use Rattle.skips.specs.Passing.{KindIs, Begins, TurnIs, BranchIs, BranchStands, branchReading, Named, nameAt, Copies, isEnd, Reaches, AfterIs, CategoryIs};
 use lines::Signs;
 use lines::Spot;
 use passed::first_word_is;
@@ -104,28 +105,102 @@ fn branch_turn(src: &[u8], g: Signs, at: usize, depth: usize, total: usize) -> T
     }
 }
 
+// How far an unused branch is read. As in every state of a loop that holds a reader (crates/reader), the first three fields are whether the
+// loop is over, and the place and the number of the line that comes next.
+struct Branch {
+    over: bool,
+    next: usize,
+    number: usize,
+    // the chains that are open, with the inner ones
+    total: usize,
+    // what is answered if it is over, or no line comes next
+    answer: Skip,
+    // the chains that are open, with the branch's own, and the two characters
+    depth: usize,
+    signs: Signs,
+}
+
+// The line at a place, which comes next.
+fn branch_line(src: &[u8], s: Branch, at: usize, number: usize) -> Branch
+    requires { ⌜ AtLine branchReading (now src) s at number ⌝ }
+    ensures { λ r. ⌜ Turns branchReading (now (src .entry)) s at number r ⌝ }
+{
+    let g = s.signs;
+    let depth = s.depth;
+    let total = s.total;
+    let t = branch_turn(src, g, at, depth, total);
+    match t {
+        Turn::Own => {
+            return Branch {
+                over: true,
+                next: at,
+                number: number,
+                total: total,
+                answer: Skip::Stop(at, number),
+                depth: depth,
+                signs: g,
+            };
+        }
+        Turn::Deep => {
+            return Branch {
+                over: true,
+                next: at,
+                number: number,
+                total: total,
+                answer: Skip::Refused(7, number),
+                depth: depth,
+                signs: g,
+            };
+        }
+        Turn::On(o) => {
+            let e = line_at(src, g, at);
+            let n = number + e.feeds;
+            return Branch {
+                over: false,
+                next: e.next,
+                number: n,
+                total: o,
+                answer: Skip::Refused(3, n),
+                depth: depth,
+                signs: g,
+            };
+        }
+    }
+}
+
+// The lines that come next, up to the one that ends the branch or to the end of the source.
+fn branch_lines(src: &[u8], s: Branch) -> Branch
+    requires { ⌜ BranchStands (now src) s s (s .next) (s .number) ⌝ }
+    ensures { λ r. ⌜ BranchIs (s .signs) (now (src .entry)) (s .next) (s .number) (s .depth) (r .answer) ⌝ }
+{
+    let mut t = s;
+    let mut q = reader_at(src, t.next, t.number);
+    while !used_up(q) {
+        t = branch_line(q.src, t, q.at, q.number);
+        if t.over {
+            return t;
+        }
+        q = reader_at(q.src, t.next, t.number);
+    }
+    t
+}
+
 // The rest of an unused branch, where `depth` chains are open: the next line of its own chain.
 pub fn skip_branch(src: &[u8], g: Signs, at: usize, number: usize, depth: usize) -> Skip
     requires { ⌜ Begins (now src) at number ⌝ }
     ensures { λ r. ⌜ BranchIs g (now (src .entry)) at number depth r ⌝ }
 {
-    let mut i = at;
-    let mut n = number;
-    let mut total = depth;
-    while i < src.len() {
-        let t = branch_turn(src, g, i, depth, total);
-        match t {
-            Turn::Own => return Skip::Stop(i, n),
-            Turn::Deep => return Skip::Refused(7, n),
-            Turn::On(o) => {
-                let e = line_at(src, g, i);
-                i = e.next;
-                n += e.feeds;
-                total = o;
-            }
-        }
-    }
-    Skip::Refused(3, n)
+    let s = Branch {
+        over: false,
+        next: at,
+        number: number,
+        total: depth,
+        answer: Skip::Refused(3, number),
+        depth: depth,
+        signs: g,
+    };
+    let t = branch_lines(src, s);
+    t.answer
 }
 
 // Whether the line at a place is the END line of the category of this name.

@@ -1,5 +1,5 @@
--- `ordering::is_again` meets its contract: a law for each way to return.
-use Rattle.ordering.proofs.FactLaws.{again-block, again-order}
+-- `ordering::is_again` meets its contract: in a block its lines count, else all.
+use Rattle.ordering.proofs.FactLaws.{again-block, again-else}
 use borrow.Author.Needs.{needs}
 use Rattle.ordering.proofs.is_again.Statement.{statement}
 use Rattle.ordering.proofs.is_again.Tie as tie
@@ -14,7 +14,7 @@ is-listed-requires : tie.Need-is-listed-requires
 is-listed-requires c κs = search needs
 
 returns-2 : tie.Need-returns-2
-returns-2 c = search again-order
+returns-2 c = search again-else
 
 pub is-again-spec : {M : Type 1} → statement M
 is-again-spec = tie.close (tie.spec is-own-requires returns is-listed-requires returns-2)

@@ -1,5 +1,5 @@
 -- `ordering::is_own` meets its contract: a law for each way to return.
-use Rattle.ordering.proofs.FactLaws.{row-there, own-none, own-named, own-written, own-else}
+use Rattle.ordering.proofs.FactLaws.{row-there, own-none, own-named, own-late, own-early}
 use borrow.Author.Needs.{needs}
 use Rattle.ordering.proofs.is_own.Statement.{statement}
 use Rattle.ordering.proofs.is_own.Tie as tie
@@ -17,10 +17,10 @@ cast-place : tie.Need-cast-place
 cast-place c = search needs
 
 returns-2 : tie.Need-returns-2
-returns-2 c = search own-written
+returns-2 c = search own-late
 
 returns-3 : tie.Need-returns-3
-returns-3 c = search own-else
+returns-3 c = search own-early
 
 enum-told : tie.Need-enum-told
 enum-told c = search needs

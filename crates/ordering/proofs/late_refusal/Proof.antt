@@ -1,10 +1,10 @@
 -- `ordering::late_refusal` meets its contract: a law for each way to return.
-use Rattle.ordering.proofs.OwnLaws.{late-ordered, late-missing, late-many, late-full, late-none}
+use Rattle.ordering.proofs.OwnLaws.{late-again, late-missing, late-many, late-full, late-none}
 use Rattle.ordering.proofs.late_refusal.Statement.{statement}
 use Rattle.ordering.proofs.late_refusal.Tie as tie
 
 returns : tie.Need-returns
-returns c = search late-ordered
+returns c = search late-again
 
 returns-2 : tie.Need-returns-2
 returns-2 c = search late-none

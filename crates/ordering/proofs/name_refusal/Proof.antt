@@ -1,7 +1,6 @@
 -- `ordering::name_refusal` meets its contract: it is that of the paper's order line.
-use Rattle.ordering.proofs.StepLaws.{some-known}
+use Rattle.ordering.proofs.StepLaws.{some-known, open-rowed}
 use Rattle.ordering.proofs.NameLaws.{name-to, name-inside, name-next, name-plain, name-reads}
-use Rattle.ordering.proofs.FactLaws.{found-rowed}
 use borrow.Author.Needs.{needs}
 use Rattle.ordering.proofs.name_refusal.Statement.{statement}
 use Rattle.ordering.proofs.name_refusal.Tie as tie
@@ -10,7 +9,7 @@ name-facts-requires : tie.Need-name-facts-requires
 name-facts-requires c κs = ((search name-to, search name-inside), (search some-known, search needs))
 
 is-again-requires : tie.Need-is-again-requires
-is-again-requires c κs = search (found-rowed, some-known)
+is-again-requires c κs = search open-rowed
 
 own-refusal-requires : tie.Need-own-refusal-requires
 own-refusal-requires c κs = ((search name-next, search name-plain), search some-known)

@@ -14,8 +14,8 @@ weights-refusal-requires c κs = (search needs, search known-sound)
 returns : tie.Need-returns
 returns c = search own-three
 
-others-requires : tie.Need-others-requires
-others-requires c κs = search needs
+has-room-requires : tie.Need-has-room-requires
+has-room-requires c κs = search needs
 
 late-refusal-requires : tie.Need-late-refusal-requires
 late-refusal-requires c κs = search needs
@@ -36,7 +36,7 @@ own-refusal-spec =
     is-formed-requires
     weights-refusal-requires
     returns
-    others-requires
+    has-room-requires
     late-refusal-requires
     lower-of-requires
     returns-2

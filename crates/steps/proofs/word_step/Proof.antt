@@ -134,6 +134,9 @@ enum-told-13 c = search needs
 reorder-after-line-requires : tie.Need-reorder-after-line-requires
 reorder-after-line-requires c κs = (search opened-after, search word-holding)
 
+same-length-8 : tie.Need-same-length-8
+same-length-8 c = search needs
+
 returns-13 : tie.Need-returns-13
 returns-13 c = search writes-step
 
@@ -211,6 +214,7 @@ word-step-spec =
     returns-12
     enum-told-13
     reorder-after-line-requires
+    same-length-8
     returns-13
     enum-told-14
     reorder-end-line-requires
