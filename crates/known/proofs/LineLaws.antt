@@ -25,7 +25,7 @@ use Rattle.store.proofs.AreaLaws.{holds-told}
 use Rattle.store.proofs.ListLaws.{place-below}
 use Rattle.listed.specs.declared.Order.{Order}
 use Rattle.listed.specs.Listed.{charsNumber, lineNumber, placeNumber, nextNumber, backNumber, Row, Backed, Lines, linkedTo, numbered, withLine, longer, NewLine}
-use Rattle.listed.proofs.ListLaws.{all-map, numbered-number, numbered-place, numbered-else, numbered-apart, last-has, link-length, link-other, link-apart, lines-more, backed-more}
+use Rattle.listed.proofs.ListLaws.{all-map, all-append, numbered-number, numbered-place, numbered-else, numbered-apart, last-has, link-length, link-other, link-apart, lines-more, backed-more}
 use Rattle.listed.proofs.MoveLaws.{one-has, all-one}
 use Rattle.known.specs.Known.{Says, none, symbols, elements, characters, behind, subjectAt, lineAt, isRow, Accepted, IsListed, Known}
 use Rattle.known.proofs.MarkLaws.{rows-apart}
@@ -37,10 +37,6 @@ says-kept w w′ ds cs e none = none
 says-kept w w′ ds cs e (symbols {v = v} {ds = es} {cs = fs} z s) = symbols (e v ∙ z) (says-kept w w′ es fs e s)
 says-kept w w′ ds cs e (elements {v = v} {ds = es} {cs = fs} z l s) = elements (e v ∙ z) l (says-kept w w′ es fs e s)
 says-kept w w′ ds cs e (characters {v = v} {ds = es} {cs = fs} z s) = characters (e v ∙ z) (says-kept w w′ es fs e s)
-
-all-append : (P : ℕ → Type 0) (us vs : List ℕ) → All P us → All P vs → All P (us ++ vs)
-all-append P [] vs a b = b
-all-append P (u ∷ us) vs a b = (a .0, all-append P us vs (a .1) b)
 
 pub holds-linked : (g : Signs) (src : List ℕ) (n : ℕ) (ds : List Decl) (w : List ℕ) (l j v : ℕ) → j < 5 → Holds (keyAt g src) (length src) w n ds
     → Holds (keyAt g src) (length src) (linkedTo w l j v) n ds

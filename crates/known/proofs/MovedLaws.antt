@@ -1,8 +1,8 @@
 -- An order line in a block: what is known after it has come to stand after another, and after one that had a line has left its old place.
 use mathlib.Core.Path.{_≡_, refl, sym, ap, _∙_, subst}
 use mathlib.Core.Bool.{true, false, not, or-true}
-use mathlib.Core.List.{List, [], _∷_, _++_, map}
-use Prim.Native.Nat.{ℕ, suc, _+_, _-_, _*_, _/_, _%_, _≤_, _<_}
+use mathlib.Core.List.{List, [], _∷_, map}
+use Prim.Native.Nat.{ℕ, suc, _+_, _-_, _*_, _/_, _%_, _≤_}
 use native.Mathlib.Omega.{arith}
 use lib.ListN.{length}
 use lib.Dec.{eqb}
@@ -24,11 +24,11 @@ use Rattle.store.specs.declared.Found.{Found}
 use Rattle.store.specs.declared.Found.the-variants.{At, Nothing}
 use Rattle.store.proofs.AreaLaws.{holds-told}
 use Rattle.listed.specs.declared.Order.{Order}
-use Rattle.listed.specs.Listed.{charsNumber, lineNumber, placeNumber, nextNumber, backNumber, Row, Backed, Lines, Spread, none, more, linkedTo, linkedBetween, withLineAfter, longerAfter, unlinked, shorter}
+use Rattle.listed.specs.Listed.{charsNumber, placeNumber, nextNumber, backNumber, Row, Backed, Lines, Spread, none, more, linkedTo, linkedBetween, withLineAfter, longerAfter, unlinked, shorter}
 use Rattle.listed.proofs.ListLaws.{row-kept, all-map, numbered-number, numbered-place, numbered-else, numbered-apart}
 use Rattle.listed.proofs.MoveLaws.{without, behindMark, one-has, all-one, linked-rows, next-has, back-has, without-all, without-apart, without-length, without-one, behind-all, behind-new, behind-one, out-length, out-else, out-next, out-back, lines-out, backed-out, put-length, put-else, next-kept, back-kept, lines-put, backed-put}
 use Rattle.known.specs.Known.{Once, subjectAt, lineAt, isRow, markOf, IsListed, Known}
-use Rattle.known.proofs.MarkLaws.{isAt, subject-marked, marked-subject, subject-mark, mark-row, rows-apart}
+use Rattle.known.proofs.MarkLaws.{isAt, subject-marked, marked-subject, subject-mark, mark-row}
 use Rattle.known.proofs.RankLaws.{isOrdered, rank-none}
 use Rattle.known.proofs.LineLaws.{newLine, Unlisted, Follows, Changed, Came, holds-linked, holds-numbered, line-same, line-new, known-changed, unlisted-others}
 

@@ -89,13 +89,13 @@ numbered-backed w v number place p vs k =
 
 -- ## One line more
 
-append-apart : (v : ℕ) (us vs : List ℕ) → All (Apart v) us → All (Apart v) vs → All (Apart v) (us ++ vs)
-append-apart v [] vs a b = b
-append-apart v (u ∷ us) vs a b = (a .0, append-apart v us vs (a .1) b)
+pub all-append : (P : ℕ → Type 0) (us vs : List ℕ) → All P us → All P vs → All P (us ++ vs)
+all-append P [] vs a b = b
+all-append P (u ∷ us) vs a b = (a .0, all-append P us vs (a .1) b)
 
 spread-more : (v : ℕ) (vs : List ℕ) → Spread vs → All (Apart v) vs → Spread (vs ++ v ∷ [])
 spread-more v [] none a = more tt none
-spread-more v (u ∷ us) (more b s) a = more (append-apart u us (v ∷ []) b ((λ e. a .0 (sym e)), tt)) (spread-more v us s (a .1))
+spread-more v (u ∷ us) (more b s) a = more (all-append (Apart u) us (v ∷ []) b ((λ e. a .0 (sym e)), tt)) (spread-more v us s (a .1))
 
 last-of : (v : ℕ) (vs : List ℕ) → lastOf (vs ++ v ∷ []) ≡ v
 unfolding lastOf

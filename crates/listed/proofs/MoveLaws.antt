@@ -6,14 +6,14 @@ use Prim.Native.Nat.{ℕ, suc, _+_, _-_, _*_, _/_, _≤_, _<_}
 use native.Mathlib.Omega.{arith}
 use lib.ListN.{length, set, length-set}
 use lib.Dec.{eqb}
-use borrow.Author.Tests.{eq-eqb, ne-eqb, eqb-true, eqb-false}
+use borrow.Author.Tests.{eq-eqb, ne-eqb, eqb-true}
 use Rattle.lists.proofs.Bools.{by, cond-true, cond-false, cond-both}
 use Rattle.lists.proofs.Lists.{All}
 use Rattle.rules.specs.Text.{if_then_else_, oneOf}
 use Rattle.rows.specs.Cells.{cellAt, cell}
 use Rattle.rows.proofs.CellLaws.{Apart, cell-told, cell-other, cell-apart}
 use Rattle.listed.specs.declared.Order.{Order}
-use Rattle.listed.specs.Listed.{nextNumber, backNumber, Row, Linked, ends, goes, Backed, begins, comes, Spread, none, more, lastOf, Lines, linkedTo, numbered, Reached, longer, Among, Between, unlinked, shorter, linkedBetween, withLineAfter, longerAfter}
+use Rattle.listed.specs.Listed.{nextNumber, backNumber, Row, Linked, ends, goes, Backed, begins, comes, Spread, none, more, Lines, linkedTo, numbered, Reached, longer, Among, Between, unlinked, shorter, linkedBetween, withLineAfter, longerAfter}
 use Rattle.listed.proofs.ListLaws.{row-kept, all-map, linked-kept, backed-kept, numbered-lines, numbered-backed, lastFrom, last-from, link-length, link-told, link-other, link-apart}
 
 -- ## Marks of a list
