@@ -2,17 +2,17 @@
 use mathlib.Core.Path.{_≡_, refl, sym, ap, _∙_, subst}
 use mathlib.Core.Bool.{Bool, true, false, not, _||_, or-true}
 use mathlib.Core.List.{List, [], _∷_, _++_, map}
-use Prim.Native.Nat.{ℕ, _/_, _≤_, _<_}
+use Prim.Native.Nat.{ℕ, _≤_, _<_}
 use native.Mathlib.Omega.{arith}
 use lib.ListN.{length, getD}
 use lib.Dec.{eqb, leb}
 use borrow.Author.Tests.{eq-eqb, eqb-true, eqb-false, le-leb, leb-true, leb-false}
 use Rattle.lists.proofs.Bools.{by, clash, cond-true, cond-false, or-false-left, or-false-right}
 use Rattle.lists.proofs.Lists.{All}
-use Rattle.rules.specs.Text.{if_then_else_, oneOf}
+use Rattle.rules.specs.Text.{oneOf}
 use Rattle.rules.specs.Meaning.{Rule}
 use Rattle.rules.specs.State.{inBlock, Declaration, Subject, OrderLine, Chain, State}
-use Rattle.rules.specs.OrderLines.{sameSubject, rankOf, takenOut, putAfter, placed, blockWith, again}
+use Rattle.rules.specs.OrderLines.{sameSubject, takenOut, putAfter, placed, blockWith, again}
 use Rattle.rules.proofs.TextLaws.{oneOf-append}
 use Rattle.lines.specs.declared.Signs.{Signs}
 use Rattle.rows.specs.Cells.{cell}

@@ -24,7 +24,7 @@ use Rattle.operands.specs.Operand.{operandsLeft}
 use Rattle.operands.proofs.ListLaws.{single-more}
 use Rattle.names.specs.Named.{nameLeft}
 use Rattle.rows.specs.Cells.{cell}
-use Rattle.subjects.specs.Keys.{Key, item, keyAt, subjectLeft}
+use Rattle.subjects.specs.Keys.{Key, keyAt, subjectLeft}
 use Rattle.subjects.proofs.SpotLaws.{keyAt-inside}
 use Rattle.store.specs.declared.Found.{Found}
 use Rattle.store.specs.declared.Found.the-variants.{At, Nothing}

@@ -1,5 +1,5 @@
 -- The order lines' marks and the open block: what stays of them where rows keep their links and places; and what is held after the lines of a block's ends.
-use mathlib.Core.Path.{_≡_, refl, sym, ap, _∙_, subst}
+use mathlib.Core.Path.{_≡_, refl, sym, ap, subst}
 use mathlib.Core.Bool.{true, false, _||_, false≢true}
 use mathlib.Core.List.{List, [], _∷_}
 use Prim.Native.Nat.{ℕ, _+_, _/_, _≤_, _<_}
@@ -17,6 +17,7 @@ use Rattle.rows.specs.Cells.{cell}
 use Rattle.store.specs.Store.{Decl}
 use Rattle.listed.specs.declared.Order.{Order}
 use Rattle.listed.specs.Listed.{placeNumber, nextNumber, Linked, ends, goes}
+use Rattle.listed.proofs.MoveLaws.{one-has}
 use Rattle.known.specs.Known.{subjectAt, isRow, IsListed, Known}
 use Rattle.known.proofs.MarkLaws.{row-in}
 use Rattle.sheet.specs.declared.Block.{Block}
@@ -24,12 +25,6 @@ use Rattle.sheet.specs.declared.Sheet.{Sheet}
 use Rattle.sheet.specs.Sheets.{InBlock, Open}
 
 -- ## Marks
-
--- what holds of all marks holds of one of them
-pub all-one : (P : ℕ → Type 0) (us : List ℕ) (v : ℕ) → All P us → oneOf (eqb v) us ≡ true → P v
-unfolding oneOf
-all-one P [] v a h = absurd (false≢true h)
-all-one P (u ∷ us) v a h = by (eqb v u) (λ t. subst P (sym (eqb-true v u t)) (a .0)) (λ t. all-one P us v (a .1) (rw t at h))
 
 -- the rows that were listed keep their links, so that the same are linked
 linked-same : (g : Signs) (src w w′ : List ℕ) (ds : List Decl) → ((u : ℕ) → isRow (length src) ds u ≡ true → u / 16 ≤ length src / 8 + 1)
@@ -59,7 +54,7 @@ module _ (g : Signs) (src w w′ : List ℕ) (o : Order) (rs rs′ : List Rule) 
 
   -- at the same places
   pub place-same : (v : ℕ) → oneOf (eqb v) (k .marks) ≡ true → cell w′ v placeNumber ≡ cell w v placeNumber
-  place-same v h = same v placeNumber (row-in (k .holds) v (all-one (IsListed g src w (k .ds)) (k .marks) v (k .listed) h .row)) (omega arith) (omega arith)
+  place-same v h = same v placeNumber (row-in (k .holds) v (one-has (IsListed g src w (k .ds)) v (k .marks) (k .listed) h .row)) (omega arith) (omega arith)
 
   -- and the open block is the same
   pub block-same : (b : Block) (xs : List Subject) → InBlock g src w (k .marks) b xs → InBlock g src w′ (k′ .marks) b xs
