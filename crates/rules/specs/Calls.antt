@@ -1,7 +1,7 @@
 -- 01, "Refusals in order": the public operations, each with its whole answer in the paper's numbers, and what every area lent to it
 -- holds afterwards. "Every public operation on a table checks this itself"; "Calls on tables and charmap areas test 11, 12, 14, 13, the
 -- first string before the second"; "All other answers in a refusal are 0. Lent areas but the work area stay unchanged; on success so
--- does what lies past the result."
+-- does what lies past the result." The directory of 02, K2, stands last.
 use mathlib.Core.Bool.{not, _&&_}
 use mathlib.Core.List.{List, [], _++_}
 use Prim.Native.Nat.{ℕ}
@@ -14,6 +14,7 @@ use Rattle.rules.specs.Order.{goodString, Step, stepOf, Answer, compareO
 use Rattle.rules.specs.Table.{storedForm, meaningIn, accepted}
 use Rattle.rules.specs.Charmap.{charmapOf}
 use Rattle.rules.specs.Coding.{areaAccepted, decodeOf, encodeOf}
+use Rattle.rules.specs.Directory.{directoryOf}
 
 -- In each answer a refusal of 0 is none. An area is given as what it holds.
 
@@ -154,3 +155,19 @@ charmapCall source area = mappedAs (charmapOf source (length area)) area
 -- "charmap area not accepted" (11)
 unfoldable pub areaCall : List ℕ → ℕ
 areaCall area = if areaAccepted area then 0 else 11
+
+-- ## directory
+
+-- The refusal; the list afterwards.
+pub record Directed : Type 0 where
+  pub refusal : ℕ
+  pub list : List ℕ
+
+-- what is left in the list, of a result
+unfoldable pub directedAs : Result (List ℕ) → List ℕ → Directed
+directedAs (granted numbers) list = record { refusal = 0; list = over numbers list }
+directedAs (refused n l) list = record { refusal = n; list = list }
+
+-- a table, a run of characters, headings and topics as starts and lengths in it, and a list for a heading number of each topic
+unfoldable pub directoryCall : (table run headings topics list : List ℕ) → Directed
+directoryCall table run headings topics list = directedAs (directoryOf table run headings topics (length list)) list

@@ -13,5 +13,6 @@ pub mod Table
 pub mod Order
 pub mod Charmap
 pub mod Coding
+pub mod Directory
 pub mod Calls
 pub mod Pairs
