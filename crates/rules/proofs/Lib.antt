@@ -29,3 +29,4 @@ pub mod EntryLaws
 pub mod KeyLaws
 pub mod ElementLaws
 pub mod PassedLaws
+pub mod DirectoryLaws

@@ -8,7 +8,7 @@ use Rattle.units.specs.Numbers.{numberOf, signOf}
 use Rattle.units.specs.declared.Sign.{Sign}
 use Rattle.units.specs.declared.Sign.the-variants.{Less, Equal, Greater}
 use Rattle.units.specs.declared.Refusal.{Refusal}
-use Rattle.units.specs.declared.Refusal.the-variants.{TooLong, BadByte, Malformed, BadRule, Twice, Unknown, TooMany, Unranked, ShortArea, ByteTwice, NotAccepted, BadString, NoRoom, NotMapped}
+use Rattle.units.specs.declared.Refusal.the-variants.{TooLong, BadByte, Malformed, BadRule, Twice, Unknown, TooMany, Unranked, ShortArea, ByteTwice, NotAccepted, BadString, NoRoom, NotMapped, NotRising, NotPlain, BadPart}
 use Rattle.rules.specs.Order as order
 
 -- the refusal of a number
@@ -17,7 +17,8 @@ refusalOf n =
     if eqb n 1 then TooLong else if eqb n 2 then BadByte else if eqb n 3 then Malformed else if eqb n 4 then BadRule
     else if eqb n 5 then Twice else if eqb n 6 then Unknown else if eqb n 7 then TooMany else if eqb n 8 then Unranked
     else if eqb n 9 then ShortArea else if eqb n 10 then ByteTwice else if eqb n 11 then NotAccepted else if eqb n 12 then BadString
-    else if eqb n 13 then NoRoom else NotMapped
+    else if eqb n 13 then NoRoom else if eqb n 14 then NotMapped else if eqb n 15 then NotRising else if eqb n 16 then NotPlain
+    else BadPart
 
 refusal-back : (r : Refusal) → refusalOf (numberOf r) ≡ r
 unfolding refusalOf
@@ -35,6 +36,9 @@ refusal-back NotAccepted = refl
 refusal-back BadString = refl
 refusal-back NoRoom = refl
 refusal-back NotMapped = refl
+refusal-back NotRising = refl
+refusal-back NotPlain = refl
+refusal-back BadPart = refl
 
 pub numberOf-unique : (r s : Refusal) → numberOf r ≡ numberOf s → r ≡ s
 numberOf-unique r s e = sym (refusal-back r) ∙ ap refusalOf e ∙ refusal-back s
@@ -55,6 +59,9 @@ numberOf-some NotAccepted e = omega arith
 numberOf-some BadString e = omega arith
 numberOf-some NoRoom e = omega arith
 numberOf-some NotMapped e = omega arith
+numberOf-some NotRising e = omega arith
+numberOf-some NotPlain e = omega arith
+numberOf-some BadPart e = omega arith
 
 -- the sign of a sign on the paper
 signBack : order.Sign → Sign

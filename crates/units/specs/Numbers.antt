@@ -3,7 +3,7 @@ use Prim.Native.Nat.{ℕ}
 use Rattle.units.specs.declared.Sign.{Sign}
 use Rattle.units.specs.declared.Sign.the-variants.{Less, Equal, Greater}
 use Rattle.units.specs.declared.Refusal.{Refusal}
-use Rattle.units.specs.declared.Refusal.the-variants.{TooLong, BadByte, Malformed, BadRule, Twice, Unknown, TooMany, Unranked, ShortArea, ByteTwice, NotAccepted, BadString, NoRoom, NotMapped}
+use Rattle.units.specs.declared.Refusal.the-variants.{TooLong, BadByte, Malformed, BadRule, Twice, Unknown, TooMany, Unranked, ShortArea, ByteTwice, NotAccepted, BadString, NoRoom, NotMapped, NotRising, NotPlain, BadPart}
 use Rattle.rules.specs.Order as order
 
 -- a sign as the paper has it
@@ -28,3 +28,6 @@ numberOf NotAccepted = 11
 numberOf BadString = 12
 numberOf NoRoom = 13
 numberOf NotMapped = 14
+numberOf NotRising = 15
+numberOf NotPlain = 16
+numberOf BadPart = 17

@@ -47,6 +47,12 @@ pub enum Refusal {
     NoRoom,
     // a character or a byte that the charmap does not have
     NotMapped,
+    // a heading without a weight at level 1, or headings that do not rise in it
+    NotRising,
+    // a level 1 that is not plain forward
+    NotPlain,
+    // too many parts of a run, or one that reaches outside it
+    BadPart,
 }
 
 // Whether a code is a character's.
@@ -102,5 +108,8 @@ pub fn number_of(r: Refusal) -> u32
         Refusal::BadString => 12,
         Refusal::NoRoom => 13,
         Refusal::NotMapped => 14,
+        Refusal::NotRising => 15,
+        Refusal::NotPlain => 16,
+        Refusal::BadPart => 17,
     }
 }
