@@ -3,7 +3,6 @@ pub mod OnesLaws
 pub mod BlankLaws
 pub mod CountLaws
 pub mod AcceptLaws
-pub mod PutLaws
 pub mod DecodeLaws
 pub mod ByteLaws
 pub mod EncodeLaws

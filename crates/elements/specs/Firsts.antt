@@ -13,6 +13,8 @@ use Rattle.entries.specs.declared.Entry.{Entry}
 use Rattle.elements.specs.declared.Walk.{Walk}
 use Rattle.elements.specs.declared.Ahead.{Ahead}
 use Rattle.elements.specs.declared.Ahead.the-variants.{One, End}
+use Rattle.elements.specs.declared.Leading.{Leading}
+use Rattle.elements.specs.declared.Leading.the-variants.{At, Nothing}
 use Rattle.elements.specs.declared.Meeting.{Meeting}
 use Rattle.elements.specs.declared.Meeting.the-variants as Meeting
 use Rattle.elements.specs.declared.Meeting.the-variants.{Over, On}
@@ -55,12 +57,17 @@ abbrev pub Gives : List ℕ → List ℕ → List ℕ → Bool → List order.En
 Gives t s places position es (One e c) = Next t s places position es e c
 Gives t s places position es (End many) = Ended t s places es many
 
--- ## Two strings
+-- ## Whole strings
 
 -- the entries of a string's first level, walked forward
 unfoldable pub firstEntries : List ℕ → List ℕ → Bool → List order.Entry
 firstEntries t s position =
     levelEntries (meaningIn t .items) (record { backward = false; position = position }) 0 (elements (meaningIn t .items) 0 s)
+
+-- a first weight as a number, 0 where there is none
+abbrev pub leadingAs : Leading → ℕ
+leadingAs (At rank) = rank .0
+leadingAs Nothing = 0
 
 -- what two next entries of this sign decide
 abbrev pub metBy : order.Sign → Walk → Walk → Meeting

@@ -1,11 +1,14 @@
 // The elements of a string: cut all at once, or only as far as the first level is compared.
 ghost use mathlib.Core.Path.{_≡_};
+ghost use mathlib.Core.Bool.{false};
 ghost use Prim.Native.Nat.{_≤_, _<_};
 ghost use lib.ListN.{length};
+ghost use Rattle.rules.specs.Directory.{firstOf};
 ghost use Rattle.elements.specs.Cuts.{Ready, Cut, CutOne, Split};
-ghost use Rattle.elements.specs.Firsts.{fresh, Sound, entriesOn, entriesLeft, Gives, meeting, FirstCompared};
+ghost use Rattle.elements.specs.Firsts.{fresh, Sound, entriesOn, entriesLeft, Gives, leadingAs, firstEntries, meeting, FirstCompared};
 use entries::Entry;
 use find::Found;
+use units::Rank;
 use units::Sign;
 
 // Where a walk over the first level stands: up to a place of the string so many elements are cut; where the weights begin of the last of
@@ -51,6 +54,12 @@ pub enum First {
     After(usize),
     // it does not decide
     Same(Alike),
+}
+
+// The first weight that a string has at the first level, or nothing.
+pub enum Leading {
+    At(Rank),
+    Nothing,
 }
 
 // Cuts the element that begins at a place, so many having been cut before it, and keeps its item's place.
@@ -166,6 +175,18 @@ fn next_first(t: &[u32], s: &[u32], places: &mut [u32], position: bool, c: Walk)
         );
     }
     next_element(t, s, places, position, c.at, c.many, c.skipped)
+}
+
+// The first weight of the first level, walked forward without position; the string is cut no further than to the element that has it.
+pub fn leading(t: &[u32], s: &[u32], places: &mut [u32]) -> Leading
+    requires { ⌜ Ready (now t) (now s) (now places) ⌝ }
+    ensures { λ r. ⌜ leadingAs r ≡ firstOf (firstEntries (now (t .entry)) (now (s .entry)) false) ⌝ }
+{
+    let ahead = next_element(t, s, places, false, 0, 0, 0);
+    match ahead {
+        Ahead::One(e, _) => Leading::At(e.rank),
+        Ahead::End(_) => Leading::Nothing,
+    }
 }
 
 // What two next entries decide: the smaller comes first, or the string that ends.

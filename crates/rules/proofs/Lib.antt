@@ -29,4 +29,5 @@ pub mod EntryLaws
 pub mod KeyLaws
 pub mod ElementLaws
 pub mod PassedLaws
+pub mod PutLaws
 pub mod DirectoryLaws

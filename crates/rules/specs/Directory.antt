@@ -34,6 +34,10 @@ stringOf run p = take (p .size) (drop (p .start) run)
 unfoldable pub inRun : List ℕ → Part → Bool
 inRun run p = leb (p .start + p .size) (length run)
 
+-- neither "over 1,000" of them "or one reaching outside the run"
+unfoldable pub partsFit : List ℕ → List Part → Bool
+partsFit run ps = leb (length ps) 1000 && every (inRun run) ps
+
 -- a part's string is not refused by 12
 unfoldable pub goodPart : List ℕ → Part → Bool
 goodPart run p = goodString (stringOf run p)
@@ -49,10 +53,9 @@ firstOf (e ∷ es) = e .weight
 unfoldable pub firstWeight : Meaning → List ℕ → ℕ
 firstWeight m s = firstOf (getD (levelsOf m s) 0 [])
 
--- of each part, in their order
-unfoldable pub firstWeights : Meaning → List ℕ → List Part → List ℕ
-firstWeights m run [] = []
-firstWeights m run (p ∷ ps) = firstWeight m (stringOf run p) ∷ firstWeights m run ps
+-- of a part's string
+unfoldable pub partWeight : Meaning → List ℕ → Part → ℕ
+partWeight m run p = firstWeight m (stringOf run p)
 
 -- "Level 1 must be plain forward."
 unfoldable pub plainFirst : List Rule → Bool
@@ -66,6 +69,10 @@ unfoldable pub rising : List ℕ → Bool
 rising [] = true
 rising (v ∷ []) = true
 rising (v ∷ w ∷ ws) = ltb v w && rising (w ∷ ws)
+
+-- no "heading without a level-1 weight", and none that is not above the one before it
+unfoldable pub goodHeadings : List ℕ → Bool
+goodHeadings weights = every (ltb 0) weights && rising weights
 
 -- "the last heading whose first level-1 weight is not above" w, of those numbered from n on; `best` where there is none
 unfoldable pub lastNotAbove : ℕ → ℕ → List ℕ → ℕ → ℕ
@@ -85,11 +92,11 @@ directoryOf table run headings topics room =
     let m : Meaning = meaningIn table in
     let hs : List Part = partsOf headings in
     let ts : List Part = partsOf topics in
-    let weights : List ℕ = firstWeights m run hs in
+    let weights : List ℕ = map (partWeight m run) hs in
     if not (accepted table) then refused 11 0
     else if not (plainFirst (m .rules)) then refused 16 0
-    else if not (leb (length hs) 1000 && leb (length ts) 1000 && every (inRun run) hs && every (inRun run) ts) then refused 17 0
+    else if not (partsFit run hs && partsFit run ts) then refused 17 0
     else if not (every (goodPart run) hs && every (goodPart run) ts) then refused 12 0
-    else if not (every (ltb 0) weights && rising weights) then refused 15 0
+    else if not (goodHeadings weights) then refused 15 0
     else if ltb room (length ts) then refused 13 0
-    else granted (map (headingOf weights) (firstWeights m run ts))
+    else granted (map (headingOf weights) (map (partWeight m run) ts))

@@ -3,7 +3,7 @@ use borrow.Author.Needs.{needs}
 use Prim.Native.Nat.{_-_}
 use lib.ListN.{length}
 use Rattle.rules.specs.Coding.{byteAt}
-use Rattle.coding.proofs.PutLaws.{Putting, putting-none, putting-more, putting-all}
+use Rattle.rules.proofs.PutLaws.{Putting, putting-none, putting-more, putting-all}
 use Rattle.coding.proofs.EncodeLaws.{byte-fits}
 use Rattle.coding.proofs.write_bytes.Statement.{statement}
 use Rattle.coding.proofs.write_bytes.Tie as tie

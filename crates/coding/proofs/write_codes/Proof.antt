@@ -5,7 +5,7 @@ use Prim.Native.Nat.{_-_}
 use lib.ListN.{length}
 use Rattle.rules.specs.Coding.{codeAt}
 use Rattle.coding.proofs.DecodeLaws.{byte-inside, byte-code}
-use Rattle.coding.proofs.PutLaws.{Putting, putting-none, putting-more, putting-all}
+use Rattle.rules.proofs.PutLaws.{Putting, putting-none, putting-more, putting-all}
 use Rattle.coding.proofs.write_codes.Statement.{statement}
 use Rattle.coding.proofs.write_codes.Tie as tie
 

@@ -1,4 +1,4 @@
--- Writing what stands for each number of a list to the front of an area: the loops of write_codes and write_bytes.
+-- Writing what stands for each number of a list to the front of an area, one after the other: what a loop that does so keeps.
 use mathlib.Core.Path.{_≡_, refl, ap, _∙_}
 use mathlib.Core.List.{List, [], _∷_, _++_, map}
 use Prim.Native.Nat.{ℕ, zero, suc, _+_, _≤_, _<_}

@@ -1,0 +1,1 @@
+-- The headings: their weights kept as far as they rise, a topic's heading found by halving, and the list written.

@@ -1,0 +1,1 @@
+-- The answer of the directory, refusal by refusal.

@@ -1,0 +1,1 @@
+-- Parts of a run: how many numbers give, what stands at a place, and that each passes.

@@ -1,0 +1,44 @@
+-- What the parts of a directory ask and give. No public contract cites this file.
+use mathlib.Core.Path.{_≡_}
+use mathlib.Core.Bool.{Bool, true}
+use mathlib.Core.List.{List, map}
+use Prim.Native.Nat.{ℕ, _≤_}
+use lib.ListN.{length, getD, take}
+use Rattle.rules.specs.Text.{every}
+use Rattle.rules.specs.Table.{accepted, meaningIn}
+use Rattle.rules.specs.Directory.{Part, part, partsOf, inRun, partsFit, goodPart, partWeight, plainFirst, goodHeadings}
+
+-- the part at a place, from 0
+unfoldable pub partAt : List ℕ → ℕ → Part
+partAt parts i = getD (partsOf parts) i (part 0 0)
+
+-- the first weights of the parts, in their order
+abbrev pub weightsOf : List ℕ → List ℕ → List ℕ → List ℕ
+weightsOf t run parts = map (partWeight (meaningIn t) run) (partsOf parts)
+
+-- An accepted table whose first level is plain forward, parts of a run that are not refused, and room for the places of a string's elements.
+pub record Ready (t run parts places : List ℕ) : Type 0 where
+  pub checked : accepted t ≡ true
+  pub plain : plainFirst (meaningIn t .rules) ≡ true
+  pub inside : every (inRun run) (partsOf parts) ≡ true
+  pub good : every (goodPart run) (partsOf parts) ≡ true
+  pub room : 4096 ≤ length places
+
+-- The first weights of headings that are not refused.
+pub record Rising (weights : List ℕ) : Type 0 where
+  pub rise : goodHeadings weights ≡ true
+  pub few : length weights ≤ 1000
+
+-- Whether the headings are not refused; then their weights stand in front.
+pub record Weighed (t run headings weights : List ℕ) (r : Bool) : Type 0 where
+  pub is : r ≡ goodHeadings (weightsOf t run headings)
+  pub kept : r ≡ true → take (length (partsOf headings)) weights ≡ weightsOf t run headings
+
+-- A table, headings and topics that are not refused by 11, 16, 17 or 12.
+pub record Page (t run headings topics : List ℕ) : Type 0 where
+  pub checked : accepted t ≡ true
+  pub plain : plainFirst (meaningIn t .rules) ≡ true
+  pub headings-fit : partsFit run (partsOf headings) ≡ true
+  pub topics-fit : partsFit run (partsOf topics) ≡ true
+  pub headings-good : every (goodPart run) (partsOf headings) ≡ true
+  pub topics-good : every (goodPart run) (partsOf topics) ≡ true
