@@ -115,7 +115,7 @@ fn weight(t: &[u32], run: &[u32], parts: &[u64], i: usize, places: &mut [u32]) -
 {
     let start = parts[2 * i] as usize;
     let end = start + parts[2 * i + 1] as usize;
-    let w = elements::leading(t, &run[start..end], places);
+    let w = elements::first_weight(t, &run[start..end], places);
     number(w)
 }
 

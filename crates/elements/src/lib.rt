@@ -178,7 +178,7 @@ fn next_first(t: &[u32], s: &[u32], places: &mut [u32], position: bool, c: Walk)
 }
 
 // The first weight of the first level, walked forward without position; the string is cut no further than to the element that has it.
-pub fn leading(t: &[u32], s: &[u32], places: &mut [u32]) -> Leading
+pub fn first_weight(t: &[u32], s: &[u32], places: &mut [u32]) -> Leading
     requires { ⌜ Ready (now t) (now s) (now places) ⌝ }
     ensures { λ r. ⌜ leadingAs r ≡ firstOf (firstEntries (now (t .entry)) (now (s .entry)) false) ⌝ }
 {
