@@ -1,6 +1,6 @@
 -- The entries of the first level that a walk has still to come: element by element as the string is cut, weight by weight.
 use mathlib.Core.Path.{_≡_, refl, sym, _∙_, subst}
-use mathlib.Core.Bool.{Bool, cond}
+use mathlib.Core.Bool.{Bool, false, cond}
 use mathlib.Core.List.{List, [], _∷_}
 use Prim.Native.Nat.{ℕ, _+_, _-_, _≤_, _<_}
 use native.Mathlib.Numerals.{add-one}
@@ -10,13 +10,16 @@ use Rattle.lists.proofs.Runs.{run-first}
 use Rattle.rules.specs.Table.{meaningIn}
 use Rattle.rules.specs.Order as order
 use Rattle.rules.specs.Order.{stepOf, elements, weightsAt, more, entriesFrom, walked, levelEntries}
+use Rattle.rules.specs.Directory.{firstOf}
 use Rattle.units.specs.declared.Rank.{Rank}
+use Rattle.entries.specs.declared.Entry.{Entry}
 use Rattle.layout.specs.Parts.{Holds}
 use Rattle.layout.specs.declared.Run.{Run}
 use Rattle.find.specs.Answer.{foundAs}
 use Rattle.find.specs.declared.Found.{Found}
 use Rattle.elements.specs.declared.Walk.{Walk}
 use Rattle.elements.specs.declared.Ahead.{Ahead}
+use Rattle.elements.specs.declared.Ahead.the-variants.{One, End}
 use Rattle.elements.specs.Cuts.{Ready, Cut, CutOne}
 use Rattle.elements.specs.Firsts.{entriesOn, entriesLeft, firstEntries, fresh, Sound, Next, Ended, Gives}
 use Rattle.elements.proofs.CutLaws.{found-first, Cutting, cutting-none, cutting-more, cut-all}
@@ -118,3 +121,29 @@ module _ (t s : List ℕ) (position : Bool) where
 pub fresh-sound : (t s places : List ℕ) → Ready t s places → Sound t s places fresh
 fresh-sound t s places r =
     record { cut = cutting-none t s places r .cut; skipped = omega arith; inside = λ h. absurd (omega arith) }
+
+-- ## The first weight
+
+module _ (t s places : List ℕ) where
+  -- a string of which nothing is cut yet
+  pub uncut : Ready t s places → Cut t s places 0 0
+  uncut r = cutting-none t s places r .cut
+
+  all-entries : entriesOn t s false 0 0 ≡ firstEntries t s false
+  unfolding entriesOn firstEntries levelEntries walked
+  all-entries = refl
+
+  module _ {a : Ahead} (g : Gives t s places false (entriesOn t s false 0 0) a) where
+    -- it is that of the next entry
+    pub leading-at : {e : Entry} {c : Walk} → a ≡ One e c → e .rank .0 ≡ firstOf (firstEntries t s false)
+    unfolding firstOf
+    leading-at {e} {c} k =
+        let n : Next t s places false (entriesOn t s false 0 0) e c = subst (Gives t s places false (entriesOn t s false 0 0)) k g in
+        rw (← all-entries, n .is)
+
+    -- and none where the level has no entry
+    pub leading-none : {many : ℕ} → a ≡ End many → 0 ≡ firstOf (firstEntries t s false)
+    unfolding firstOf
+    leading-none {many} k =
+        let n : Ended t s places (entriesOn t s false 0 0) many = subst (Gives t s places false (entriesOn t s false 0 0)) k g in
+        rw (← all-entries, n .is)

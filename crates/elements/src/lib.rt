@@ -184,7 +184,10 @@ pub fn first_weight(t: &[u32], s: &[u32], places: &mut [u32]) -> Leading
 {
     let ahead = next_element(t, s, places, false, 0, 0, 0);
     match ahead {
-        Ahead::One(e, _) => Leading::At(e.rank),
+        Ahead::One(e, _) => {
+            let rank = e.rank;
+            Leading::At(rank)
+        }
         Ahead::End(_) => Leading::Nothing,
     }
 }
