@@ -6,17 +6,31 @@ use Prim.Native.Nat.{ℕ, _≤_}
 use lib.ListN.{length, getD, take}
 use Rattle.rules.specs.Text.{every}
 use Rattle.rules.specs.Table.{accepted, meaningIn}
-use Rattle.rules.specs.Directory.{Part, part, partsOf, inRun, partsFit, goodPart, partWeight, plainFirst, goodHeadings}
+use Rattle.rules.specs.Directory as paper
+use Rattle.rules.specs.Directory.{part, partsOf, inRun, partsFit, goodPart, partWeight, plainFirst, goodHeadings}
+use Rattle.directory.specs.declared.Part.{Part}
+
+-- a part as the paper has it
+abbrev pub partAs : Part → paper.Part
+partAs p = part (p .start) (p .size)
 
 -- the part at a place, from 0
-unfoldable pub partAt : List ℕ → ℕ → Part
+unfoldable pub partAt : List ℕ → ℕ → paper.Part
 partAt parts i = getD (partsOf parts) i (part 0 0)
 
 -- the first weights of the parts, in their order
 abbrev pub weightsOf : List ℕ → List ℕ → List ℕ → List ℕ
 weightsOf t run parts = map (partWeight (meaningIn t) run) (partsOf parts)
 
--- An accepted table whose first level is plain forward, parts of a run that are not refused, and room for the places of a string's elements.
+-- An accepted table whose first level is plain forward, a part of a run that is not refused, and room for the places of its string's elements.
+pub record Named (t run : List ℕ) (p : paper.Part) (places : List ℕ) : Type 0 where
+  pub checked : accepted t ≡ true
+  pub plain : plainFirst (meaningIn t .rules) ≡ true
+  pub inside : inRun run p ≡ true
+  pub good : goodPart run p ≡ true
+  pub room : 4096 ≤ length places
+
+-- The same of all parts that numbers give.
 pub record Ready (t run parts places : List ℕ) : Type 0 where
   pub checked : accepted t ≡ true
   pub plain : plainFirst (meaningIn t .rules) ≡ true

@@ -11,7 +11,7 @@ ghost use Rattle.rules.specs.Directory.{partsOf, inRun, partsFit, goodPart, par
 ghost use Rattle.elements.specs.Firsts.{leadingAs};
 ghost use Rattle.rules.specs.Calls.{over, directoryCall};
 ghost use Rattle.directory.specs.Answers.{directedIs};
-ghost use Rattle.directory.specs.Pages.{partAt, Ready, Rising, Weighed, Page};
+ghost use Rattle.directory.specs.Pages.{partAs, partAt, Named, Ready, Rising, Weighed, Page};
 use elements::Leading;
 use units::Refusal;
 
@@ -21,6 +21,12 @@ pub enum Directed {
     Refused(Refusal),
 }
 
+// A part of the run: where it begins, and how many characters it has.
+struct Part {
+    pub start: usize,
+    pub size: usize,
+}
+
 // How many parts numbers give: start, length, start, length, ..
 fn count(parts: &[u64]) -> usize
     ensures { λ r. ⌜ r ≡ length (partsOf (now (parts .entry))) ⌝ }
@@ -28,18 +34,28 @@ fn count(parts: &[u64]) -> usize
     parts.len() / 2
 }
 
-// Whether a part, counted from 0, lies in the run.
-fn inside(run: &[u32], parts: &[u64], i: usize) -> bool
+// The part at a place, from 0.
+fn part_at(parts: &[u64], i: usize) -> Part
     requires { ⌜ i < length (partsOf (now parts)) ⌝ }
-    ensures { λ r. ⌜ r ≡ inRun (now (run .entry)) (partAt (now (parts .entry)) i) ⌝ }
+    ensures { λ r. ⌜ partAs r ≡ partAt (now (parts .entry)) i ⌝ }
 {
-    let start = parts[2 * i];
-    let size = parts[2 * i + 1];
-    let n = run.len() as u64;
-    if n < start {
+    let start = parts[2 * i] as usize;
+    let size = parts[2 * i + 1] as usize;
+    Part {
+        start: start,
+        size: size,
+    }
+}
+
+// Whether a part lies in the run.
+fn inside(run: &[u32], p: Part) -> bool
+    ensures { λ r. ⌜ r ≡ inRun (now (run .entry)) (partAs p) ⌝ }
+{
+    let n = run.len();
+    if n < p.start {
         return false;
     }
-    size <= n - start
+    p.size <= n - p.start
 }
 
 // Whether every part lies in the run.
@@ -49,7 +65,8 @@ fn all_inside(run: &[u32], parts: &[u64]) -> bool
     let n = count(parts);
     let mut i = 0;
     while i < n {
-        let ok = inside(run, parts, i);
+        let p = part_at(parts, i);
+        let ok = inside(run, p);
         if !ok {
             return false;
         }
@@ -70,13 +87,12 @@ fn fit(run: &[u32], parts: &[u64]) -> bool
 }
 
 // Whether the string of a part is one that no operation refuses.
-fn good(run: &[u32], parts: &[u64], i: usize) -> bool
-    requires { ⌜ i < length (partsOf (now parts)) ⌝ }
-    requires { ⌜ inRun (now run) (partAt (now parts) i) ≡ true ⌝ }
-    ensures { λ r. ⌜ r ≡ goodPart (now (run .entry)) (partAt (now (parts .entry)) i) ⌝ }
+fn good(run: &[u32], p: Part) -> bool
+    requires { ⌜ inRun (now run) (partAs p) ≡ true ⌝ }
+    ensures { λ r. ⌜ r ≡ goodPart (now (run .entry)) (partAs p) ⌝ }
 {
-    let start = parts[2 * i] as usize;
-    let end = start + parts[2 * i + 1] as usize;
+    let start = p.start;
+    let end = start + p.size;
     units::good_string(&run[start..end])
 }
 
@@ -88,7 +104,8 @@ fn all_good(run: &[u32], parts: &[u64]) -> bool
     let n = count(parts);
     let mut i = 0;
     while i < n {
-        let ok = good(run, parts, i);
+        let p = part_at(parts, i);
+        let ok = good(run, p);
         if !ok {
             return false;
         }
@@ -108,15 +125,24 @@ fn number(w: Leading) -> u32
 }
 
 // The first weight of a part's string.
+fn part_weight(t: &[u32], run: &[u32], p: Part, places: &mut [u32]) -> u32
+    requires { ⌜ Named (now t) (now run) (partAs p) (now places) ⌝ }
+    ensures { λ r. ⌜ r ≡ partWeight (meaningIn (now (t .entry))) (now (run .entry)) (partAs p) ⌝ }
+{
+    let start = p.start;
+    let end = start + p.size;
+    let w = elements::first_weight(t, &run[start..end], places);
+    number(w)
+}
+
+// The same of the part at a place.
 fn weight(t: &[u32], run: &[u32], parts: &[u64], i: usize, places: &mut [u32]) -> u32
     requires { ⌜ Ready (now t) (now run) (now parts) (now places) ⌝ }
     requires { ⌜ i < length (partsOf (now parts)) ⌝ }
     ensures { λ r. ⌜ r ≡ partWeight (meaningIn (now (t .entry))) (now (run .entry)) (partAt (now (parts .entry)) i) ⌝ }
 {
-    let start = parts[2 * i] as usize;
-    let end = start + parts[2 * i + 1] as usize;
-    let w = elements::first_weight(t, &run[start..end], places);
-    number(w)
+    let p = part_at(parts, i);
+    part_weight(t, run, p, places)
 }
 
 // The first weights of the headings, kept in front of `weights`, as far as each has one that is above the one before it: whether all have.

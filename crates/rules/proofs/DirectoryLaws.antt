@@ -7,7 +7,7 @@ use native.Mathlib.Omega.{arith}
 use lib.ListN.{length, getD}
 use lib.Dec.{eqb, leb, ltb}
 use borrow.Author.Tests.{leb-true, leb-false, le-leb, lt-leb, ltb-true, eqb-true, eqb-false, ne-eqb, not-true}
-use Rattle.lists.proofs.Bools.{by, and-left, and-right, or-false-right}
+use Rattle.lists.proofs.Bools.{by, and-left, and-right, or-false-left, or-false-right}
 use Rattle.rules.specs.Text.{every}
 use Rattle.rules.specs.Meaning.{Rule, Meaning}
 use Rattle.rules.specs.Order.{Entry, Sign, less, equal, greater, orElse, signℕ, signEntry, signList, entriesFrom, walked, levelEntries, elements, levelsOf, levelsFrom, weightsAt, compareOf, entryLists}
@@ -183,6 +183,30 @@ some-weight (v ∷ vs) (suc k) h c = some-weight vs k (every-tail (ltb 0) v vs h
 -- a heading's own string belongs to it
 pub heading-own : (ws : List ℕ) (k : ℕ) → every (ltb 0) ws ≡ true → rising ws ≡ true → k < length ws → headingOf ws (getD ws k 0) ≡ suc k
 heading-own ws k s h c = heading-last ws (getD ws k 0) k (some-weight ws k s c) c (omega arith) (rising-behind ws k h c)
+
+-- ## A plain first level
+
+-- of some rules, that is what the first says
+pub plain-first : (rules : List Rule) (d : Rule) → 1 ≤ length rules → plainFirst rules ≡ not (getD rules 0 d .backward || getD rules 0 d .position)
+unfolding plainFirst
+plain-first [] d h = absurd (omega arith)
+plain-first (r ∷ rs) d h = refl
+
+plain-rule : (r : Rule) → not (r .backward || r .position) ≡ true → r ≡ record { backward = false; position = false }
+plain-rule r p =
+    let h = not-true (r .backward || r .position) p in
+    rw (or-false-left (r .backward) (r .position) h, or-false-right (r .backward) (r .position) h)
+
+plain-from : (rules : List Rule) (m : Meaning) (s : List ℕ) → m .rules ≡ rules → plainFirst rules ≡ true
+    → firstWeight m s ≡ firstOf (levelEntries (m .items) (record { backward = false; position = false }) 0 (elements (m .items) 0 s))
+unfolding plainFirst firstWeight levelsOf levelsFrom
+plain-from [] m s e p = absurd (false≢true p)
+plain-from (r ∷ rs) m s e p = rw (e, ← plain-rule r p)
+
+-- the first weight is that of the first level walked forward without position
+pub plain-weight : (m : Meaning) (s : List ℕ) → plainFirst (m .rules) ≡ true
+    → firstWeight m s ≡ firstOf (levelEntries (m .items) (record { backward = false; position = false }) 0 (elements (m .items) 0 s))
+plain-weight m s p = plain-from (m .rules) m s refl p
 
 -- ## Comparison and first weights
 

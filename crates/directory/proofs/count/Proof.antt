@@ -1,0 +1,10 @@
+-- `directory::count` meets its contract: two numbers give a part.
+use Rattle.directory.proofs.PartLaws.{parts-many}
+use Rattle.directory.proofs.count.Statement.{statement}
+use Rattle.directory.proofs.count.Tie as tie
+
+returns : tie.Need-returns
+returns c = search parts-many
+
+pub count-spec : {M : Type 1} → statement M
+count-spec = tie.close (tie.spec returns)
