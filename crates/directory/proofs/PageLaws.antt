@@ -6,10 +6,10 @@ use Prim.Native.Nat.{ℕ, _+_, _-_, _≤_, _<_}
 use native.Mathlib.Omega.{arith}
 use lib.ListN.{length, take, drop, length-map}
 use lib.Seq.{length-take-le}
-use lib.Dec.{leb}
+use lib.Dec.{leb, ltb}
 use borrow.Author.Tests.{lt-ltb, le-ltb, le-leb, lt-leb, leb-true, not-true, not-false}
 use Rattle.lists.proofs.Bools.{and-left, and-right, and-intro}
-use Rattle.rules.specs.Text.{every}
+use Rattle.rules.specs.Text.{if_then_else_, every, granted, refused}
 use Rattle.rules.specs.Meaning as meaning
 use Rattle.rules.specs.Table.{accepted, meaningIn}
 use Rattle.rules.specs.Order.{goodString}
@@ -26,7 +26,7 @@ use Rattle.elements.specs.Firsts.{firstEntries}
 use Rattle.elements.proofs.CutLaws.{good-ready}
 use Rattle.directory.specs.declared.Directed.the-variants.{Done, Refused}
 use Rattle.directory.specs.Answers.{directedIs}
-use Rattle.directory.specs.Pages.{partAt, weightsOf, Named, Ready, Rising, Weighed, Page}
+use Rattle.directory.specs.Pages.{partAt, weightsOf, Named, Ready, Rising, Weighed, Fitting, Page}
 use Rattle.directory.proofs.PartLaws.{slice-is, each-part}
 
 -- ## The rule of the first level
@@ -88,3 +88,135 @@ pub few-enough : (run parts : List ℕ) {n : ℕ} {b : Bool} → n ≡ length (p
     → b ≡ partsFit run (partsOf parts)
 unfolding partsFit
 few-enough run parts e h f = rw (le-leb (length (partsOf parts)) 1000 (omega arith)) f
+
+-- ## A page that is not refused before its headings are weighed
+
+fit-few : (run parts : List ℕ) → partsFit run (partsOf parts) ≡ true → length (partsOf parts) ≤ 1000
+unfolding partsFit
+fit-few run parts e = leb-true (length (partsOf parts)) 1000 (and-left (leb (length (partsOf parts)) 1000) (every (inRun run) (partsOf parts)) e)
+
+fit-inside : (run parts : List ℕ) → partsFit run (partsOf parts) ≡ true → every (inRun run) (partsOf parts) ≡ true
+unfolding partsFit
+fit-inside run parts e = and-right (leb (length (partsOf parts)) 1000) (every (inRun run) (partsOf parts)) e
+
+-- two tests at once: the first fails, or the second decides
+pub first-fails : {a : Bool} (b c : Bool) → a ≡ b → not a ≡ true → false ≡ (b && c)
+first-fails {a} b c e h = rw (← e, not-true a h)
+
+pub second-decides : {a d : Bool} (b c : Bool) → a ≡ b → not a ≡ false → d ≡ c → d ≡ (b && c)
+second-decides {a} b c e h f = rw (← e, not-false a h) f
+
+pub fitting-headings : (run headings topics : List ℕ) → Fitting run headings topics → every (inRun run) (partsOf headings) ≡ true
+fitting-headings run headings topics v = fit-inside run headings (and-left (partsFit run (partsOf headings)) (partsFit run (partsOf topics)) (v .fit))
+
+pub fitting-topics : (run headings topics : List ℕ) → Fitting run headings topics → every (inRun run) (partsOf topics) ≡ true
+fitting-topics run headings topics v = fit-inside run topics (and-right (partsFit run (partsOf headings)) (partsFit run (partsOf topics)) (v .fit))
+
+module _ (t run headings topics : List ℕ) (v : Page t run headings topics) where
+  fitting : Fitting run headings topics
+  fitting = record { fit = v .fit }
+
+  pub headings-ready : (places : List ℕ) → 4096 ≤ length places → Ready t run headings places
+  headings-ready places h = record {
+    checked = v .checked;
+    plain = v .plain;
+    inside = fitting-headings run headings topics fitting;
+    good = and-left (every (goodPart run) (partsOf headings)) (every (goodPart run) (partsOf topics)) (v .good);
+    room = h;
+  }
+
+  pub topics-ready : (places : List ℕ) → 4096 ≤ length places → Ready t run topics places
+  topics-ready places h = record {
+    checked = v .checked;
+    plain = v .plain;
+    inside = fitting-topics run headings topics fitting;
+    good = and-right (every (goodPart run) (partsOf headings)) (every (goodPart run) (partsOf topics)) (v .good);
+    room = h;
+  }
+
+  few-headings : length (partsOf headings) ≤ 1000
+  few-headings = fit-few run headings (and-left (partsFit run (partsOf headings)) (partsFit run (partsOf topics)) (v .fit))
+
+  -- there is room for the weights of the headings
+  pub headings-room : (weights : List ℕ) → 1000 ≤ length weights → length (partsOf headings) ≤ length weights
+  headings-room weights h = omega (arith, few-headings)
+
+  pub headings-count : (weights : List ℕ) {m : ℕ} → 1000 ≤ length weights → m ≡ length (partsOf headings) → m ≤ length weights
+  headings-count weights h e = omega (arith, few-headings)
+
+  -- what is left of the refusals: 15, then 13
+  page-call : (list : List ℕ) → directoryCall t run headings topics list ≡ directedAs
+      (if not (goodHeadings (weightsOf t run headings)) then refused 15 0
+      else if ltb (length list) (length (partsOf topics)) then refused 13 0
+      else granted (map (headingOf (weightsOf t run headings)) (weightsOf t run topics)))
+      list
+  unfolding directoryCall directoryOf
+  page-call list = rw (v .checked, v .plain, v .fit, v .good)
+
+  module _ (list weights : List ℕ) {b : Bool} (w : Weighed t run headings weights b) where
+    pub page-falls : not b ≡ true → directedIs (Refused NotRising) list ≡ directoryCall t run headings topics list
+    unfolding directedAs
+    page-falls e = rw (page-call list, ← w .is, e)
+
+    module _ {n : ℕ} (rises : not b ≡ false) (many : n ≡ length (partsOf topics)) where
+      pub page-short : length list < n → directedIs (Refused NoRoom) list ≡ directoryCall t run headings topics list
+      unfolding directedAs
+      page-short h = rw (page-call list, ← w .is, rises, lt-ltb (length list) (length (partsOf topics)) (omega arith))
+
+      pub page-rising : {m : ℕ} → m ≡ length (partsOf headings) → Rising (take m weights)
+      page-rising {m} e =
+          let yes : b ≡ true = not-false b rises in
+          let kept : take m weights ≡ weightsOf t run headings = rw e (w .kept yes) in
+          record {
+            rise = rw kept (sym (w .is) ∙ yes);
+            few = rw (kept, length-map (partsOf headings) (partWeight (meaningIn t) run)) few-headings;
+          }
+
+      pub page-written : {m : ℕ} {o : List ℕ} → m ≡ length (partsOf headings) → n ≤ length list
+          → o ≡ over (map (headingOf (take m weights)) (weightsOf t run topics)) list
+          → directedIs Done o ≡ directoryCall t run headings topics list
+      unfolding directedAs
+      page-written {m} e h k =
+          let yes : b ≡ true = not-false b rises in
+          let kept : take m weights ≡ weightsOf t run headings = rw e (w .kept yes) in
+          rw (k, kept, page-call list, ← w .is, rises, le-ltb (length list) (length (partsOf topics)) (omega arith))
+
+-- ## The refusals before
+
+module _ (t run headings topics list : List ℕ) {a : Bool} (accepts : a ≡ accepted t) where
+  pub call-unaccepted : not a ≡ true → directedIs (Refused NotAccepted) list ≡ directoryCall t run headings topics list
+  unfolding directoryCall directedAs directoryOf
+  call-unaccepted e = rw (← accepts, e)
+
+  pub call-accepted : not a ≡ false → accepted t ≡ true
+  call-accepted e = sym accepts ∙ not-false a e
+
+  module _ {p : Bool} (yes-table : not a ≡ false) (plains : p ≡ plainFirst (meaningIn t .rules)) where
+    pub call-unplain : not p ≡ true → directedIs (Refused NotPlain) list ≡ directoryCall t run headings topics list
+    unfolding directoryCall directedAs directoryOf
+    call-unplain e = rw (← accepts, yes-table, ← plains, e)
+
+    module _ {f : Bool} (yes-plain : not p ≡ false) (fits : f ≡ (partsFit run (partsOf headings) && partsFit run (partsOf topics))) where
+      pub call-outside : not f ≡ true → directedIs (Refused BadPart) list ≡ directoryCall t run headings topics list
+      unfolding directoryCall directedAs directoryOf
+      call-outside e = rw (← accepts, yes-table, ← plains, yes-plain, ← fits, e)
+
+      module _ {g : Bool} (yes-fits : not f ≡ false) (goods : g ≡ (every (goodPart run) (partsOf headings) && every (goodPart run) (partsOf topics))) where
+        pub call-bad : not g ≡ true → directedIs (Refused BadString) list ≡ directoryCall t run headings topics list
+        unfolding directoryCall directedAs directoryOf
+        call-bad e = rw (← accepts, yes-table, ← plains, yes-plain, ← fits, yes-fits, ← goods, e)
+
+-- ## What holds behind them
+
+passed : {a b : Bool} → a ≡ b → not a ≡ false → b ≡ true
+passed {a} e h = sym e ∙ not-false a h
+
+pub call-fitting : (run headings topics : List ℕ) {f : Bool} → f ≡ (partsFit run (partsOf headings) && partsFit run (partsOf topics)) → not f ≡ false
+    → Fitting run headings topics
+call-fitting run headings topics f f′ = record { fit = passed f f′ }
+
+pub call-page : (t run headings topics : List ℕ) {a p f g : Bool} → a ≡ accepted t → not a ≡ false → p ≡ plainFirst (meaningIn t .rules) → not p ≡ false
+    → f ≡ (partsFit run (partsOf headings) && partsFit run (partsOf topics)) → not f ≡ false
+    → g ≡ (every (goodPart run) (partsOf headings) && every (goodPart run) (partsOf topics)) → not g ≡ false → Page t run headings topics
+call-page t run headings topics a a′ p p′ f f′ g g′ =
+    record { checked = passed a a′; plain = passed p p′; fit = passed f f′; good = passed g g′ }

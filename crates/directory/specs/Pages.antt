@@ -1,6 +1,6 @@
 -- What the parts of a directory ask and give. No public contract cites this file.
 use mathlib.Core.Path.{_≡_}
-use mathlib.Core.Bool.{Bool, true}
+use mathlib.Core.Bool.{Bool, true, _&&_}
 use mathlib.Core.List.{List, map}
 use Prim.Native.Nat.{ℕ, _≤_}
 use lib.ListN.{length, getD, take}
@@ -48,11 +48,13 @@ pub record Weighed (t run headings weights : List ℕ) (r : Bool) : Type 0 where
   pub is : r ≡ goodHeadings (weightsOf t run headings)
   pub kept : r ≡ true → take (length (partsOf headings)) weights ≡ weightsOf t run headings
 
+-- Headings and topics that are not refused by 17.
+pub record Fitting (run headings topics : List ℕ) : Type 0 where
+  pub fit : (partsFit run (partsOf headings) && partsFit run (partsOf topics)) ≡ true
+
 -- A table, headings and topics that are not refused by 11, 16, 17 or 12.
 pub record Page (t run headings topics : List ℕ) : Type 0 where
   pub checked : accepted t ≡ true
   pub plain : plainFirst (meaningIn t .rules) ≡ true
-  pub headings-fit : partsFit run (partsOf headings) ≡ true
-  pub topics-fit : partsFit run (partsOf topics) ≡ true
-  pub headings-good : every (goodPart run) (partsOf headings) ≡ true
-  pub topics-good : every (goodPart run) (partsOf topics) ≡ true
+  pub fit : (partsFit run (partsOf headings) && partsFit run (partsOf topics)) ≡ true
+  pub good : (every (goodPart run) (partsOf headings) && every (goodPart run) (partsOf topics)) ≡ true

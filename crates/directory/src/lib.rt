@@ -11,7 +11,7 @@ ghost use Rattle.rules.specs.Directory.{partsOf, inRun, partsFit, goodPart, par
 ghost use Rattle.elements.specs.Firsts.{leadingAs};
 ghost use Rattle.rules.specs.Calls.{over, directoryCall};
 ghost use Rattle.directory.specs.Answers.{directedIs};
-ghost use Rattle.directory.specs.Pages.{partAs, partAt, Named, Ready, Rising, Weighed, Page};
+ghost use Rattle.directory.specs.Pages.{partAs, partAt, Named, Ready, Rising, Weighed, Fitting, Page};
 use elements::Leading;
 use units::Refusal;
 
@@ -86,6 +86,17 @@ fn fit(run: &[u32], parts: &[u64]) -> bool
     all_inside(run, parts)
 }
 
+// Whether headings and topics do.
+fn both_fit(run: &[u32], headings: &[u64], topics: &[u64]) -> bool
+    ensures { λ r. ⌜ r ≡ (partsFit (now (run .entry)) (partsOf (now (headings .entry))) && partsFit (now (run .entry)) (partsOf (now (topics .entry)))) ⌝ }
+{
+    let first = fit(run, headings);
+    if !first {
+        return false;
+    }
+    fit(run, topics)
+}
+
 // Whether the string of a part is one that no operation refuses.
 fn good(run: &[u32], p: Part) -> bool
     requires { ⌜ inRun (now run) (partAs p) ≡ true ⌝ }
@@ -112,6 +123,18 @@ fn all_good(run: &[u32], parts: &[u64]) -> bool
         i += 1;
     }
     true
+}
+
+// Whether the strings of headings and topics are, which fit.
+fn both_good(run: &[u32], headings: &[u64], topics: &[u64]) -> bool
+    requires { ⌜ Fitting (now run) (now headings) (now topics) ⌝ }
+    ensures { λ r. ⌜ r ≡ (every (goodPart (now (run .entry))) (partsOf (now (headings .entry))) && every (goodPart (now (run .entry))) (partsOf (now (topics .entry)))) ⌝ }
+{
+    let first = all_good(run, headings);
+    if !first {
+        return false;
+    }
+    all_good(run, topics)
 }
 
 // A first weight as a number: 0 where there is none, since no weight is 0.
@@ -284,20 +307,12 @@ pub fn directory(
     if !forward {
         return Directed::Refused(Refusal::NotPlain);
     }
-    let first_fit = fit(run, headings);
-    if !first_fit {
+    let fits = both_fit(run, headings, topics);
+    if !fits {
         return Directed::Refused(Refusal::BadPart);
     }
-    let second_fit = fit(run, topics);
-    if !second_fit {
-        return Directed::Refused(Refusal::BadPart);
-    }
-    let first_good = all_good(run, headings);
-    if !first_good {
-        return Directed::Refused(Refusal::BadString);
-    }
-    let second_good = all_good(run, topics);
-    if !second_good {
+    let good = both_good(run, headings, topics);
+    if !good {
         return Directed::Refused(Refusal::BadString);
     }
     list_page(t, run, headings, topics, list)
