@@ -6,6 +6,8 @@ use Prim.Native.Nat.{ℕ, zero, suc, _+_, _-_, _/_, _≤_, _<_}
 use native.Mathlib.Numerals.{add-one}
 use native.Mathlib.Nat.{le-of-suc-le-suc}
 use native.Mathlib.Omega.{arith}
+use mir.Syntax.{w32}
+use mir.Val.{Fits}
 use lib.ListN.{length, getD, take, drop, set, length-set, length-map, drop-of-length-le}
 use lib.Seq.{take-all, take-suc, drop-cons, take-suc-set}
 use lib.Dec.{ltb}
@@ -120,8 +122,10 @@ module _ {ws : List ℕ} {w lo hi : ℕ} (v : Halving ws w lo hi) where
             e ∙ sym (heading-last ws w k (omega arith) l b (rw (here, e) at (v .above)))
 
 -- a heading's number is small
-pub heading-few : (ws : List ℕ) (w : ℕ) {h : ℕ} → Rising ws → h ≡ headingOf ws w → h ≤ 1000
-heading-few ws w r e = omega (arith, e, heading-most ws w, r .few)
+pub heading-fits : (ws : List ℕ) (w : ℕ) {h : ℕ} → Rising ws → h ≡ headingOf ws w → Fits w32 h
+heading-fits ws w {h} r e =
+    let b : h ≤ 1000 = rw e (let m = heading-most ws w in omega (arith, r .few)) in
+    omega arith
 
 -- ## The first weights of parts
 

@@ -2,7 +2,7 @@
 use Prim.Native.Nat.{_-_}
 use borrow.Author.Needs.{needs}
 use native.Mathlib.Omega.{arith}
-use Rattle.directory.proofs.HeadingLaws.{heading-few, Listing, listing-none, listing-more, listing-all}
+use Rattle.directory.proofs.HeadingLaws.{heading-fits, Listing, listing-none, listing-more, listing-all}
 use Rattle.directory.proofs.write.Statement.{statement}
 use Rattle.directory.proofs.write.Tie as tie
 
@@ -25,7 +25,7 @@ heading-requires : tie.Need-heading-requires Inv-loop μ-loop
 heading-requires c κs = search needs
 
 cast-list : tie.Need-cast-list Inv-loop μ-loop
-cast-list c = search heading-few
+cast-list c = search heading-fits
 
 mul-list : tie.Need-mul-list Inv-loop μ-loop
 mul-list c = search needs
