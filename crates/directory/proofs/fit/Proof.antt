@@ -1,27 +1,20 @@
-use native.Mathlib.Omega.{arith}
+-- `directory::fit` meets its contract.
+use Rattle.directory.proofs.PageLaws.{too-many, few-enough}
 use borrow.Author.Needs.{needs}
 use Rattle.directory.proofs.fit.Statement.{statement}
 use Rattle.directory.proofs.fit.Tie as tie
-use Rattle.directory.proofs.fit.Reads as reads
-use Rattle.directory.proofs.fit.Lts as lts
-use Rattle.directory.proofs.all_inside.Reads as all-inside-reads
-use Rattle.directory.proofs.count.Reads as count-reads
 
--- src/lib.rt:82:9
 count-requires : tie.Need-count-requires
 count-requires c κs = search needs
 
--- src/lib.rt:84:9
 returns : tie.Need-returns
-returns c = search needs
+returns c = search too-many
 
--- src/lib.rt:86:5
 all-inside-requires : tie.Need-all-inside-requires
 all-inside-requires c κs = search needs
 
--- src/lib.rt:79:1
 returns-2 : tie.Need-returns-2
-returns-2 c = search needs
+returns-2 c = search few-enough
 
 pub fit-spec : {M : Type 1} → statement M
 fit-spec = tie.close (tie.spec count-requires returns all-inside-requires returns-2)
