@@ -1,7 +1,7 @@
 -- The headings: their weights kept as far as they rise, a topic's heading found by halving, and the list written.
 use mathlib.Core.Path.{_≡_, refl, sym, ap, _∙_}
 use mathlib.Core.Bool.{Bool, true, false, _&&_, false≢true}
-use mathlib.Core.List.{List, [], _∷_, _++_, map}
+use mathlib.Core.List.{List, [], _∷_, map}
 use Prim.Native.Nat.{ℕ, zero, suc, _+_, _-_, _/_, _≤_, _<_}
 use native.Mathlib.Numerals.{add-one}
 use native.Mathlib.Nat.{le-of-suc-le-suc}
@@ -15,7 +15,7 @@ use borrow.Author.Tests.{ltb-true, lt-ltb, le-ltb}
 use Rattle.lists.proofs.Bools.{by, and-left, and-right, and-intro}
 use Rattle.rules.specs.Text.{every}
 use Rattle.rules.specs.Table.{meaningIn}
-use Rattle.rules.specs.Directory.{Part, part, partsOf, partWeight, rising, goodHeadings, headingOf}
+use Rattle.rules.specs.Directory.{part, partsOf, partWeight, rising, goodHeadings, headingOf}
 use Rattle.rules.specs.Calls.{over}
 use Rattle.rules.proofs.DirectoryLaws.{Above, heading-before, heading-last, heading-most, rising-from}
 use Rattle.rules.proofs.PutLaws.{Putting, putting-none, putting-more, putting-all}

@@ -1,7 +1,6 @@
 -- `directory::write` meets its contract. The loop's invariant: the headings of the topics before i are written, and the rest of the list is as it was. The measure is how many topics are left.
 use Prim.Native.Nat.{_-_}
 use borrow.Author.Needs.{needs}
-use native.Mathlib.Omega.{arith}
 use Rattle.directory.proofs.HeadingLaws.{heading-fits, Listing, listing-none, listing-more, listing-all}
 use Rattle.directory.proofs.write.Statement.{statement}
 use Rattle.directory.proofs.write.Tie as tie
