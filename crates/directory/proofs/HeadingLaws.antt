@@ -1,11 +1,13 @@
 -- The headings: their weights kept as far as they rise, a topic's heading found by halving, and the list written.
 use mathlib.Core.Path.{_≡_, refl, sym, ap, _∙_}
 use mathlib.Core.Bool.{Bool, true, false, _&&_, false≢true}
-use mathlib.Core.List.{List, [], _∷_, _++_, map}
+use mathlib.Core.List.{List, [], _∷_, map}
 use Prim.Native.Nat.{ℕ, zero, suc, _+_, _-_, _/_, _≤_, _<_}
 use native.Mathlib.Numerals.{add-one}
 use native.Mathlib.Nat.{le-of-suc-le-suc}
 use native.Mathlib.Omega.{arith}
+use mir.Syntax.{w32}
+use mir.Val.{Fits}
 use lib.ListN.{length, getD, take, drop, set, length-set, length-map, drop-of-length-le}
 use lib.Seq.{take-all, take-suc, drop-cons, take-suc-set}
 use lib.Dec.{ltb}
@@ -13,7 +15,7 @@ use borrow.Author.Tests.{ltb-true, lt-ltb, le-ltb}
 use Rattle.lists.proofs.Bools.{by, and-left, and-right, and-intro}
 use Rattle.rules.specs.Text.{every}
 use Rattle.rules.specs.Table.{meaningIn}
-use Rattle.rules.specs.Directory.{Part, part, partsOf, partWeight, rising, goodHeadings, headingOf}
+use Rattle.rules.specs.Directory.{part, partsOf, partWeight, rising, goodHeadings, headingOf}
 use Rattle.rules.specs.Calls.{over}
 use Rattle.rules.proofs.DirectoryLaws.{Above, heading-before, heading-last, heading-most, rising-from}
 use Rattle.rules.proofs.PutLaws.{Putting, putting-none, putting-more, putting-all}
@@ -120,8 +122,10 @@ module _ {ws : List ℕ} {w lo hi : ℕ} (v : Halving ws w lo hi) where
             e ∙ sym (heading-last ws w k (omega arith) l b (rw (here, e) at (v .above)))
 
 -- a heading's number is small
-pub heading-few : (ws : List ℕ) (w : ℕ) {h : ℕ} → Rising ws → h ≡ headingOf ws w → h ≤ 1000
-heading-few ws w r e = omega (arith, e, heading-most ws w, r .few)
+pub heading-fits : (ws : List ℕ) (w : ℕ) {h : ℕ} → Rising ws → h ≡ headingOf ws w → Fits w32 h
+heading-fits ws w {h} r e =
+    let b : h ≤ 1000 = rw e (let m = heading-most ws w in omega (arith, r .few)) in
+    omega arith
 
 -- ## The first weights of parts
 

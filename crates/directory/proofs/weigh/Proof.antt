@@ -1,7 +1,6 @@
 -- `directory::weigh` meets its contract. The loop's invariant: the weights before i are kept and rise up to the last of them, so that those from i on decide. The measure is how many headings are left.
 use Prim.Native.Nat.{_-_}
 use borrow.Author.Needs.{needs}
-use native.Mathlib.Omega.{arith}
 use Rattle.directory.proofs.HeadingLaws.{Weighing, weighing-none, weighing-no, weighing-more, weighing-all}
 use Rattle.directory.proofs.weigh.Statement.{statement}
 use Rattle.directory.proofs.weigh.Tie as tie

@@ -1,8 +1,7 @@
 -- `directory::write` meets its contract. The loop's invariant: the headings of the topics before i are written, and the rest of the list is as it was. The measure is how many topics are left.
 use Prim.Native.Nat.{_-_}
 use borrow.Author.Needs.{needs}
-use native.Mathlib.Omega.{arith}
-use Rattle.directory.proofs.HeadingLaws.{heading-few, Listing, listing-none, listing-more, listing-all}
+use Rattle.directory.proofs.HeadingLaws.{heading-fits, Listing, listing-none, listing-more, listing-all}
 use Rattle.directory.proofs.write.Statement.{statement}
 use Rattle.directory.proofs.write.Tie as tie
 
@@ -25,7 +24,7 @@ heading-requires : tie.Need-heading-requires Inv-loop μ-loop
 heading-requires c κs = search needs
 
 cast-list : tie.Need-cast-list Inv-loop μ-loop
-cast-list c = search heading-few
+cast-list c = search heading-fits
 
 mul-list : tie.Need-mul-list Inv-loop μ-loop
 mul-list c = search needs
