@@ -26,7 +26,7 @@ use Rattle.elements.specs.Firsts.{firstEntries}
 use Rattle.elements.proofs.CutLaws.{good-ready}
 use Rattle.directory.specs.declared.Directed.the-variants.{Done, Refused}
 use Rattle.directory.specs.Answers.{directedIs}
-use Rattle.directory.specs.Pages.{partAt, weightsOf, Named, Ready, Rising, Weighed, Fitting, Page}
+use Rattle.directory.specs.Pages.{partAt, weightsOf, Named, Ready, Rising, Weighed, Fitting, Page, Ranked}
 use Rattle.directory.proofs.PartLaws.{slice-is, each-part}
 
 -- ## The rule of the first level
@@ -141,9 +141,6 @@ module _ (t run headings topics : List ℕ) (v : Page t run headings topics) whe
   pub headings-room : (weights : List ℕ) → 1000 ≤ length weights → length (partsOf headings) ≤ length weights
   headings-room weights h = omega (arith, few-headings)
 
-  pub headings-count : (weights : List ℕ) {m : ℕ} → 1000 ≤ length weights → m ≡ length (partsOf headings) → m ≤ length weights
-  headings-count weights h e = omega (arith, few-headings)
-
   -- what is left of the refusals: 15, then 13
   page-call : (list : List ℕ) → directoryCall t run headings topics list ≡ directedAs
       (if not (goodHeadings (weightsOf t run headings)) then refused 15 0
@@ -153,33 +150,57 @@ module _ (t run headings topics : List ℕ) (v : Page t run headings topics) whe
   unfolding directoryCall directoryOf
   page-call list = rw (v .checked, v .plain, v .fit, v .good)
 
-  module _ (list weights : List ℕ) {b : Bool} (w : Weighed t run headings weights b) where
-    pub page-falls : not b ≡ true → directedIs (Refused NotRising) list ≡ directoryCall t run headings topics list
+  module _ (weights : List ℕ) {b : Bool} (w : Weighed t run headings weights b) where
+    pub page-falls : (list : List ℕ) → not b ≡ true → directedIs (Refused NotRising) list ≡ directoryCall t run headings topics list
     unfolding directedAs
-    page-falls e = rw (page-call list, ← w .is, e)
+    page-falls list e = rw (page-call list, ← w .is, e)
 
-    module _ {n : ℕ} (rises : not b ≡ false) (many : n ≡ length (partsOf topics)) where
-      pub page-short : length list < n → directedIs (Refused NoRoom) list ≡ directoryCall t run headings topics list
-      unfolding directedAs
-      page-short h = rw (page-call list, ← w .is, rises, lt-ltb (length list) (length (partsOf topics)) (omega arith))
+    pub page-ranked : (places places₀ weights₀ : List ℕ) → not b ≡ false → (4096 ≤ length places₀) × (1000 ≤ length weights₀)
+        → length places ≡ length places₀ → length weights ≡ length weights₀ → Ranked t run headings topics places weights
+    page-ranked places places₀ weights₀ rises r d e =
+        let yes : b ≡ true = not-false b rises in
+        record {
+          page = v;
+          kept = w .kept yes;
+          rise = sym (w .is) ∙ yes;
+          places-room = omega (arith, r .0);
+          weights-room = omega (arith, r .1);
+        }
 
-      pub page-rising : {m : ℕ} → m ≡ length (partsOf headings) → Rising (take m weights)
-      page-rising {m} e =
-          let yes : b ≡ true = not-false b rises in
-          let kept : take m weights ≡ weightsOf t run headings = rw e (w .kept yes) in
-          record {
-            rise = rw kept (sym (w .is) ∙ yes);
-            few = rw (kept, length-map (partsOf headings) (partWeight (meaningIn t) run)) few-headings;
-          }
+-- ## A page whose headings rise
 
-      pub page-written : {m : ℕ} {o : List ℕ} → m ≡ length (partsOf headings) → n ≤ length list
-          → o ≡ over (map (headingOf (take m weights)) (weightsOf t run topics)) list
-          → directedIs Done o ≡ directoryCall t run headings topics list
-      unfolding directedAs
-      page-written {m} e h k =
-          let yes : b ≡ true = not-false b rises in
-          let kept : take m weights ≡ weightsOf t run headings = rw e (w .kept yes) in
-          rw (k, kept, page-call list, ← w .is, rises, le-ltb (length list) (length (partsOf topics)) (omega arith))
+module _ (t run headings topics places weights : List ℕ) (v : Ranked t run headings topics places weights) where
+  ranked-call : (list : List ℕ) → directoryCall t run headings topics list ≡ directedAs
+      (if ltb (length list) (length (partsOf topics)) then refused 13 0
+      else granted (map (headingOf (weightsOf t run headings)) (weightsOf t run topics)))
+      list
+  ranked-call list = page-call t run headings topics (v .page) list ∙ rw (v .rise)
+
+  pub ranked-short : (list : List ℕ) {n : ℕ} → n ≡ length (partsOf topics) → length list < n
+      → directedIs (Refused NoRoom) list ≡ directoryCall t run headings topics list
+  unfolding directedAs
+  ranked-short list e h = rw (ranked-call list, lt-ltb (length list) (length (partsOf topics)) (omega arith))
+
+  pub ranked-ready : Ready t run topics places
+  ranked-ready = topics-ready t run headings topics (v .page) places (v .places-room)
+
+  module _ {m : ℕ} (many : m ≡ length (partsOf headings)) where
+    pub ranked-count : m ≡ length (take m weights)
+    ranked-count = sym (length-take-le m weights (omega (arith, headings-room t run headings topics (v .page) weights (v .weights-room))))
+
+    ranked-kept : take m weights ≡ weightsOf t run headings
+    ranked-kept = rw many (v .kept)
+
+    pub ranked-rising : Rising (take m weights)
+    ranked-rising = record {
+      rise = rw ranked-kept (v .rise);
+      few = rw (ranked-kept, length-map (partsOf headings) (partWeight (meaningIn t) run)) (few-headings t run headings topics (v .page));
+    }
+
+    pub ranked-written : (list : List ℕ) {n : ℕ} {o : List ℕ} → n ≡ length (partsOf topics) → n ≤ length list
+        → o ≡ over (map (headingOf (take m weights)) (weightsOf t run topics)) list → directedIs Done o ≡ directoryCall t run headings topics list
+    unfolding directedAs
+    ranked-written list e h k = rw (k, ranked-kept, ranked-call list, le-ltb (length list) (length (partsOf topics)) (omega arith))
 
 -- ## The refusals before
 

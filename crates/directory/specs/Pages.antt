@@ -58,3 +58,11 @@ pub record Page (t run headings topics : List ℕ) : Type 0 where
   pub plain : plainFirst (meaningIn t .rules) ≡ true
   pub fit : (partsFit run (partsOf headings) && partsFit run (partsOf topics)) ≡ true
   pub good : (every (goodPart run) (partsOf headings) && every (goodPart run) (partsOf topics)) ≡ true
+
+-- A page whose headings rise, with their weights in front.
+pub record Ranked (t run headings topics places weights : List ℕ) : Type 0 where
+  pub page : Page t run headings topics
+  pub kept : take (length (partsOf headings)) weights ≡ weightsOf t run headings
+  pub rise : goodHeadings (weightsOf t run headings) ≡ true
+  pub places-room : 4096 ≤ length places
+  pub weights-room : 1000 ≤ length weights

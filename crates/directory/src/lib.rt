@@ -11,7 +11,7 @@ ghost use Rattle.rules.specs.Directory.{partsOf, inRun, partsFit, goodPart, par
 ghost use Rattle.elements.specs.Firsts.{leadingAs};
 ghost use Rattle.rules.specs.Calls.{over, directoryCall};
 ghost use Rattle.directory.specs.Answers.{directedIs};
-ghost use Rattle.directory.specs.Pages.{partAs, partAt, Named, Ready, Rising, Weighed, Fitting, Page};
+ghost use Rattle.directory.specs.Pages.{partAs, partAt, Named, Ready, Rising, Weighed, Fitting, Page, Ranked};
 use elements::Leading;
 use units::Refusal;
 
@@ -231,8 +231,29 @@ fn write(
     }
 }
 
-// The heading of each topic, written to the front of the list, where the headings rise and the list is long enough; with room for the places
-// of a string's elements and for the headings' weights.
+// The list, where it is long enough, of a page whose headings' weights stand in front of `weights`.
+fn list_ranked(
+    t: &[u32],
+    run: &[u32],
+    headings: &[u64],
+    topics: &[u64],
+    list: &mut [u32],
+    places: &mut [u32],
+    weights: &[u32],
+) -> Directed
+    requires { ⌜ Ranked (now t) (now run) (now headings) (now topics) (now places) (now weights) ⌝ }
+    ensures { λ r. ⌜ directedIs r (now (list .exit)) ≡ directoryCall (now (t .entry)) (now (run .entry)) (now (headings .entry)) (now (topics .entry)) (now (list .entry)) ⌝ }
+{
+    let n = count(topics);
+    if list.len() < n {
+        return Directed::Refused(Refusal::NoRoom);
+    }
+    let m = count(headings);
+    write(t, run, topics, places, &weights[..m], list);
+    Directed::Done
+}
+
+// The list of a page, where its headings rise, with room for the places of a string's elements and for the headings' weights.
 fn list_within(
     t: &[u32],
     run: &[u32],
@@ -250,13 +271,7 @@ fn list_within(
     if !rise {
         return Directed::Refused(Refusal::NotRising);
     }
-    let n = count(topics);
-    if list.len() < n {
-        return Directed::Refused(Refusal::NoRoom);
-    }
-    let m = count(headings);
-    write(t, run, topics, places, &weights[..m], list);
-    Directed::Done
+    list_ranked(t, run, headings, topics, list, places, weights)
 }
 
 // The same with room of its own.
