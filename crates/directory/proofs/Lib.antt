@@ -1,3 +1,4 @@
 pub mod PartLaws
 pub mod HeadingLaws
 pub mod PageLaws
+pub mod AnswerLaws

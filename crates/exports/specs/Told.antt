@@ -3,7 +3,7 @@ use mathlib.Core.Path.{_≡_}
 use mathlib.Core.List.{List, [], _∷_}
 use Prim.Native.Nat.{ℕ}
 use Rattle.rules.specs.Order as order
-use Rattle.rules.specs.Calls.{Checked, Stepped, Compared, Written, Mapped, Compiled}
+use Rattle.rules.specs.Calls.{Checked, Stepped, Compared, Written, Mapped, Compiled, Directed}
 
 -- ## The array lent for the answer
 
@@ -56,3 +56,8 @@ pub record CompiledIs (c : Compiled) (array array₁ area₁ work₁ : List ℕ)
   pub answer : array₁ ≡ told (compiledNumbers c) array
   pub area : area₁ ≡ c .area
   pub work : work₁ ≡ c .work
+
+-- of a directory, whose refusal is returned
+pub record DirectedIs (d : Directed) (refusal : ℕ) (list₁ : List ℕ) : Type 0 where
+  pub returned : refusal ≡ d .refusal
+  pub list : list₁ ≡ d .list

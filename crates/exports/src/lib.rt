@@ -3,13 +3,14 @@
 ghost use mathlib.Core.Path.{_≡_};
 ghost use mathlib.Core.List.{[], _∷_};
 ghost use lib.ListN.{set};
-ghost use Rattle.rules.specs.Calls.{compileCall, checkCall, stepCall, compareCall, keyCall, charmapCall, areaCall, decodeCall, encodeCall};
+ghost use Rattle.rules.specs.Calls.{compileCall, checkCall, stepCall, compareCall, keyCall, charmapCall, areaCall, decodeCall, encodeCall, directoryCall};
 ghost use Rattle.units.specs.Numbers.{numberOf, signOf};
-ghost use Rattle.exports.specs.Told.{told, signNumber, checkedNumbers, steppedNumbers, comparedNumbers, WrittenIs, MappedIs, CompiledIs};
+ghost use Rattle.exports.specs.Told.{told, signNumber, checkedNumbers, steppedNumbers, comparedNumbers, WrittenIs, MappedIs, CompiledIs, DirectedIs};
 use charmap::Mapped;
 use coding::AreaVerdict;
 use coding::Coded;
 use compile::Compiled;
+use directory::Directed;
 use keys::Keyed;
 use order::Comparison;
 use order::Stepping;
@@ -223,5 +224,23 @@ pub extern "C" fn zeharmeku_encode(
         Coded::Refused(r) => {
             tell_two(answer, number(r), 0);
         }
+    }
+}
+
+// The heading of each topic of a page, in front of the list: the refusal, 0 for none.
+#[no_mangle]
+pub extern "C" fn zeharmeku_directory(
+    table: &[u32],
+    run: &[u32],
+    headings: &[u64],
+    topics: &[u64],
+    list: &mut [u32],
+) -> u32
+    ensures { λ r. ⌜ DirectedIs (directoryCall (now (table .entry)) (now (run .entry)) (now (headings .entry)) (now (topics .entry)) (now (list .entry))) r (now (list .exit)) ⌝ }
+{
+    let d = directory::directory(table, run, headings, topics, list);
+    match d {
+        Directed::Done => 0,
+        Directed::Refused(r) => number_of(r),
     }
 }
