@@ -39,7 +39,10 @@ use Rattle.coding.proofs.decode.Met as decode-thm
 use Rattle.coding.proofs.encode as encode
 use Rattle.coding.proofs.encode.Symbol as encode-code
 use Rattle.coding.proofs.encode.Met as encode-thm
-use Rattle.demands.specs.Answered.{Compiles, Checks, Steps, Compares, Keys, Reads, ChecksArea, Decodes, Encodes}
+use Rattle.directory.proofs.directory as directory
+use Rattle.directory.proofs.directory.Symbol as directory-code
+use Rattle.directory.proofs.directory.Met as directory-thm
+use Rattle.demands.specs.Answered.{Compiles, Checks, Steps, Compares, Keys, Reads, ChecksArea, Decodes, Encodes, Directs}
 
 module _ {M : Type 1} (𝓤 : URA M) (H : Heap 𝓤) (𝓜 : Model 𝓤 H) (𝓖 : GhostRules 𝓤 H) (𝓡 : Running 𝓤 H 𝓜) where
   -- asks nothing, and promises this of the parameters at entry, the answer and the parameters at exit
@@ -84,3 +87,7 @@ module _ {M : Type 1} (𝓤 : URA M) (H : Heap 𝓤) (𝓜 : Model 𝓤 H) (𝓖
   pub encode-meets : Meets 𝓤 H (𝓖 .A) (encode.ended .signature) (𝓡 .run encode-code.routine)
       (promises encode.ended (λ κs a r e. Encodes (now (a .0)) (now (a .1 .0)) (now (a .1 .1 .0)) r (now (e .1 .1 .0))))
   encode-meets = encode-thm.met 𝓤 H 𝓜 𝓖 𝓡
+
+  pub directory-meets : Meets 𝓤 H (𝓖 .A) (directory.ended .signature) (𝓡 .run directory-code.routine)
+      (promises directory.ended (λ κs a r e. Directs (now (a .0)) (now (a .1 .0)) (now (a .1 .1 .0)) (now (a .1 .1 .1 .0)) (now (a .1 .1 .1 .1 .0)) r (now (e .1 .1 .1 .1 .0))))
+  directory-meets = directory-thm.met 𝓤 H 𝓜 𝓖 𝓡

@@ -10,8 +10,8 @@ use contract.Running.{GhostRules, Running}
 use denote.Ref.{now}
 use denote.Triple.Spec.{Meets}
 use Rattle.rules.specs.Calls as calls
-use Rattle.rules.specs.Calls.{compileCall, checkCall, stepCall, compareCall, keyCall, charmapCall, areaCall, decodeCall, encodeCall}
-use Rattle.exports.specs.Told.{told, checkedNumbers, steppedNumbers, comparedNumbers, WrittenIs, MappedIs, CompiledIs}
+use Rattle.rules.specs.Calls.{compileCall, checkCall, stepCall, compareCall, keyCall, charmapCall, areaCall, decodeCall, encodeCall, directoryCall}
+use Rattle.exports.specs.Told.{told, checkedNumbers, steppedNumbers, comparedNumbers, WrittenIs, MappedIs, CompiledIs, DirectedIs}
 use Rattle.exports.proofs.zeharmeku_compile as compile
 use Rattle.exports.proofs.zeharmeku_compile.Symbol as compile-code
 use Rattle.exports.proofs.zeharmeku_compile.Met as compile-thm
@@ -39,10 +39,14 @@ use Rattle.exports.proofs.zeharmeku_decode.Met as decode-thm
 use Rattle.exports.proofs.zeharmeku_encode as encode
 use Rattle.exports.proofs.zeharmeku_encode.Symbol as encode-code
 use Rattle.exports.proofs.zeharmeku_encode.Met as encode-thm
+use Rattle.exports.proofs.zeharmeku_directory as directory
+use Rattle.exports.proofs.zeharmeku_directory.Symbol as directory-code
+use Rattle.exports.proofs.zeharmeku_directory.Met as directory-thm
 use Rattle.demands.proofs.Contracts.{promises}
 
 module _ {M : Type 1} (𝓤 : URA M) (H : Heap 𝓤) (𝓜 : Model 𝓤 H) (𝓖 : GhostRules 𝓤 H) (𝓡 : Running 𝓤 H 𝓜) where
-  -- In each of them a holds the parameters at entry, e those at exit, in the order of the signature; the last of them is the array for the answer.
+  -- In each of them a holds the parameters at entry, e those at exit, in the order of the signature; the last of them is the array for the
+  -- answer, but for area and directory, which return their refusal.
 
   pub compile-exported : Meets 𝓤 H (𝓖 .A) (compile.ended .signature) (𝓡 .run compile-code.routine)
       (promises 𝓤 H 𝓜 𝓖 𝓡 compile.ended (λ κs a r e. CompiledIs (compileCall (now (a .0)) (now (a .1 .0)) (now (a .1 .1 .0))) (now (a .1 .1 .1 .0)) (now (e .1 .1 .1 .0)) (now (e .1 .0)) (now (e .1 .1 .0))))
@@ -80,6 +84,10 @@ module _ {M : Type 1} (𝓤 : URA M) (H : Heap 𝓤) (𝓜 : Model 𝓤 H) (𝓖
       (promises 𝓤 H 𝓜 𝓖 𝓡 encode.ended (λ κs a r e. WrittenIs (encodeCall (now (a .0)) (now (a .1 .0)) (now (a .1 .1 .0))) (now (a .1 .1 .1 .0)) (now (e .1 .1 .1 .0)) (now (e .1 .1 .0))))
   encode-exported = encode-thm.met 𝓤 H 𝓜 𝓖 𝓡
 
+  pub directory-exported : Meets 𝓤 H (𝓖 .A) (directory.ended .signature) (𝓡 .run directory-code.routine)
+      (promises 𝓤 H 𝓜 𝓖 𝓡 directory.ended (λ κs a r e. DirectedIs (directoryCall (now (a .0)) (now (a .1 .0)) (now (a .1 .1 .0)) (now (a .1 .1 .1 .0)) (now (a .1 .1 .1 .1 .0))) r (now (e .1 .1 .1 .1 .0))))
+  directory-exported = directory-thm.met 𝓤 H 𝓜 𝓖 𝓡
+
 -- ## No second answer, of those that leave areas
 
 pub one-compiled : {c : calls.Compiled} {array array₁ array₂ area₁ area₂ work₁ work₂ : List ℕ} → CompiledIs c array array₁ area₁ work₁
@@ -93,3 +101,6 @@ one-written x y = (x .answer ∙ sym (y .answer), x .room ∙ sym (y .room))
 pub one-mapped : {m : calls.Mapped} {array array₁ array₂ area₁ area₂ : List ℕ} → MappedIs m array array₁ area₁ → MappedIs m array array₂ area₂
     → (array₁ ≡ array₂) × (area₁ ≡ area₂)
 one-mapped x y = (x .answer ∙ sym (y .answer), x .area ∙ sym (y .area))
+
+pub one-directed : {d : calls.Directed} {r s : ℕ} {list₁ list₂ : List ℕ} → DirectedIs d r list₁ → DirectedIs d s list₂ → (r ≡ s) × (list₁ ≡ list₂)
+one-directed x y = (x .returned ∙ sym (y .returned), x .list ∙ sym (y .list))

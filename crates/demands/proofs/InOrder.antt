@@ -18,8 +18,9 @@ use Rattle.rules.specs.Order.{goodString, keyOf}
 use Rattle.rules.specs.Table.{accepted, meaningIn}
 use Rattle.rules.specs.Charmap.{MapEnded, mapStart, mapLinesFrom, charmapOf}
 use Rattle.rules.specs.Coding.{areaAccepted, codeAt, byteAt, decodeOf, encodeOf}
+use Rattle.rules.specs.Directory.{partsOf, partsFit, goodPart, partWeight, plainFirst, goodHeadings, directoryOf}
 use Rattle.rules.specs.Calls as calls
-use Rattle.rules.specs.Calls.{compiledAs, compileCall, checkCall, stepCall, compareCall, keyFor, keyCall, writtenAs, mappedAs, charmapCall, areaCall, decodeCall, encodeCall}
+use Rattle.rules.specs.Calls.{compiledAs, compileCall, checkCall, stepCall, compareCall, keyFor, keyCall, writtenAs, mappedAs, charmapCall, areaCall, decodeCall, encodeCall, directedAs, directoryCall}
 use Rattle.compile.specs.Answers.{toldAs}
 use Rattle.compile.specs.declared.Compiled.{Compiled}
 use Rattle.table.specs.Answers.{checkedAs}
@@ -34,7 +35,9 @@ use Rattle.charmap.specs.declared.Mapped.{Mapped}
 use Rattle.coding.specs.Answers.{numberIs, writtenIs}
 use Rattle.coding.specs.declared.AreaVerdict.{AreaVerdict}
 use Rattle.coding.specs.declared.Coded.{Coded}
-use Rattle.demands.specs.Answered.{Compiles, Checks, Steps, Compares, Keys, Reads, ChecksArea, Decodes, Encodes, firstGiven}
+use Rattle.directory.specs.Answers.{directedIs}
+use Rattle.directory.specs.declared.Directed.{Directed}
+use Rattle.demands.specs.Answered.{Compiles, Checks, Steps, Compares, Keys, Reads, ChecksArea, Decodes, Encodes, Directs, firstGiven}
 
 -- the two ways to say that n is not above m
 not-above : (n m : ℕ) → leb n m ≡ not (ltb m n)
@@ -188,3 +191,37 @@ compile-line src area work r area₁ work₁ h =
     (λ k. rw (p, q, k)))
     (λ q. rw (p, q)))
     (λ p. rw p)
+
+-- ## The directory
+
+-- 02, K2: "Refusals, in this order", each over all headings, then all topics
+pub directory-refusal : (t run headings topics list : List ℕ) (r : Directed) (list₁ : List ℕ) → Directs t run headings topics list r list₁
+    → directedIs r list₁ .refusal ≡ firstGiven
+    ( 11 unless accepted t
+    ∷ 16 unless plainFirst (meaningIn t .rules)
+    ∷ 17 unless partsFit run (partsOf headings)
+    ∷ 17 unless partsFit run (partsOf topics)
+    ∷ 12 unless every (goodPart run) (partsOf headings)
+    ∷ 12 unless every (goodPart run) (partsOf topics)
+    ∷ 15 unless goodHeadings (map (partWeight (meaningIn t) run) (partsOf headings))
+    ∷ 13 unless leb (length (partsOf topics)) (length list)
+    ∷ [])
+unfolding directoryCall directoryOf directedAs firstGiven
+directory-refusal t run headings topics list r list₁ e =
+    ap (λ (c : calls.Directed). c .refusal) e
+    ∙ rw (not-above (length (partsOf topics)) (length list))
+    (by (accepted t)
+    (λ a. by (plainFirst (meaningIn t .rules))
+    (λ b. by (partsFit run (partsOf headings))
+    (λ c. by (partsFit run (partsOf topics))
+    (λ d. by (every (goodPart run) (partsOf headings))
+    (λ f. by (every (goodPart run) (partsOf topics))
+    (λ g. by (goodHeadings (map (partWeight (meaningIn t) run) (partsOf headings)))
+    (λ h. by (ltb (length list) (length (partsOf topics))) (λ i. rw (a, b, c, d, f, g, h, i)) (λ i. rw (a, b, c, d, f, g, h, i)))
+    (λ h. rw (a, b, c, d, f, g, h)))
+    (λ g. rw (a, b, c, d, f, g)))
+    (λ f. rw (a, b, c, d, f)))
+    (λ d. rw (a, b, c, d)))
+    (λ c. rw (a, b, c)))
+    (λ b. rw (a, b)))
+    (λ a. rw a))

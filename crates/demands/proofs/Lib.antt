@@ -7,3 +7,4 @@ pub mod BadTables
 pub mod Meant
 pub mod Charmaps
 pub mod OneOrder
+pub mod Pages

@@ -16,7 +16,9 @@ use Rattle.charmap.proofs.AnswerLaws.{readAs-unique}
 use Rattle.coding.specs.declared.AreaVerdict.{AreaVerdict}
 use Rattle.coding.specs.declared.Coded.{Coded}
 use Rattle.coding.proofs.AnswerLaws.{numberIs-unique, writtenIs-unique}
-use Rattle.demands.specs.Answered.{Compiles, Checks, Steps, Compares, Keys, Reads, ChecksArea, Decodes, Encodes}
+use Rattle.directory.specs.declared.Directed.{Directed}
+use Rattle.directory.proofs.AnswerLaws.{directedIs-unique}
+use Rattle.demands.specs.Answered.{Compiles, Checks, Steps, Compares, Keys, Reads, ChecksArea, Decodes, Encodes, Directs}
 
 pub one-compile : (src area work : List ℕ) (x y : Compiled) (a b v w : List ℕ) → Compiles src area work x a v → Compiles src area work y b w
     → (x ≡ y) × (a ≡ b) × (v ≡ w)
@@ -45,3 +47,7 @@ one-decode area bs room x y a b e f = writtenIs-unique x y a b (e ∙ sym f)
 
 pub one-encode : (area s room : List ℕ) (x y : Coded) (a b : List ℕ) → Encodes area s room x a → Encodes area s room y b → (x ≡ y) × (a ≡ b)
 one-encode area s room x y a b e f = writtenIs-unique x y a b (e ∙ sym f)
+
+pub one-directory : (t run headings topics list : List ℕ) (x y : Directed) (a b : List ℕ) → Directs t run headings topics list x a
+    → Directs t run headings topics list y b → (x ≡ y) × (a ≡ b)
+one-directory t run headings topics list x y a b e f = directedIs-unique x y a b (e ∙ sym f)

@@ -60,7 +60,7 @@ compare-is-rule t a b d e =
 decides-good : {t a b : List ℕ} {d : Answer} → Decides t a b d → good (meaningIn t) ≡ true
 decides-good {t} v = accepted-stored t (v .checked) .0
 
-sign-of : {x y : paper.Answer} → x ≡ y → x .sign ≡ y .sign
+pub sign-of : {x y : paper.Answer} → x ≡ y → x .sign ≡ y .sign
 sign-of e = ap (λ (r : paper.Answer). r .sign) e
 
 level-of : {x y : paper.Answer} → x ≡ y → x .level ≡ y .level

@@ -13,8 +13,9 @@ use Rattle.rules.specs.Table.{storedForm}
 use Rattle.rules.specs.Compile.{compileOf}
 use Rattle.rules.specs.Charmap.{charmapOf}
 use Rattle.rules.specs.Coding.{decodeOf, encodeOf}
+use Rattle.rules.specs.Directory.{directoryOf}
 use Rattle.rules.specs.Calls as calls
-use Rattle.rules.specs.Calls.{over, cleared, compiledAs, compileCall, keyFor, keyCall, mappedAs, charmapCall, writtenAs, decodeCall, encodeCall}
+use Rattle.rules.specs.Calls.{over, cleared, compiledAs, compileCall, keyFor, keyCall, mappedAs, charmapCall, writtenAs, decodeCall, encodeCall, directedAs, directoryCall}
 use Rattle.rules.proofs.SizeLaws.{stored-size}
 use Rattle.rules.proofs.CompileLaws.{compile-good}
 use Rattle.rules.proofs.CharmapLaws.{charmap-length}
@@ -29,7 +30,8 @@ use Rattle.keys.specs.declared.Keyed.the-variants as keyed
 use Rattle.charmap.specs.declared.Mapped.the-variants as mapped
 use Rattle.charmap.proofs.CodeLaws.{read-gives}
 use Rattle.coding.specs.declared.Coded.the-variants as coded
-use Rattle.demands.specs.Answered.{Compiles, Keys, Reads, Decodes, Encodes}
+use Rattle.directory.specs.declared.Directed.the-variants as directed
+use Rattle.demands.specs.Answered.{Compiles, Keys, Reads, Decodes, Encodes, Directs}
 
 -- ## Refused
 
@@ -70,6 +72,16 @@ pub encode-untouched : (area s room room₁ : List ℕ) (r : Refusal) → Encode
 unfolding encodeCall
 encode-untouched area s room room₁ r e = written-refused (encodeOf area s (length room)) room room₁ r e
 
+directed-refused : (x : Result (List ℕ)) (list list₁ : List ℕ) (r : Refusal) → record { refusal = numberOf r; list = list₁ } ≡ directedAs x list → list₁ ≡ list
+unfolding directedAs
+directed-refused (granted ns) list list₁ r e = absurd (numberOf-some r (ap (λ (c : calls.Directed). c .refusal) e))
+directed-refused (refused n l) list list₁ r e = ap (λ (c : calls.Directed). c .list) e
+
+pub directory-untouched : (t run headings topics list list₁ : List ℕ) (r : Refusal) → Directs t run headings topics list (directed.Refused r) list₁
+    → list₁ ≡ list
+unfolding directoryCall
+directory-untouched t run headings topics list list₁ r e = directed-refused (directoryOf t run headings topics (length list)) list list₁ r e
+
 -- ## The work area
 
 cleared-after : (x : Result Meaning) (area work : List ℕ) → compiledAs x area work .work ≡ replicate (length work) 0
@@ -88,7 +100,7 @@ compile-clears src area work area₁ work₁ r e = told-work r ∙ ap (λ (c : c
 -- ## What lies past the result
 
 -- a result in front of an area leaves what lies past it
-past-over : (n : ℕ) (front area area₁ : List ℕ) → n ≡ length front → area₁ ≡ over front area → drop n area₁ ≡ drop n area
+pub past-over : (n : ℕ) (front area area₁ : List ℕ) → n ≡ length front → area₁ ≡ over front area → drop n area₁ ≡ drop n area
 past-over n front area area₁ e f =
     ap (λ (x : ℕ). drop x area₁) e ∙ ap (drop (length front)) f ∙ drop-append-seam front (drop (length front) area) ∙ sym (ap (λ (x : ℕ). drop x area) e)
 

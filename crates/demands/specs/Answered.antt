@@ -10,7 +10,7 @@ use Rattle.rules.specs.Meaning.{Meaning}
 use Rattle.rules.specs.State.{start}
 use Rattle.rules.specs.Source.{linesFrom}
 use Rattle.rules.specs.Compile.{meaningOf}
-use Rattle.rules.specs.Calls.{compileCall, checkCall, stepCall, compareCall, keyCall, charmapCall, areaCall, decodeCall, encodeCall}
+use Rattle.rules.specs.Calls.{compileCall, checkCall, stepCall, compareCall, keyCall, charmapCall, areaCall, decodeCall, encodeCall, directoryCall}
 use Rattle.compile.specs.Answers.{toldAs}
 use Rattle.compile.specs.declared.Compiled.{Compiled}
 use Rattle.table.specs.Answers.{checkedAs}
@@ -25,8 +25,10 @@ use Rattle.charmap.specs.declared.Mapped.{Mapped}
 use Rattle.coding.specs.Answers.{numberIs, writtenIs}
 use Rattle.coding.specs.declared.AreaVerdict.{AreaVerdict}
 use Rattle.coding.specs.declared.Coded.{Coded}
+use Rattle.directory.specs.Answers.{directedIs}
+use Rattle.directory.specs.declared.Directed.{Directed}
 
--- ## The nine operations
+-- ## The ten operations
 
 -- `compile`, of a source, a table area and a work area, answers so and leaves these two areas
 abbrev pub Compiles : (src area work : List ℕ) → Compiled → (area₁ work₁ : List ℕ) → Type 0
@@ -63,6 +65,10 @@ Decodes area bs room r room₁ = writtenIs r room₁ ≡ decodeCall area bs room
 -- `encode`, of a charmap area, a string and room for bytes, answers so and leaves this room
 abbrev pub Encodes : (area s room : List ℕ) → Coded → (room₁ : List ℕ) → Type 0
 Encodes area s room r room₁ = writtenIs r room₁ ≡ encodeCall area s room
+
+-- `directory`, of a table, a run of characters, headings and topics in it, and a list, answers so and leaves this list
+abbrev pub Directs : (t run headings topics list : List ℕ) → Directed → (list₁ : List ℕ) → Type 0
+Directs t run headings topics list r list₁ = directedIs r list₁ ≡ directoryCall t run headings topics list
 
 -- ## What a source means
 

@@ -129,16 +129,16 @@ heading-fits ws w {h} r e =
 
 -- ## The first weights of parts
 
-getD-map : {A : Type 0} (f : A → ℕ) (xs : List A) (i : ℕ) (a : A) (d : ℕ) → i < length xs → getD (map f xs) i d ≡ f (getD xs i a)
+pub getD-map : {A : Type 0} (f : A → ℕ) (xs : List A) (i : ℕ) (a : A) (d : ℕ) → i < length xs → getD (map f xs) i d ≡ f (getD xs i a)
 getD-map f [] i a d h = absurd (omega arith)
 getD-map f (x ∷ xs) zero a d h = refl
 getD-map f (x ∷ xs) (suc i) a d h = getD-map f xs i a d (le-of-suc-le-suc h)
 
-weights-many : (t run parts : List ℕ) → length (weightsOf t run parts) ≡ length (partsOf parts)
+pub weights-many : (t run parts : List ℕ) → length (weightsOf t run parts) ≡ length (partsOf parts)
 weights-many t run parts = length-map (partsOf parts) (partWeight (meaningIn t) run)
 
 -- what stands at a place
-weight-there : (t run parts : List ℕ) (i : ℕ) → i < length (partsOf parts)
+pub weight-there : (t run parts : List ℕ) (i : ℕ) → i < length (partsOf parts)
     → getD (weightsOf t run parts) i 0 ≡ partWeight (meaningIn t) run (partAt parts i)
 unfolding partAt
 weight-there t run parts i h = getD-map (partWeight (meaningIn t) run) (partsOf parts) i (part 0 0) 0 h

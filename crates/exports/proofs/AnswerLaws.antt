@@ -29,7 +29,10 @@ use Rattle.coding.specs.declared.AreaVerdict.{AreaVerdict}
 use Rattle.coding.specs.declared.AreaVerdict.the-variants as area
 use Rattle.coding.specs.declared.Coded.{Coded}
 use Rattle.coding.specs.declared.Coded.the-variants as coded
-use Rattle.exports.specs.Told.{told, signNumber, checkedNumbers, steppedNumbers, comparedNumbers, writtenNumbers, mappedNumbers, compiledNumbers, WrittenIs, MappedIs, CompiledIs}
+use Rattle.directory.specs.Answers.{directedIs}
+use Rattle.directory.specs.declared.Directed.{Directed}
+use Rattle.directory.specs.declared.Directed.the-variants as directed
+use Rattle.exports.specs.Told.{told, signNumber, checkedNumbers, steppedNumbers, comparedNumbers, writtenNumbers, mappedNumbers, compiledNumbers, WrittenIs, MappedIs, CompiledIs, DirectedIs}
 
 -- In all of them the paper's answer is c or w or m, and the answer array holds `array` before the call and `array₁` after it.
 
@@ -164,3 +167,15 @@ module _ {c : ℕ} {v : AreaVerdict} (is : numberIs v ≡ c) where
 
   pub area-refused : {r : Refusal} {n : ℕ} → v ≡ area.Refused r → n ≡ numberOf r → n ≡ c
   area-refused e f = f ∙ sym (ap numberIs e) ∙ is
+
+-- ## directory
+
+module _ {c : calls.Directed} {list₁ : List ℕ} {d : Directed} (is : directedIs d list₁ ≡ c) where
+  directed-is : {refusal : ℕ} → record { refusal = refusal; list = list₁ } ≡ c → DirectedIs c refusal list₁
+  directed-is e = record { returned = ap (λ (x : calls.Directed). x .refusal) e; list = ap (λ (x : calls.Directed). x .list) e }
+
+  pub directed-done : d ≡ directed.Done → DirectedIs c 0 list₁
+  directed-done e = directed-is (sym (ap (λ (x : Directed). directedIs x list₁) e) ∙ is)
+
+  pub directed-refused : {r : Refusal} {n : ℕ} → d ≡ directed.Refused r → n ≡ numberOf r → DirectedIs c n list₁
+  directed-refused e f = rw f (directed-is (sym (ap (λ (x : Directed). directedIs x list₁) e) ∙ is))
