@@ -8,7 +8,7 @@ count-requires : tie.Need-count-requires
 count-requires c κs = search needs
 
 returns : tie.Need-returns
-returns c = search ranked-short
+returns c = search (needs, ranked-short)
 
 count-requires-2 : tie.Need-count-requires-2
 count-requires-2 c κs = search needs
