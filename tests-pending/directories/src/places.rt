@@ -131,7 +131,7 @@ fn no_character(t: &[u32], run: &[u32]) {
     directed_in(b"in no string:", t, run, &[], &[], 1);
     directed_in(b"in a topic:", t, run, &[0, 1], &[0, 2], 2);
     directed_in(b"in a heading:", t, run, &[0, 3], &[0, 1], 2);
-    directed_in(b"behind the topics' end:", t, run, &[0, 1], &[2, 2], 2);
+    directed_in(b"at the end of a topic:", t, run, &[0, 1], &[2, 2], 2);
 }
 
 // 13: a list that is one short, exact, longer.
