@@ -1,7 +1,7 @@
 -- `directory::part_weight` meets its contract.
 use native.Mathlib.Omega.{arith}
 use Rattle.directory.proofs.PartLaws.{ends-inside}
-use Rattle.directory.proofs.PageLaws.{named-ready, named-weight}
+use Rattle.directory.proofs.PageLaws.{part-ready, part-weight}
 use borrow.Author.Needs.{needs}
 use Rattle.directory.proofs.part_weight.Statement.{statement}
 use Rattle.directory.proofs.part_weight.Tie as tie
@@ -22,7 +22,7 @@ part-first-weight-end : tie.Need-part-first-weight-end
 part-first-weight-end c = search (needs, ends-inside)
 
 first-weight-requires : tie.Need-first-weight-requires
-first-weight-requires c κs = search named-ready
+first-weight-requires c κs = search part-ready
 
 number-requires : tie.Need-number-requires
 number-requires c κs = search (needs, ends-inside)
@@ -31,7 +31,7 @@ same-length : tie.Need-same-length
 same-length c = search (needs, ends-inside)
 
 returns : tie.Need-returns
-returns c = search named-weight
+returns c = search part-weight
 
 pub part-weight-spec : {M : Type 1} → statement M
 part-weight-spec =
