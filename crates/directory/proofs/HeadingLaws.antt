@@ -24,7 +24,7 @@ use Rattle.directory.specs.Asks.{Ready, Rising, Weighed}
 -- ## Headings that rise, from the first on
 
 -- each is above the one before it, and the first above v
-unfoldable risingFrom : ℕ → List ℕ → Bool
+unfoldable pub risingFrom : ℕ → List ℕ → Bool
 risingFrom v [] = true
 risingFrom v (w ∷ ws) = ltb v w && risingFrom w ws
 

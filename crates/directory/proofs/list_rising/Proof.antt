@@ -1,5 +1,6 @@
 -- `directory::list_rising` meets its contract: 13, or the list.
 use Rattle.directory.proofs.PageLaws.{ranked-short, ranked-count, ranked-ready, ranked-rising, ranked-written}
+use native.Mathlib.Omega.{arith}
 use borrow.Author.Needs.{needs}
 use Rattle.directory.proofs.list_rising.Statement.{statement}
 use Rattle.directory.proofs.list_rising.Tie as tie
@@ -8,7 +9,7 @@ count-requires : tie.Need-count-requires
 count-requires c κs = search needs
 
 returns : tie.Need-returns
-returns c = search (needs, ranked-short)
+returns c = ranked-short _ _ _ _ _ _ (c .before .before .before .before .before .before .before .before .before .pre) _ (c .before .count .ensures) (omega arith)
 
 count-requires-2 : tie.Need-count-requires-2
 count-requires-2 c κs = search needs
