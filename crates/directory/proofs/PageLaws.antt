@@ -1,5 +1,5 @@
 -- The first weight of a part, and the answer of the directory, refusal by refusal.
-use mathlib.Core.Path.{_≡_, refl, sym, ap, _∙_}
+use mathlib.Core.Path.{_≡_, sym, ap, _∙_}
 use mathlib.Core.Bool.{Bool, true, false, not, _&&_, _||_}
 use mathlib.Core.List.{List, map}
 use Prim.Native.Nat.{ℕ, _+_, _-_, _≤_, _<_}
@@ -8,7 +8,7 @@ use lib.ListN.{length, take, drop, length-map}
 use lib.Seq.{length-take-le}
 use lib.Dec.{leb, ltb}
 use borrow.Author.Tests.{lt-ltb, le-ltb, le-leb, lt-leb, leb-true, not-true, not-false}
-use Rattle.lists.proofs.Bools.{and-left, and-right, and-intro}
+use Rattle.lists.proofs.Bools.{and-left, and-right}
 use Rattle.rules.specs.Text.{if_then_else_, every, granted, refused}
 use Rattle.rules.specs.Meaning as meaning
 use Rattle.rules.specs.Table.{accepted, meaningIn}
