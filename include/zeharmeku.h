@@ -31,7 +31,7 @@
  *   13  a key or text longer than the room lent; a list too short for the topics
  *   14  a character or a byte that the charmap does not have
  *   15  a heading without a weight at level 1; headings that do not rise there
- *   16  a level 1 with a rule other than forward, for a directory
+ *   16  for a directory, a level 1 with a rule other than plain forward
  *   17  over 1,000 headings or topics; one that reaches outside the run
  *
  * Sources and charmaps test 1, then their lines in order (the lowest number of the first line that has one), then 8, then 9. The
@@ -45,7 +45,7 @@
  * exceeds 1,060,880 bytes.
  *
  * Stack. The most that a call takes, whatever the input: 80 KB for compile, 1 KB for check and step, 34 KB for compare, 18 KB for key,
- * 26 KB for directory, 4 KB for charmap, 20 KB for area and decode, 40 KB for encode. */
+ * 22 KB for directory, 4 KB for charmap, 20 KB for area and decode, 40 KB for encode. */
 
 #ifndef ZEHARMEKU_H
 #define ZEHARMEKU_H
