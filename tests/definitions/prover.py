@@ -23,7 +23,7 @@ use Rattle.rules.specs.Compile.{compileOf}
 use Rattle.rules.specs.Table.{storedForm, meaningIn, accepted}
 use Rattle.rules.specs.Order.{less, equal, greater, signBytes}
 use Rattle.rules.specs.Charmap.{charmapOf}
-use Rattle.rules.specs.Calls.{compileCall, checkCall, stepCall, compareCall, keyCall, decodeCall, encodeCall, charmapCall, areaCall}
+use Rattle.rules.specs.Calls.{compileCall, checkCall, stepCall, compareCall, keyCall, decodeCall, encodeCall, charmapCall, areaCall, directoryCall}
 use Rattle.rules.specs.Pairs.{pairsOf}
 
 -- what a source gives: its refusal, 0 for none, and its line; the meaning, or the numbers, if it is accepted

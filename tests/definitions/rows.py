@@ -1,7 +1,7 @@
 """rows.py: turns the statements of the vector files into rows: theorems that say what a definition gives on an input."""
 import re
 
-from vectors import DEFINING, FILES, area_lines, edit, hexes, meaning_lines, options, refusal, source_refusal, strings_in
+from vectors import DEFINING, FILES, area_lines, counted, edit, hexes, meaning_lines, options, places_in, refusal, sections_in, source_refusal, strings_in
 
 FILLER = 165  # what a lent area holds before a call
 ROOMY = 1_000_000  # the table area where a row names none
@@ -28,7 +28,11 @@ def text(bs):
 def string(pieces):
     """A string of pieces (numbers, how often)."""
     parts = [numbers(ns * times) if times == 1 or len(ns) != 1 else f"replicate {times} {ns[0]}" for ns, times in pieces]
-    return "(" + " ++ ".join(parts) + ")"
+    return "(" + " ++ ".join(parts or ["[]"]) + ")"
+
+
+def length(pieces):
+    return sum(len(ns) * times for ns, times in pieces)
 
 
 def rules(levels):
@@ -238,10 +242,13 @@ class Book:
         found, words = strings_in(st)
         if len(found) != strings or len(words) < 2 or not other and len(words) > 2 or words[1] not in self.terms:
             st.fail(f"`{st.kind}` has the name of a table or a map, and {strings} quoted strings")
+        return *self.on(st, words[1]), [string(s) for s in found], words[2:]
+
+    def on(self, st, name):
+        """The row of a call on a named table or map, and that as a term."""
         row = self.row(st)
-        row.uses.append(words[1])
-        term = f"(storedForm table-{words[1]} [])" if self.terms[words[1]][0] == "Meaning" else f"table-{words[1]}"
-        return row, term, [string(s) for s in found], words[2:]
+        row.uses.append(name)
+        return row, f"(storedForm table-{name} [])" if self.terms[name][0] == "Meaning" else f"table-{name}"
 
     def answered(self, st, row, left, shape, parts):
         """A row whose answer is a record: its refusal, and parts that are 0 in a refusal and else stand in the expected line."""
@@ -304,3 +311,31 @@ class Book:
 
     def encode(self, st):
         self.written(st, "encodeCall")
+
+    def directory(self, st):
+        """A page, its headings and topics given as strings or as places in a run, into a list that held the filler."""
+        found = sections_in(st, ["run", "headings", "topics", "room"])
+        said, room = found.pop(""), found.pop("room", None)
+        if len(said) != 2 or said[1] not in self.terms or room and not (len(room) == 1 and room[0].isdigit()):
+            st.fail("`directory` has the name of a table, and may have `run`, `headings`, `topics` and `room N`")
+        run, parts = [], {}
+        if "run" in found:
+            if len(found["run"]) != 1 or not isinstance(found["run"][0], list):
+                st.fail("a run is one string")
+            run = found.pop("run")[0]
+            parts = {which: places_in(st, words) for which, words in found.items()}
+        else:
+            for which, strings in found.items():
+                parts[which] = []
+                for s in strings:
+                    if not isinstance(s, list):
+                        st.fail("without a run, headings and topics are strings")
+                    parts[which] += [length(run), length(s)]
+                    run = run + s
+        row, table = self.on(st, said[1])
+        headings, topics = parts.get("headings", []), parts.get("topics", [])
+        no = refusal(st.one())
+        out = [] if no else counted(st, st.one())
+        size = int(room[0]) if room else len(topics) // 2 + 2
+        left = f"directoryCall {table} {string(run)} {numbers(headings)} {numbers(topics)} (replicate {size} {FILLER})"
+        row.theorems.append((left, f"record {{ refusal = {no[0] if no else 0}; list = {numbers(out + [FILLER] * (size - len(out)))} }}"))

@@ -2,7 +2,7 @@
 import re
 
 DEFINING = "frame source table map damaged".split()  # statements that name something, in the order in which they may use one another
-ROWS = "compile charmap pairs compare key keys step check area decode encode".split()  # statements that are rows
+ROWS = "compile charmap pairs compare key keys step check area decode encode directory".split()  # statements that are rows
 FILES = "locale charmap input".split()  # the inputs of the pairs program
 EDITS = "set cut add".split()  # what changes the numbers of a damaged table or a map
 NO_CODE = 0x110000  # a charmap's number for a byte with no code
@@ -135,6 +135,50 @@ def strings_in(st):
         strings[-1].append((codes_of(st, m.group(1)), int(m.group(2) or 1)))
         at = m.end()
     return strings, (rest + st.line[at:]).split()
+
+
+def sections_in(st, names):
+    """{name: what follows it in a statement's line}, of the words `names`, and of "" what stands before them: lists of words, `,` being one, and
+    of strings as pieces."""
+    found = {"": []}
+    last = found[""]
+    for m in re.finditer(rf'{STRING}|,|[^\s,"]+', st.line):
+        if m.group(1) is not None:
+            piece = (codes_of(st, m.group(1)), int(m.group(2) or 1))
+            if len(last) > 1 and last[-1] == "+" and isinstance(last[-2], list):
+                last.pop()
+                last[-1].append(piece)
+            else:
+                last.append([piece])
+        elif m.group(0) in names and m.group(0) not in found:
+            last = found[m.group(0)] = []
+        else:
+            last.append(m.group(0))
+    return found
+
+
+def places_in(st, words):
+    """The starts and lengths of `0 1, 1 1 *3, 9`: a pair may be repeated, and the last may be a start alone."""
+    found, said = [], " ".join(words)
+    for k, part in enumerate(said.split(",") if words else []):
+        m = re.fullmatch(r" ?(\d+)(?: (\d+)(?: \*(\d+))?)? ?", part)
+        if not m or m.group(2) is None and k < said.count(","):
+            st.fail(f"not starts and lengths: {said}")
+        found += [int(n) for n in m.groups()[:2] if n is not None] * int(m.group(3) or 1)
+    return found
+
+
+def counted(st, said):
+    """Numbers between blanks, `1*1000` for one repeated; `nothing` for none."""
+    if said == "nothing":
+        return []
+    found = []
+    for word in said.split():
+        m = re.fullmatch(r"(\d+)(?:\*(\d+))?", word)
+        if not m:
+            st.fail(f"not numbers: {said}")
+        found += [int(m.group(1))] * int(m.group(2) or 1)
+    return found
 
 
 def codes_of(st, quoted):

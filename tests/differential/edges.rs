@@ -1,8 +1,8 @@
-// Edges: requests at 01's limits, asked at the end of every run: they are long, and where a
+// Edges: requests at the limits of 01 and 02, asked at the end of every run: they are long, and where a
 // random request shows a difference too, it is a shorter one.
 
 use crate::request::{Field, Request};
-use crate::tables::full_table;
+use crate::tables::{full_table, rising_table};
 
 const MOST_BYTES: usize = 1_048_576;
 
@@ -143,6 +143,77 @@ pub fn edges() -> Vec<Request> {
             "check",
             vec![Field::Numbers(full_table(items))],
         ));
+    }
+    list.extend(pages());
+    list
+}
+
+/// A page by a table in which so many characters rise.
+fn page(rising: u32, run: &[u32], headings: Vec<u64>, topics: Vec<u64>, room: u64) -> Request {
+    let fields = vec![
+        Field::Numbers(rising_table(FIRST, rising)),
+        Field::Numbers(run.to_vec()),
+        Field::Places(headings),
+        Field::Places(topics),
+        Field::Number(room),
+    ];
+    Request::new("directory", fields)
+}
+
+/// The first of the characters that rise.
+const FIRST: u32 = 0x4E00;
+
+/// So many headings that rise, in a run of all characters that do.
+fn risen(from: u64, count: u64) -> Vec<u64> {
+    (from..from + count).flat_map(|at| [at, 1]).collect()
+}
+
+/// So many topics, the last first.
+fn fallen(count: u64) -> Vec<u64> {
+    (0..count).rev().flat_map(|at| [at, 2]).collect()
+}
+
+/// Starts and lengths at the end of a run of 1,002, and of what a number holds.
+#[rustfmt::skip]
+const SHARP_PLACES: &[[u64; 2]] = &[
+    [1_002, 0], [1_002, 1], [1_001, 1], [1_001, 2], [1_003, 0], [0, 1_002], [0, 1_003],
+    [1, u64::MAX], [2, u64::MAX], [u64::MAX, 0], [u64::MAX, 1], [u64::MAX, 2],
+    [u64::MAX, u64::MAX], [1 << 63, 1 << 63], [(1 << 63) + 1, 1 << 63],
+    [1 << 32, 0], [1, 1 << 32], [(1 << 32) + 1, (1 << 32) + 1],
+];
+
+/// Pages at the limits of 1,000 headings and 1,000 topics, of a run, and of a string.
+fn pages() -> Vec<Request> {
+    let mut list = Vec::new();
+    let all: Vec<u32> = (FIRST..FIRST + 1_002).collect();
+    for headings in [0, 1_000, 1_001] {
+        for topics in [0, 1_000, 1_001] {
+            for room in [999, 1_000, 1_003] {
+                let (titles, topics) = (risen(1, headings), fallen(topics));
+                list.push(page(1_002, &all, titles, topics, room));
+            }
+        }
+    }
+    // A start with no length is not one more. The last of 1,000 headings does not rise.
+    for last in [vec![1_000, 1, 9], vec![999, 3], vec![0, 1], vec![9, 0]] {
+        let titles = [risen(1, 999), last].concat();
+        let topics = [fallen(1_000), vec![9]].concat();
+        list.push(page(1_002, &all, titles, topics, 1_000));
+    }
+    // The longest string, and one longer; a thousand of them, with a weight at the end or none.
+    let mut run = vec![0x2D; 4_097];
+    run[4_096] = FIRST + 1;
+    for length in [4_096, 4_097] {
+        let ends = [4_097 - length, length];
+        list.push(page(2, &run, ends.to_vec(), vec![4_096, 1], 1));
+        for topic in [ends, [0, length]] {
+            list.push(page(2, &run, vec![4_096, 1], topic.repeat(1_000), 1_000));
+        }
+    }
+    for place in SHARP_PLACES {
+        let topics = [&[0, 1], &place[..]].concat();
+        list.push(page(1_002, &all, risen(0, 3), topics, 2));
+        list.push(page(1_002, &all, place.to_vec(), vec![0, 1], 1));
     }
     list
 }

@@ -9,13 +9,18 @@
 mod charmaps;
 mod crowds;
 mod edges;
-// How the reference stores a meaning, to make tables that no source gives.
+// How the reference stores a meaning, to make tables that no source gives, and the first weight
+// of a string, to make headings that rise.
 #[allow(dead_code)]
 #[path = "../reference/layout.rs"]
 mod layout;
 #[allow(dead_code)]
 #[path = "../reference/names.rs"]
 mod names;
+#[allow(dead_code)]
+#[path = "../reference/order.rs"]
+mod order;
+mod pages;
 mod program;
 mod random;
 mod request;
@@ -144,7 +149,7 @@ impl Test {
             *shown.entry(operation).or_default() += &format!("  {}: {}", refusal, count);
         }
         for (operation, counts) in shown {
-            println!("{:8}{}", operation, counts);
+            println!("{:9}{}", operation, counts);
         }
     }
 }

@@ -4,6 +4,8 @@
 pub enum Field {
     Number(u64),
     Numbers(Vec<u32>),
+    /// Starts and lengths.
+    Places(Vec<u64>),
     Bytes(Vec<u8>),
 }
 
@@ -30,6 +32,10 @@ impl Request {
                         .iter()
                         .for_each(|&number| add(&mut line, u64::from(number)));
                 }
+                Field::Places(numbers) => {
+                    add(&mut line, numbers.len() as u64);
+                    numbers.iter().for_each(|&number| add(&mut line, number));
+                }
                 Field::Bytes(bytes) => {
                     add(&mut line, bytes.len() as u64);
                     bytes
@@ -48,6 +54,9 @@ impl Request {
             match field {
                 Field::Number(number) => text += &format!("\n  {}", number),
                 Field::Numbers(numbers) => text += &format!("\n  {:?}", numbers),
+                Field::Places(numbers) => {
+                    text += &format!("\n  {:?}", numbers.chunks(2).collect::<Vec<_>>())
+                }
                 Field::Bytes(bytes) => text += &format!("\n  bytes\n{}", lines_shown(bytes)),
             }
         }

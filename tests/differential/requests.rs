@@ -1,8 +1,10 @@
-// Making requests: sources, tables, strings, charmaps and areas, good and damaged.
+// Making requests: sources, tables, strings, pages, charmaps and areas, good and damaged.
 
 use crate::charmaps::{careless_charmap, damaged_charmap, good_charmap};
 use crate::crowds::crowded_source;
 use crate::edges::{edges, edges_of_fullest, edges_of_widest, fullest_charmap, widest_source};
+use crate::layout::HEAD;
+use crate::pages::page;
 use crate::program::Program;
 use crate::random::Random;
 use crate::request::{Field, Request};
@@ -20,7 +22,7 @@ pub struct Maker<'a> {
     reference: &'a mut Program,
     tables: Vec<Vec<u32>>,
     areas: Vec<Vec<u32>>,
-    /// Requests at 01's limits.
+    /// Requests at the limits of 01 and 02.
     pub edges: Vec<Request>,
 }
 
@@ -59,10 +61,10 @@ impl<'a> Maker<'a> {
             self.add_area();
         }
         match self.random.below(100) {
-            0..=39 => self.compile(),
-            40..=53 => self.charmap(),
-            54..=60 => Request::new("check", vec![self.table(50)]),
-            61..=67 => {
+            0..=36 => self.compile(),
+            37..=49 => self.charmap(),
+            50..=56 => Request::new("check", vec![self.table(50)]),
+            57..=62 => {
                 let (table, string) = (self.table(90), self.string());
                 let at = self.random.below(length(&string) + 2) as u64;
                 let at = if self.random.chance(2) {
@@ -72,17 +74,18 @@ impl<'a> Maker<'a> {
                 };
                 Request::new("step", vec![table, string, Field::Number(at)])
             }
-            68..=81 => {
+            63..=75 => {
                 let (table, one) = (self.table(90), self.string());
                 let other = self.other_string(&one);
                 Request::new("compare", vec![table, one, other])
             }
-            82..=88 => {
+            76..=81 => {
                 let fields = vec![self.table(90), self.string()];
                 self.with_room("key", fields)
             }
-            89..=91 => Request::new("area", vec![self.area(50)]),
-            92..=95 => {
+            82..=90 => self.directory(),
+            91..=93 => Request::new("area", vec![self.area(50)]),
+            94..=96 => {
                 let area = self.area(90);
                 let fields = vec![area.clone(), self.bytes(&area)];
                 self.with_room("decode", fields)
@@ -214,6 +217,13 @@ impl<'a> Maker<'a> {
 
     fn string(&mut self) -> Field {
         let size = self.size();
+        let mut string = self.characters(size);
+        self.maybe_spoil(&mut string);
+        Field::Numbers(string)
+    }
+
+    /// A string of so many characters.
+    fn characters(&mut self, size: usize) -> Vec<u32> {
         let mut string = Vec::new();
         while string.len() < size {
             match self.random.below(20) {
@@ -224,8 +234,7 @@ impl<'a> Maker<'a> {
             }
         }
         string.truncate(size);
-        self.maybe_spoil(&mut string);
-        Field::Numbers(string)
+        string
     }
 
     /// In few strings, puts a number that is no character.
@@ -294,7 +303,7 @@ impl<'a> Maker<'a> {
         Field::Numbers(string)
     }
 
-    /// Adds the room lent: exactly enough, or a little more or less.
+    /// Adds the room lent.
     fn with_room(&mut self, operation: &'static str, mut fields: Vec<Field>) -> Request {
         let mut plenty = fields.clone();
         plenty.push(Field::Number(1_060_880));
@@ -302,14 +311,56 @@ impl<'a> Maker<'a> {
             .result_of(&Request::new(operation, plenty))
             .unwrap_or_default()
             .len();
+        fields.push(self.room(needed));
+        Request::new(operation, fields)
+    }
+
+    /// A room for so many: exactly enough, or a little more or less.
+    fn room(&mut self, needed: usize) -> Field {
         let room = match self.random.below(10) {
             0 | 1 => needed.saturating_sub(1),
             2 => self.random.below(needed + 1),
             3 => needed + 1 + self.random.below(9),
             _ => needed,
         };
-        fields.push(Field::Number(room as u64));
-        Request::new(operation, fields)
+        Field::Number(room as u64)
+    }
+
+    /// A page, mostly by a table whose level 1 is forward.
+    fn directory(&mut self) -> Request {
+        let table = self.page_table();
+        let mut strings = Vec::new();
+        for _ in 0..self.random.within(1, 20) {
+            let size = match self.random.below(400) {
+                0 => self.random.within(4_095, 4_097),
+                1..=20 => self.random.below(40),
+                _ => self.random.below(5),
+            };
+            strings.push(self.characters(size));
+        }
+        let made = page(&table, &strings, &mut self.random);
+        let room = self.room(made.topics.len() / 2);
+        let fields = vec![
+            Field::Numbers(table),
+            Field::Numbers(made.run),
+            Field::Places(made.headings),
+            Field::Places(made.topics),
+            room,
+        ];
+        Request::new("directory", fields)
+    }
+
+    fn page_table(&mut self) -> Vec<u32> {
+        let mut any = self.random.chance(10);
+        loop {
+            let Field::Numbers(table) = self.table(97) else {
+                continue;
+            };
+            if any || table.get(HEAD) == Some(&0) {
+                return table;
+            }
+            any = self.random.chance(3);
+        }
     }
 }
 
@@ -337,6 +388,7 @@ fn codes_of(area: &Field) -> Vec<u32> {
 fn length(field: &Field) -> usize {
     match field {
         Field::Numbers(numbers) => numbers.len(),
+        Field::Places(numbers) => numbers.len(),
         Field::Bytes(bytes) => bytes.len(),
         Field::Number(_) => 0,
     }

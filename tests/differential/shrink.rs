@@ -32,6 +32,7 @@ pub fn shrink(request: Request, differs: Differs) -> Request {
             shrinker.shorten(field);
             shrinker.simplify(field);
         }
+        shrinker.shorten_run();
         if shrinker.best == before || shrinker.spent() {
             return shrinker.best;
         }
@@ -46,11 +47,16 @@ impl Shrinker<'_> {
 
     /// Takes a field with another value where the request still differs.
     fn offer(&mut self, field: usize, value: Field) -> bool {
-        if self.spent() || self.best.fields[field] == value {
-            return false;
-        }
         let mut request = self.best.clone();
         request.fields[field] = value;
+        self.offer_whole(request)
+    }
+
+    /// Takes another request where it still differs.
+    fn offer_whole(&mut self, request: Request) -> bool {
+        if self.spent() || self.best == request {
+            return false;
+        }
         let (taken, bytes) = (self.differs)(&request);
         self.exchanged += bytes;
         if taken {
@@ -109,6 +115,20 @@ impl Shrinker<'_> {
         }
     }
 
+    /// Leaves out stretches of a page's run, long ones first, and moves headings and topics along.
+    fn shorten_run(&mut self) {
+        let mut stretch = run_of(&self.best).map_or(0, |run| run.len());
+        while stretch > 0 {
+            let mut at = 0;
+            while at < run_of(&self.best).map_or(0, |run| run.len()) && !self.spent() {
+                if !self.offer_whole(without_stretch(&self.best, at, stretch)) {
+                    at += stretch;
+                }
+            }
+            stretch /= 2;
+        }
+    }
+
     /// Puts simpler numbers in the place of others.
     fn simplify(&mut self, field: usize) {
         match self.best.fields[field].clone() {
@@ -129,6 +149,20 @@ impl Shrinker<'_> {
                             if let Field::Numbers(mut now) = self.best.fields[field].clone() {
                                 now[at] = simpler;
                                 if self.offer(field, Field::Numbers(now)) {
+                                    break;
+                                }
+                            }
+                        }
+                    }
+                }
+            }
+            Field::Places(numbers) => {
+                for at in 0..numbers.len() {
+                    for simpler in [0, 1, numbers[at] / 2, numbers[at].saturating_sub(1)] {
+                        if simpler < numbers[at] {
+                            if let Field::Places(mut now) = self.best.fields[field].clone() {
+                                now[at] = simpler;
+                                if self.offer(field, Field::Places(now)) {
                                     break;
                                 }
                             }
@@ -196,10 +230,42 @@ fn lines_of(field: &Field) -> Vec<Vec<u8>> {
     }
 }
 
+/// The run of a page.
+fn run_of(request: &Request) -> Option<&Vec<u32>> {
+    match &request.fields[..] {
+        [_, Field::Numbers(run), Field::Places(_), Field::Places(_), _] => Some(run),
+        _ => None,
+    }
+}
+
+/// A page without a stretch of its run: what stood in it is gone, what stood behind it moves.
+fn without_stretch(request: &Request, at: usize, stretch: usize) -> Request {
+    let mut smaller = request.clone();
+    smaller.fields[1] = without(&request.fields[1], at, stretch);
+    let (at, end) = (at as u64, at as u64 + stretch as u64);
+    let moved = |place: u64| match place {
+        _ if place >= end => place - (end - at),
+        _ => place.min(at),
+    };
+    for field in &mut smaller.fields[2..4] {
+        if let Field::Places(numbers) = field {
+            for place in numbers.chunks_exact_mut(2) {
+                // One that reaches outside the run goes on to do so.
+                let past = place[0].saturating_add(place[1]);
+                place[0] = moved(place[0]);
+                place[1] = moved(past) - place[0];
+            }
+        }
+    }
+    smaller
+}
+
+/// How many parts a field has that can be left out: a start goes with its length.
 fn length(field: &Field) -> usize {
     match field {
         Field::Number(_) => 0,
         Field::Numbers(numbers) => numbers.len(),
+        Field::Places(numbers) => numbers.len().div_ceil(2),
         Field::Bytes(bytes) => bytes.len(),
     }
 }
@@ -213,6 +279,7 @@ fn without(field: &Field, at: usize, stretch: usize) -> Field {
     match field {
         Field::Number(number) => Field::Number(*number),
         Field::Numbers(numbers) => Field::Numbers(cut(numbers, at, stretch)),
+        Field::Places(numbers) => Field::Places(cut(numbers, 2 * at, 2 * stretch)),
         Field::Bytes(bytes) => Field::Bytes(cut(bytes, at, stretch)),
     }
 }

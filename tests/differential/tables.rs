@@ -53,6 +53,31 @@ pub fn made_table(fault: bool, random: &mut Random) -> Vec<u32> {
     table
 }
 
+/// A table of one forward level, in which so many characters from `first` on rise; the hyphen and
+/// what is not listed have no weight.
+pub fn rising_table(first: u32, characters: u32) -> Vec<u32> {
+    let rule = Rule {
+        backward: false,
+        position: false,
+    };
+    let mut items: Vec<Item> = (0..characters)
+        .map(|place| Item {
+            characters: vec![first + place],
+            weights: vec![vec![place + 1, 1]],
+        })
+        .collect();
+    for characters in [vec![0x2D], UNDEFINED.to_vec()] {
+        items.push(Item {
+            characters,
+            weights: vec![Vec::new()],
+        });
+    }
+    store(&Meaning {
+        rules: vec![rule],
+        items,
+    })
+}
+
 /// The largest table but for its number of items: 8 levels of 8 weights each.
 pub fn full_table(items: usize) -> Vec<u32> {
     let rule = Rule {

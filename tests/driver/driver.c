@@ -162,6 +162,15 @@ static struct area *read_numbers(void)
     return area;
 }
 
+static struct area *read_places(void)
+{
+    struct area *area = lend(read_size(), sizeof(uint64_t));
+    uint64_t *numbers = area->now;
+    for (size_t k = 0; k < area->count; k++)
+        numbers[k] = read_number();
+    return area;
+}
+
 static struct area *read_bytes(void)
 {
     struct area *area = lend(read_size(), sizeof(uint8_t));
@@ -228,12 +237,13 @@ static void print_result(const struct area *answer, const uint64_t *line,
  *   key, decode, encode  refusal, size
  *   compile              refusal, line, size
  *   charmap              refusal, line
- * Sizes count what was written to the area; a charmap's is always 512. area returns its
- * refusal. */
+ * Sizes count what was written to the area; a charmap's is always 512. area and directory return
+ * their refusal; what a directory writes is a number for each topic. */
 
 #define LENT(type, area) (type *)(area)->now, (area)->count
 #define NUMBERS(area) LENT(const uint32_t, area)
 #define BYTES(area) LENT(const uint8_t, area)
+#define PLACES(area) LENT(const uint64_t, area)
 #define ANSWER(area) LENT(uint64_t, area)
 
 enum { CHARMAP_SIZE = 512 };
@@ -363,6 +373,24 @@ static void do_encode(void)
     print_result(answer, NULL, room, said[1], NULL);
 }
 
+static void do_directory(void)
+{
+    struct area *table = read_numbers(), *run = read_numbers();
+    struct area *headings = read_places(), *topics = read_places();
+    struct area *list = lend(read_size(), sizeof(uint32_t));
+    if (!ready())
+        return;
+    uint32_t refusal = zeharmeku_directory(NUMBERS(table), NUMBERS(run), PLACES(headings),
+                                           PLACES(topics), LENT(uint32_t, list));
+    size_t size = refusal == 0 ? topics->count / 2 : 0;
+    if (size > list->count || !only_written(list, size, NULL, NULL)) {
+        puts("touched");
+        return;
+    }
+    printf("%" PRIu32 " ", refusal);
+    print_array(list, size);
+}
+
 /* ---- The loop over requests ---- */
 
 static const struct {
@@ -372,6 +400,7 @@ static const struct {
     {"check", do_check},     {"step", do_step},       {"compare", do_compare},
     {"key", do_key},         {"compile", do_compile}, {"charmap", do_charmap},
     {"area", do_area},       {"decode", do_decode},   {"encode", do_encode},
+    {"directory", do_directory},
 };
 
 static void answer_request(char *line)

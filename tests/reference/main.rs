@@ -3,6 +3,7 @@
 
 mod charmap;
 mod conditionals;
+mod directory;
 mod layout;
 mod lines;
 mod locale;
@@ -41,6 +42,12 @@ impl Words<'_> {
     fn numbers(&mut self) -> Option<Vec<u32>> {
         let length = self.number()?;
         (0..length).map(|_| self.0.next()?.parse().ok()).collect()
+    }
+
+    /// An array of numbers of 64 bits.
+    fn places(&mut self) -> Option<Vec<u64>> {
+        let length = self.number()?;
+        (0..length).map(|_| self.number()).collect()
     }
 
     fn bytes(&mut self) -> Option<Vec<u8>> {
@@ -98,6 +105,12 @@ fn answer(request: &str) -> Option<String> {
         "encode" => {
             let (area, string, room) = (words.numbers()?, words.numbers()?, words.number()?);
             result(charmap::encode(&area, &string, room))
+        }
+        "directory" => {
+            let (table, run) = (words.numbers()?, words.numbers()?);
+            let (headings, topics) = (words.places()?, words.places()?);
+            let room = words.number()?;
+            result(directory::directory(&table, &run, &headings, &topics, room))
         }
         _ => return None,
     };

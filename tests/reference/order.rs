@@ -84,6 +84,20 @@ fn entries(elements: &[&Item], level: usize, rule: Rule) -> Vec<Entry> {
     list
 }
 
+/// The first weight of a string at level 1, walked forward: elements without one there are passed,
+/// of several weights of one element the first counts.
+pub fn first_weight(meaning: &Meaning, string: &[u32]) -> Option<u32> {
+    let mut at = 0;
+    while at < string.len() {
+        let (place, length) = element_at(meaning, string, at);
+        if let Some(&weight) = meaning.items[place].weights[0].first() {
+            return Some(weight);
+        }
+        at += length;
+    }
+    None
+}
+
 /// The entries of all levels, and the code points "the same way, as level L + 1".
 fn all_levels(meaning: &Meaning, string: &[u32]) -> Vec<Vec<Entry>> {
     let elements = elements(meaning, string);
