@@ -1,7 +1,8 @@
-/* Measures the product beside its peers and prints the tables: bench FOLDER LOCALEDEF..
+/* Measures the product beside its peers and prints the tables: bench FOLDER TABLES LOCALEDEF..
  *
- * FOLDER is where sources and locales are kept; the other words are the command that runs localedef. All systems of a row take turns in one
- * run, and the least time of each counts, in processor time: other work on the machine slows a turn down but not the least of many. */
+ * FOLDER is where sources and locales are kept; TABLES is one word that names the tables, with blanks between them, all if it is empty; the
+ * other words are the command that runs localedef. All systems of a row take turns in one run, and the least time of each counts, in
+ * processor time: other work on the machine slows a turn down but not the least of many. */
 
 #define _GNU_SOURCE
 #include <fcntl.h>
@@ -390,7 +391,7 @@ static const char beside_line[] = "--:|--:|--:|--:|--:|--:|--:|--:|\n";
 
 static void compare_table(void)
 {
-    printf("\n## Compare, by difference and length\n\nA table of 100 lines, ASCII letters, nanoseconds for one comparison. "
+    printf("## Compare, by difference and length\n\nA table of 100 lines, ASCII letters, nanoseconds for one comparison. "
            "`check` is its share of our time, `left` our time without it, a dash where that is too little to be told.\n\n");
     printf("| second level | difference | length | %s|---|---|--:|%s", beside, beside_line);
     compare_rows(&forward_tables[0], sizes[0], "forward");
@@ -399,7 +400,7 @@ static void compare_table(void)
 
 static void growth_table(void)
 {
-    printf("\n## Compare, by size of the table\n\nThe last letter differs, all levels forward, nanoseconds for one comparison; "
+    printf("## Compare, by size of the table\n\nThe last letter differs, all levels forward, nanoseconds for one comparison; "
            "letters of ASCII, or from all over the table.\n\n");
     printf("| lines | letters | length | %s|--:|---|--:|%s", beside, beside_line);
     for (int s = 0; s < SIZES; s++) {
@@ -442,7 +443,7 @@ static void key_rows(const struct source *source, int size, const char *second)
 
 static void key_table(void)
 {
-    printf("\n## Key\n\nASCII letters, nanoseconds for one key.\n\n");
+    printf("## Key\n\nASCII letters, nanoseconds for one key.\n\n");
     printf("| lines | second level | length | wcsxfrm | strxfrm | ICU | ours | check | left | left / wcsxfrm | left / ICU |\n"
            "|--:|---|--:|%s", beside_line);
     for (int s = 0; s < SIZES; s++)
@@ -487,7 +488,7 @@ static void compile_row(const char *what, const struct source *source, int has_p
 static void compile_table(void)
 {
     static const char *const names[] = {"100 lines, rising", "1,000 lines, rising", "10,000 lines, rising", "32,000 lines, rising"};
-    printf("\n## Compile\n\nOne source, in milliseconds; localedef without its start. It refuses conditionals within conditionals, and lines "
+    printf("## Compile\n\nOne source, in milliseconds; localedef without its start. It refuses conditionals within conditionals, and lines "
            "that are nothing but a join.\n\n");
     printf("| source | bytes | localedef | ICU | ours | ours / localedef |\n|---|--:|--:|--:|--:|--:|\n");
     struct source small = small_source();
@@ -522,22 +523,46 @@ static void compile_table(void)
     compile_row("100 lines that name a symbol joined over 512 KiB", &source, 0);
 }
 
+static const struct {
+    const char *name;
+    void (*print)(void);
+} tables[] = {{"check", check_table}, {"compare", compare_table}, {"growth", growth_table}, {"key", key_table}, {"compile", compile_table}};
+enum { TABLES = sizeof tables / sizeof *tables };
+
+/* Prints the tables that are named, all if none is. */
+static void print_tables(char *names)
+{
+    int named[TABLES] = {0}, all = 1, printed = 0;
+    for (char *name = strtok(names, " "); name != NULL; name = strtok(NULL, " ")) {
+        int t = 0;
+        while (t < TABLES && strcmp(tables[t].name, name) != 0)
+            t++;
+        if (t == TABLES)
+            fail("no such table", name);
+        named[t] = 1;
+        all = 0;
+    }
+    for (int t = 0; t < TABLES; t++) {
+        if (!all && !named[t])
+            continue;
+        if (printed++ > 0)
+            printf("\n");
+        tables[t].print();
+    }
+}
+
 int main(int count, char **words)
 {
-    if (count < 3)
-        fail("wants", "FOLDER LOCALEDEF..");
+    if (count < 4)
+        fail("wants", "FOLDER TABLES LOCALEDEF..");
     folder = words[1];
-    localedef = words + 2;
-    localedef_words = count - 2;
+    localedef = words + 3;
+    localedef_words = count - 3;
     setenv("LOCPATH", folder, 1);
     static const char *const names[] = {"lines100", "lines1000", "lines10000", "lines32000"};
     for (int s = 0; s < SIZES; s++)
         forward_tables[s] = table_source(names[s], sizes[s], RISING, 0);
     backward_table = table_source("backward100", sizes[0], RISING, 1);
-    check_table();
-    compare_table();
-    growth_table();
-    key_table();
-    compile_table();
+    print_tables(words[2]);
     return 0;
 }
