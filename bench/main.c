@@ -144,6 +144,18 @@ static long product_key(int k)
     return (long)answer[1];
 }
 
+/* For each topic of the page its heading, from 1, 0 for none. */
+static uint32_t our_list[MOST_PARTS], icu_list[MOST_PARTS];
+
+static long product_directory(int k)
+{
+    (void)k;
+    if (zeharmeku_directory(table, table_count, page.run, page.count, page.heading_parts, 2 * (size_t)page.headings, page.topic_parts,
+                            2 * (size_t)page.topics, our_list, MOST_PARTS) != 0)
+        fail("refused", "directory");
+    return our_list[0];
+}
+
 static long wide_compare(int k)
 {
     return wcscoll_l(first_strings[k].wide, second_strings[k].wide, locale);
@@ -175,8 +187,42 @@ static long icu_key(int k)
 {
     return ucol_getSortKey(collator, (const UChar *)first_strings[k].utf16, (int32_t)first_strings[k].count, key_room, KEY_ROOM);
 }
+
+/* By halving: how many headings do not come after the topic. */
+static uint32_t icu_heading(const uint64_t *topic)
+{
+    const UChar *run = (const UChar *)page.utf16;
+    int from = 0, to = page.headings;
+    while (from < to) {
+        int middle = (from + to) / 2;
+        const uint64_t *heading = &page.heading_parts[2 * middle];
+        if (ucol_strcoll(collator, run + heading[0], (int32_t)heading[1], run + topic[0], (int32_t)topic[1]) != UCOL_GREATER)
+            from = middle + 1;
+        else
+            to = middle;
+    }
+    return (uint32_t)from;
+}
+
+static long icu_directory(int k)
+{
+    (void)k;
+    for (int t = 0; t < page.topics; t++)
+        icu_list[t] = icu_heading(&page.topic_parts[2 * t]);
+    return icu_list[0];
+}
+
+/* Letters that differ in accent or case alone are equal from here on, until the next order is taken. */
+static void icu_primary(void)
+{
+    ucol_setStrength(collator, UCOL_PRIMARY);
+}
 #else
-static const call icu_compare = NULL, icu_key = NULL;
+static const call icu_compare = NULL, icu_key = NULL, icu_directory = NULL;
+
+static void icu_primary(void)
+{
+}
 #endif
 
 /* ---- Compiling ---- */
@@ -523,10 +569,65 @@ static void compile_table(void)
     compile_row("100 lines that name a symbol joined over 512 KiB", &source, 0);
 }
 
+/* Both systems put each topic under the same heading, or the row would say nothing. */
+static void same_headings(call theirs)
+{
+    product_directory(0);
+    if (theirs == NULL)
+        return;
+    theirs(0);
+    if (memcmp(our_list, icu_list, (size_t)page.topics * sizeof *our_list) != 0)
+        fail("a topic stands under another heading", "the row after the last one printed");
+}
+
+static void directory_row(void)
+{
+    struct timing timings[] = {{.call = icu_directory}, {.call = product_check}, {.call = product_directory}};
+    same_headings(icu_directory);
+    measure(timings, 3, 1);
+    double peers[] = {timings[0].best / 1e3};
+    cell(peers[0]);
+    cells_beside(timings[2].best / 1e3, timings[1].best / 1e3, peers, 1);
+    printf("\n");
+    fflush(stdout);
+}
+
+static void directory_rows(const struct source *source, int size, int headings)
+{
+    enum { TOPICS = 1000 };
+    take_order(source);
+    icu_primary();
+    int count = table_lines(lines, size, RISING);
+    for (int whole = 0; whole < 2; whole++)
+        for (int n = 0; n < LENGTHS && lengths[n] <= MOST_TOPIC; n++) {
+            make_page(headings, TOPICS, lengths[n], lines, count, whole);
+            printf("|");
+            whole_cell(size);
+            whole_cell(headings);
+            whole_cell(TOPICS);
+            printf(" %s |", whole ? "all" : "ASCII");
+            whole_cell(lengths[n]);
+            directory_row();
+        }
+}
+
+static void directory_table(void)
+{
+    printf("## Directory\n\nThe headings of all topics, microseconds for one call: topics of ASCII letters under the first letters of the "
+           "table, or of letters from all over the table under letters from all over it. ICU halves over the headings at its primary "
+           "strength.\n\n");
+    printf("| lines | headings | topics | letters | length | ICU halving | ours | check | left | left / ICU |\n"
+           "|--:|--:|--:|---|--:|--:|--:|--:|--:|--:|\n");
+    directory_rows(&forward_tables[0], sizes[0], 26);
+    directory_rows(&forward_tables[SIZES - 1], sizes[SIZES - 1], 26);
+    directory_rows(&forward_tables[SIZES - 1], sizes[SIZES - 1], MOST_PARTS);
+}
+
 static const struct {
     const char *name;
     void (*print)(void);
-} tables[] = {{"check", check_table}, {"compare", compare_table}, {"growth", growth_table}, {"key", key_table}, {"compile", compile_table}};
+} tables[] = {{"check", check_table}, {"compare", compare_table}, {"growth", growth_table},
+              {"key", key_table},     {"compile", compile_table}, {"directory", directory_table}};
 enum { TABLES = sizeof tables / sizeof *tables };
 
 /* Prints the tables that are named, all if none is. */
