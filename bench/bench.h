@@ -83,9 +83,13 @@ struct page {
 
 extern struct page page;
 
-/* Makes a page whose topics have this length. They are made of ASCII letters under the table's first letters, or of letters from all over the
- * table under letters that are spread evenly over it. One character in eight is punctuation, the first too. */
-void make_page(int headings, int topics, int length, const struct line *lines, int count, int whole);
+/* What topics are made of: ASCII letters, under the table's first letters; letters from all over the table, under letters that are spread
+ * evenly over it; or one ASCII letter behind punctuation. In the first two, one character in eight is punctuation, the first too. */
+enum topic { ASCII, ALL, LATE, TOPICS };
+extern const char *const topic_names[TOPICS];
+
+/* Makes a page of so many headings and topics, which have this length. */
+void make_page(int headings, int topics, int length, enum topic topic, const struct line *lines, int count);
 
 /* A number below a bound, the same ones in every run. */
 uint32_t random_below(uint32_t bound);

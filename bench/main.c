@@ -594,18 +594,17 @@ static void directory_row(void)
 
 static void directory_rows(const struct source *source, int size, int headings)
 {
-    enum { TOPICS = 1000 };
     take_order(source);
     icu_primary();
     int count = table_lines(lines, size, RISING);
-    for (int whole = 0; whole < 2; whole++)
+    for (int t = 0; t < TOPICS; t++)
         for (int n = 0; n < LENGTHS && lengths[n] <= MOST_TOPIC; n++) {
-            make_page(headings, TOPICS, lengths[n], lines, count, whole);
+            make_page(headings, MOST_PARTS, lengths[n], (enum topic)t, lines, count);
             printf("|");
             whole_cell(size);
-            whole_cell(headings);
-            whole_cell(TOPICS);
-            printf(" %s |", whole ? "all" : "ASCII");
+            whole_cell(page.headings);
+            whole_cell(page.topics);
+            printf(" %s |", topic_names[t]);
             whole_cell(lengths[n]);
             directory_row();
         }
@@ -613,9 +612,9 @@ static void directory_rows(const struct source *source, int size, int headings)
 
 static void directory_table(void)
 {
-    printf("## Directory\n\nThe headings of all topics, microseconds for one call: topics of ASCII letters under the first letters of the "
-           "table, or of letters from all over the table under letters from all over it. ICU halves over the headings at its primary "
-           "strength.\n\n");
+    printf("## Directory\n\nThe headings of all topics, microseconds for one call. Topics are of ASCII letters, under the first letters of "
+           "the table; of letters from all over the table, under such letters; or of punctuation but for the last. ICU halves over the "
+           "headings at its primary strength.\n\n");
     printf("| lines | headings | topics | letters | length | ICU halving | ours | check | left | left / ICU |\n"
            "|--:|--:|--:|---|--:|--:|--:|--:|--:|--:|\n");
     directory_rows(&forward_tables[0], sizes[0], 26);

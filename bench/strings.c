@@ -8,6 +8,7 @@
 
 const char *const difference_names[DIFFERENCES] = {"first letter", "last letter", "case of the first", "case of the last",
                                                    "ignorable, last but one"};
+const char *const topic_names[TOPICS] = {"ASCII", "all", "ASCII, last alone"};
 
 struct string first_strings[MOST_PAIRS], second_strings[MOST_PAIRS];
 struct page page;
@@ -126,15 +127,16 @@ static void put_character(uint32_t c)
     page.utf16[page.count++] = (uint16_t)c;
 }
 
-static uint32_t topic_character(void)
+static void put_topic(int length, enum topic topic)
 {
-    if (random_below(8) == 0)
-        return punctuation[random_below(3)];
-    uint32_t k = random_below((uint32_t)letters);
-    return random_below(4) == 0 ? capital[k] : small[k];
+    for (int k = 0; k < length; k++) {
+        uint32_t letter = random_below((uint32_t)letters), c = random_below(4) == 0 ? capital[letter] : small[letter];
+        int quiet = topic == LATE ? k < length - 1 : random_below(8) == 0;
+        put_character(quiet ? punctuation[random_below(3)] : c);
+    }
 }
 
-void make_page(int headings, int topics, int length, const struct line *lines, int count, int whole)
+void make_page(int headings, int topics, int length, enum topic topic, const struct line *lines, int count)
 {
     static uint32_t firsts[MOST_LINES]; /* a letter for each first weight, rising */
     int many = 0;
@@ -146,14 +148,13 @@ void make_page(int headings, int topics, int length, const struct line *lines, i
     page.topics = topics;
     for (int k = 0; k < headings; k++) {
         size_t start = page.count;
-        put_character(firsts[whole ? k * many / headings : k]);
+        put_character(firsts[topic == ALL ? k * many / headings : k]);
         put_part(&page.heading_parts[2 * k], start);
     }
-    list_letters(lines, count, whole);
+    list_letters(lines, count, topic == ALL);
     for (int k = 0; k < topics; k++) {
         size_t start = page.count;
-        for (int i = 0; i < length; i++)
-            put_character(topic_character());
+        put_topic(length, topic);
         put_part(&page.topic_parts[2 * k], start);
     }
 }
