@@ -11,4 +11,4 @@ abbrev pub chars-plain : Plains (fields chars.the-type)
 chars-plain = (u8-plain, (u8-plain, (bool-plain, (bool-plain, tt))))
 
 abbrev pub refusal-plain : Plainss (variants refusal.the-type)
-refusal-plain = (tt, (tt, (tt, (tt, (tt, (tt, (tt, (tt, (tt, (tt, (tt, (tt, (tt, (tt, tt))))))))))))))
+refusal-plain = (tt, (tt, (tt, (tt, (tt, (tt, (tt, (tt, (tt, (tt, (tt, (tt, (tt, (tt, (tt, (tt, (tt, tt)))))))))))))))))

@@ -12,7 +12,8 @@ use Rattle.lists.proofs.Bools.{by, clash, or-false-intro}
 use Rattle.rules.specs.Text.{within, every, oneOf}
 use Rattle.rules.specs.Meaning.{Item, Meaning, goodWeights, goodItem, weightCount, good}
 use Rattle.rules.specs.Table.{itemNumbers, weightNumbers, permutation, storedForm, meaningIn, accepted}
-use Rattle.rules.specs.Calls.{checkCall, stepCall, compareCall, keyFor, keyCall, writtenAs}
+use Rattle.rules.specs.Directory.{directoryOf}
+use Rattle.rules.specs.Calls.{checkCall, stepCall, compareCall, keyFor, keyCall, writtenAs, directedAs, directoryCall}
 use Rattle.rules.proofs.TextLaws.{every-head, every-tail, every-both, within-low}
 use Rattle.rules.proofs.MeaningLaws.{item-parts, good-parts, goodItems-weights}
 use Rattle.rules.proofs.SizeLaws.{weights-length}
@@ -30,24 +31,30 @@ use Rattle.order.proofs.AnswerLaws.{steppedAs-unique, comparedAs-unique}
 use Rattle.keys.specs.declared.Keyed.{Keyed}
 use Rattle.keys.specs.declared.Keyed.the-variants as keyed
 use Rattle.keys.proofs.AnswerLaws.{keyedAs-unique}
-use Rattle.demands.specs.Answered.{Checks, Steps, Compares, Keys, levelsStated, weightsStated}
+use Rattle.directory.specs.declared.Directed.{Directed}
+use Rattle.directory.specs.declared.Directed.the-variants as directed
+use Rattle.directory.proofs.AnswerLaws.{directedIs-unique}
+use Rattle.demands.specs.Answered.{Checks, Steps, Compares, Keys, Directs, levelsStated, weightsStated}
 
 -- ## What is not accepted
 
--- Every operation on tables refuses the table by 11, and a lent room is as it was.
+-- Every operation on tables refuses the table by 11, and a lent room or list is as it was.
 pub record RefusedByAll (t : List ℕ) : Type 0 where
   pub check : (r : Verdict) → Checks t r → r ≡ verdict.Refused NotAccepted
   pub step : (s : List ℕ) (at : ℕ) (r : Stepping) → Steps t s at r → r ≡ stepping.Refused NotAccepted
   pub compare : (a b : List ℕ) (r : Comparison) → Compares t a b r → r ≡ comparison.Refused NotAccepted
   pub key : (s room : List ℕ) (r : Keyed) (room₁ : List ℕ) → Keys t s room r room₁ → (r ≡ keyed.Refused NotAccepted) × (room₁ ≡ room)
+  pub directory : (run headings topics list : List ℕ) (r : Directed) (list₁ : List ℕ) → Directs t run headings topics list r list₁
+      → (r ≡ directed.Refused NotAccepted) × (list₁ ≡ list)
 
 pub unaccepted-refused : (t : List ℕ) → accepted t ≡ false → RefusedByAll t
-unfolding checkCall stepCall compareCall keyCall keyFor writtenAs
+unfolding checkCall stepCall compareCall keyCall keyFor writtenAs directoryCall directoryOf directedAs
 unaccepted-refused t h = record {
   check = λ r e. checkedAs-unique r (verdict.Refused NotAccepted) (rw h at e);
   step = λ s at r e. steppedAs-unique r (stepping.Refused NotAccepted) (rw h at e);
   compare = λ a b r e. comparedAs-unique r (comparison.Refused NotAccepted) (rw h at e);
   key = λ s room r room₁ e. keyedAs-unique r (keyed.Refused NotAccepted) room₁ room (rw h at e);
+  directory = λ run headings topics list r list₁ e. directedIs-unique r (directed.Refused NotAccepted) list₁ list (rw h at e);
 }
 
 -- ## What an accepted table states

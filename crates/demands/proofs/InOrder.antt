@@ -1,5 +1,5 @@
 -- Demand 1: "Bad input gets the numbered refusal of document 01, in its order": of each public operation, for every answer, its refusal is the first
--- that is given of 01's list for it, and there is none on any other ground.
+-- that is given of 01's list for it, or of 02's, and there is none on any other ground.
 use mathlib.Core.Path.{_≡_, ap, _∙_}
 use mathlib.Core.Bool.{not, _&&_}
 use mathlib.Core.List.{List, [], _∷_, map}
@@ -18,7 +18,7 @@ use Rattle.rules.specs.Order.{goodString, keyOf}
 use Rattle.rules.specs.Table.{accepted, meaningIn}
 use Rattle.rules.specs.Charmap.{MapEnded, mapStart, mapLinesFrom, charmapOf}
 use Rattle.rules.specs.Coding.{areaAccepted, codeAt, byteAt, decodeOf, encodeOf}
-use Rattle.rules.specs.Directory.{partsOf, partsFit, goodPart, partWeight, plainFirst, goodHeadings, directoryOf}
+use Rattle.rules.specs.Directory.{partsOf, partsFit, goodPart, weightsOf, plainFirst, goodHeadings, directoryOf}
 use Rattle.rules.specs.Calls as calls
 use Rattle.rules.specs.Calls.{compiledAs, compileCall, checkCall, stepCall, compareCall, keyFor, keyCall, writtenAs, mappedAs, charmapCall, areaCall, decodeCall, encodeCall, directedAs, directoryCall}
 use Rattle.compile.specs.Answers.{toldAs}
@@ -203,7 +203,7 @@ pub directory-refusal : (t run headings topics list : List ℕ) (r : Directed) (
     ∷ 17 unless partsFit run (partsOf topics)
     ∷ 12 unless every (goodPart run) (partsOf headings)
     ∷ 12 unless every (goodPart run) (partsOf topics)
-    ∷ 15 unless goodHeadings (map (partWeight (meaningIn t) run) (partsOf headings))
+    ∷ 15 unless goodHeadings (weightsOf t run headings)
     ∷ 13 unless leb (length (partsOf topics)) (length list)
     ∷ [])
 unfolding directoryCall directoryOf directedAs firstGiven
@@ -216,7 +216,7 @@ directory-refusal t run headings topics list r list₁ e =
     (λ c. by (partsFit run (partsOf topics))
     (λ d. by (every (goodPart run) (partsOf headings))
     (λ f. by (every (goodPart run) (partsOf topics))
-    (λ g. by (goodHeadings (map (partWeight (meaningIn t) run) (partsOf headings)))
+    (λ g. by (goodHeadings (weightsOf t run headings))
     (λ h. by (ltb (length list) (length (partsOf topics))) (λ i. rw (a, b, c, d, f, g, h, i)) (λ i. rw (a, b, c, d, f, g, h, i)))
     (λ h. rw (a, b, c, d, f, g, h)))
     (λ g. rw (a, b, c, d, f, g)))

@@ -1,6 +1,6 @@
 -- Demand 1: "a refused call leaves tables and keys untouched". 01: "Lent areas but the work area stay unchanged; on success so does what lies past the
 -- result", and the work area "is all zero after every call, refused ones too". What is lent for reading alone cannot be written, so the other four operations
--- need no such law.
+-- need no such law. What lies past a directory's list is in Pages.
 use mathlib.Core.Path.{_≡_, refl, sym, ap, _∙_}
 use mathlib.Core.List.{List, []}
 use Prim.Native.Nat.{ℕ}

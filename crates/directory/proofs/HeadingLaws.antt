@@ -15,11 +15,11 @@ use borrow.Author.Tests.{ltb-true, lt-ltb, le-ltb}
 use Rattle.lists.proofs.Bools.{by, and-left, and-right, and-intro}
 use Rattle.rules.specs.Text.{every}
 use Rattle.rules.specs.Table.{meaningIn}
-use Rattle.rules.specs.Directory.{part, partsOf, partWeight, rising, goodHeadings, headingOf}
+use Rattle.rules.specs.Directory.{part, partsOf, partWeight, rising, goodHeadings, headingOf, partAt, weightsOf}
 use Rattle.rules.specs.Calls.{over}
-use Rattle.rules.proofs.DirectoryLaws.{Above, heading-before, heading-last, heading-most, rising-from}
+use Rattle.rules.proofs.DirectoryLaws.{Above, heading-before, heading-last, heading-most, rising-from, some-weight}
 use Rattle.rules.proofs.PutLaws.{Putting, putting-none, putting-more, putting-all}
-use Rattle.directory.specs.Pages.{partAt, weightsOf, Ready, Rising, Weighed}
+use Rattle.directory.specs.Asks.{Ready, Rising, Weighed}
 
 -- ## Headings that rise, from the first on
 
@@ -47,7 +47,7 @@ and-implied false true f = f refl
 and-implied false false f = refl
 
 -- headings that are not refused rise from 0
-pub headings-run : (ws : List ℕ) → goodHeadings ws ≡ risingFrom 0 ws
+headings-run : (ws : List ℕ) → goodHeadings ws ≡ risingFrom 0 ws
 unfolding goodHeadings every rising risingFrom
 headings-run [] = refl
 headings-run (w ∷ ws) =
@@ -55,15 +55,9 @@ headings-run (w ∷ ws) =
     (λ t. rw (t, rising-run w ws) (and-implied (every (ltb 0) ws) (risingFrom w ws) (λ h. run-above 0 w ws (omega arith) h)))
     (λ t. rw t)
 
--- none is without a weight
-run-some : (v : ℕ) (ws : List ℕ) (k : ℕ) → risingFrom v ws ≡ true → k < length ws → v < getD ws k 0
-unfolding risingFrom
-run-some v [] k h l = absurd (omega arith)
-run-some v (w ∷ ws) zero h l = ltb-true v w (and-left (ltb v w) (risingFrom w ws) h)
-run-some v (w ∷ ws) (suc k) h l =
-    let b = ltb-true v w (and-left (ltb v w) (risingFrom w ws) h) in
-    let c = run-some w ws k (and-right (ltb v w) (risingFrom w ws) h) (omega arith) in
-    omega arith
+rise-weighted : (ws : List ℕ) → goodHeadings ws ≡ true → every (ltb 0) ws ≡ true
+unfolding goodHeadings
+rise-weighted ws h = and-left (every (ltb 0) ws) (rising ws) h
 
 -- ## Halving
 
@@ -117,7 +111,7 @@ module _ {ws : List ℕ} {w lo hi : ℕ} (v : Halving ws w lo hi) where
         go zero e = e ∙ sym (heading-before ws w (rw (here, e) at (v .above)))
         go (suc k) e =
             let l : k < length ws = omega (arith, v .inside) in
-            let p = run-some 0 ws k (sym (headings-run ws) ∙ r .rise) l in
+            let p = some-weight ws k (rise-weighted ws (r .rise)) l in
             let b = v .below k e in
             e ∙ sym (heading-last ws w k (omega arith) l b (rw (here, e) at (v .above)))
 

@@ -1,5 +1,5 @@
 -- The first weight of a part, and the answer of the directory, refusal by refusal.
-use mathlib.Core.Path.{_≡_, refl, sym, ap, _∙_}
+use mathlib.Core.Path.{_≡_, sym, ap, _∙_}
 use mathlib.Core.Bool.{Bool, true, false, not, _&&_, _||_}
 use mathlib.Core.List.{List, map}
 use Prim.Native.Nat.{ℕ, _+_, _-_, _≤_, _<_}
@@ -8,12 +8,12 @@ use lib.ListN.{length, take, drop, length-map}
 use lib.Seq.{length-take-le}
 use lib.Dec.{leb, ltb}
 use borrow.Author.Tests.{lt-ltb, le-ltb, le-leb, lt-leb, leb-true, not-true, not-false}
-use Rattle.lists.proofs.Bools.{and-left, and-right, and-intro}
+use Rattle.lists.proofs.Bools.{and-left, and-right}
 use Rattle.rules.specs.Text.{if_then_else_, every, granted, refused}
 use Rattle.rules.specs.Meaning as meaning
 use Rattle.rules.specs.Table.{accepted, meaningIn}
 use Rattle.rules.specs.Order.{goodString}
-use Rattle.rules.specs.Directory.{Part, part, partsOf, stringOf, inRun, partsFit, goodPart, firstOf, partWeight, plainFirst, goodHeadings, headingOf, directoryOf}
+use Rattle.rules.specs.Directory.{Part, part, partsOf, stringOf, inRun, partsFit, goodPart, firstOf, partWeight, plainFirst, goodHeadings, headingOf, directoryOf, partAt, weightsOf}
 use Rattle.rules.specs.Calls.{over, directedAs, directoryCall}
 use Rattle.rules.proofs.KeyLaws.{goodString-length}
 use Rattle.rules.proofs.DirectoryLaws.{plain-first, plain-weight}
@@ -26,7 +26,7 @@ use Rattle.elements.specs.Firsts.{firstEntries}
 use Rattle.elements.proofs.CutLaws.{good-ready}
 use Rattle.directory.specs.declared.Directed.the-variants.{Done, Refused}
 use Rattle.directory.specs.Answers.{directedIs}
-use Rattle.directory.specs.Pages.{partAt, weightsOf, Named, Ready, Rising, Weighed, Fitting, Page, Ranked}
+use Rattle.directory.specs.Asks.{PartReady, Ready, Rising, Weighed, Fitting, Page, RisingPage}
 use Rattle.directory.proofs.PartLaws.{slice-is, each-part}
 
 -- ## The rule of the first level
@@ -49,24 +49,24 @@ module _ (t : List ℕ) (a : accepted t ≡ true) {r : Rule} (e : ruleAs r ≡ r
 -- ## The first weight of a part
 
 -- its string can be cut
-pub named-ready : (t run : List ℕ) (a n : ℕ) (places : List ℕ) → Named t run (part a n) places
+pub part-ready : (t run : List ℕ) (a n : ℕ) (places : List ℕ) → PartReady t run (part a n) places
     → cuts.Ready t (take (a + n - a) (drop a run)) places
 unfolding goodPart
-named-ready t run a n places v =
+part-ready t run a n places v =
     let g : goodString (take (a + n - a) (drop a run)) ≡ true = rw (slice-is run a n) (v .good) in
     let l = goodString-length (take (a + n - a) (drop a run)) g in
     good-ready places (v .checked) g (omega (arith, v .room))
 
-pub named-weight : (t run : List ℕ) (a n : ℕ) (places : List ℕ) {w r : ℕ} → Named t run (part a n) places
+pub part-weight : (t run : List ℕ) (a n : ℕ) (places : List ℕ) {w r : ℕ} → PartReady t run (part a n) places
     → w ≡ firstOf (firstEntries t (take (a + n - a) (drop a run)) false) → r ≡ w → r ≡ partWeight (meaningIn t) run (part a n)
 unfolding partWeight firstEntries
-named-weight t run a n places v e f =
+part-weight t run a n places v e f =
     f ∙ e ∙ rw (slice-is run a n) (sym (plain-weight (meaningIn t) (stringOf run (part a n)) (v .plain)))
 
 -- the part at a place
-pub ready-named : (t run parts places : List ℕ) (i : ℕ) (q : Part) → Ready t run parts places → i < length (partsOf parts) → q ≡ partAt parts i
-    → Named t run q places
-ready-named t run parts places i q v h e = record {
+pub ready-part : (t run parts places : List ℕ) (i : ℕ) (q : Part) → Ready t run parts places → i < length (partsOf parts) → q ≡ partAt parts i
+    → PartReady t run q places
+ready-part t run parts places i q v h e = record {
   checked = v .checked;
   plain = v .plain;
   inside = rw e (each-part (inRun run) parts i (v .inside) h);
@@ -125,7 +125,7 @@ module _ (t run headings topics : List ℕ) (v : Page t run headings topics) whe
     room = h;
   }
 
-  pub topics-ready : (places : List ℕ) → 4096 ≤ length places → Ready t run topics places
+  topics-ready : (places : List ℕ) → 4096 ≤ length places → Ready t run topics places
   topics-ready places h = record {
     checked = v .checked;
     plain = v .plain;
@@ -156,7 +156,7 @@ module _ (t run headings topics : List ℕ) (v : Page t run headings topics) whe
     page-falls list e = rw (page-call list, ← w .is, e)
 
     pub page-ranked : (places places₀ weights₀ : List ℕ) → not b ≡ false → (4096 ≤ length places₀) × (1000 ≤ length weights₀)
-        → length places ≡ length places₀ → length weights ≡ length weights₀ → Ranked t run headings topics places weights
+        → length places ≡ length places₀ → length weights ≡ length weights₀ → RisingPage t run headings topics places weights
     page-ranked places places₀ weights₀ rises r d e =
         let yes : b ≡ true = not-false b rises in
         record {
@@ -169,7 +169,7 @@ module _ (t run headings topics : List ℕ) (v : Page t run headings topics) whe
 
 -- ## A page whose headings rise
 
-module _ (t run headings topics places weights : List ℕ) (v : Ranked t run headings topics places weights) where
+module _ (t run headings topics places weights : List ℕ) (v : RisingPage t run headings topics places weights) where
   ranked-call : (list : List ℕ) → directoryCall t run headings topics list ≡ directedAs
       (if ltb (length list) (length (partsOf topics)) then refused 13 0
       else granted (map (headingOf (weightsOf t run headings)) (weightsOf t run topics)))

@@ -12,9 +12,8 @@ use borrow.Author.Tests.{le-leb, lt-leb, leb-true, leb-false, not-true, not-fals
 use Rattle.lists.proofs.Bools.{by}
 use Rattle.rules.specs.Text.{every}
 use Rattle.rules.specs.Order.{goodString}
-use Rattle.rules.specs.Directory.{Part, part, partsOf, stringOf, inRun, partsFit, goodPart}
+use Rattle.rules.specs.Directory.{Part, part, partsOf, stringOf, inRun, goodPart, partAt}
 use Rattle.rules.proofs.TextLaws.{every-head, every-tail}
-use Rattle.directory.specs.Pages.{partAt}
 
 -- ## Numbers as parts
 

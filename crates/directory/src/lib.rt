@@ -4,14 +4,13 @@ ghost use mathlib.Core.Bool.{true, _&&_};
 ghost use mathlib.Core.List.{map};
 ghost use Prim.Native.Nat.{_≤_, _<_};
 ghost use lib.ListN.{length};
-ghost use lib.Dec.{leb};
 ghost use Rattle.rules.specs.Text.{every};
 ghost use Rattle.rules.specs.Table.{accepted, meaningIn};
-ghost use Rattle.rules.specs.Directory.{partsOf, inRun, partsFit, goodPart, partWeight, plainFirst, headingOf};
+ghost use Rattle.rules.specs.Directory.{partsOf, inRun, partsFit, goodPart, partWeight, plainFirst, headingOf, partAt};
 ghost use Rattle.elements.specs.Firsts.{leadingAs};
 ghost use Rattle.rules.specs.Calls.{over, directoryCall};
 ghost use Rattle.directory.specs.Answers.{directedIs};
-ghost use Rattle.directory.specs.Pages.{partAs, partAt, Named, Ready, Rising, Weighed, Fitting, Page, Ranked};
+ghost use Rattle.directory.specs.Asks.{partAs, PartReady, Ready, Rising, Weighed, Fitting, Page, RisingPage};
 use elements::Leading;
 use units::Refusal;
 
@@ -86,7 +85,7 @@ fn fit(run: &[u32], parts: &[u64]) -> bool
     all_inside(run, parts)
 }
 
-// Whether headings and topics do.
+// Whether headings and topics are not too many, and lie in the run.
 fn both_fit(run: &[u32], headings: &[u64], topics: &[u64]) -> bool
     ensures { λ r. ⌜ r ≡ (partsFit (now (run .entry)) (partsOf (now (headings .entry))) && partsFit (now (run .entry)) (partsOf (now (topics .entry)))) ⌝ }
 {
@@ -107,7 +106,7 @@ fn good(run: &[u32], p: Part) -> bool
     units::good_string(&run[start..end])
 }
 
-// Whether the string of every part is.
+// Whether the string of every part is one that no operation refuses.
 fn all_good(run: &[u32], parts: &[u64]) -> bool
     requires { ⌜ every (inRun (now run)) (partsOf (now parts)) ≡ true ⌝ }
     ensures { λ r. ⌜ r ≡ every (goodPart (now (run .entry))) (partsOf (now (parts .entry))) ⌝ }
@@ -125,7 +124,7 @@ fn all_good(run: &[u32], parts: &[u64]) -> bool
     true
 }
 
-// Whether the strings of headings and topics are, which fit.
+// Whether the strings of all headings and topics are such strings.
 fn both_good(run: &[u32], headings: &[u64], topics: &[u64]) -> bool
     requires { ⌜ Fitting (now run) (now headings) (now topics) ⌝ }
     ensures { λ r. ⌜ r ≡ (every (goodPart (now (run .entry))) (partsOf (now (headings .entry))) && every (goodPart (now (run .entry))) (partsOf (now (topics .entry)))) ⌝ }
@@ -149,7 +148,7 @@ fn number(w: Leading) -> u32
 
 // The first weight of a part's string.
 fn part_weight(t: &[u32], run: &[u32], p: Part, places: &mut [u32]) -> u32
-    requires { ⌜ Named (now t) (now run) (partAs p) (now places) ⌝ }
+    requires { ⌜ PartReady (now t) (now run) (partAs p) (now places) ⌝ }
     ensures { λ r. ⌜ r ≡ partWeight (meaningIn (now (t .entry))) (now (run .entry)) (partAs p) ⌝ }
 {
     let start = p.start;
@@ -158,7 +157,7 @@ fn part_weight(t: &[u32], run: &[u32], p: Part, places: &mut [u32]) -> u32
     number(w)
 }
 
-// The same of the part at a place.
+// The first weight of the string of the part at a place, from 0.
 fn weight(t: &[u32], run: &[u32], parts: &[u64], i: usize, places: &mut [u32]) -> u32
     requires { ⌜ Ready (now t) (now run) (now parts) (now places) ⌝ }
     requires { ⌜ i < length (partsOf (now parts)) ⌝ }
@@ -189,7 +188,7 @@ fn weigh(t: &[u32], run: &[u32], headings: &[u64], places: &mut [u32], weights: 
     true
 }
 
-// The number of the last heading whose weight is not above w, by halving; 0 where there is none.
+// The number of the last heading whose weight is not above w, from 1; 0 where there is none.
 fn heading(weights: &[u32], w: u32) -> usize
     requires { ⌜ Rising (now weights) ⌝ }
     ensures { λ r. ⌜ r ≡ headingOf (now (weights .entry)) w ⌝ }
@@ -232,7 +231,7 @@ fn write(
 }
 
 // The list, where it is long enough, of a page whose headings' weights stand in front of `weights`.
-fn list_ranked(
+fn list_rising(
     t: &[u32],
     run: &[u32],
     headings: &[u64],
@@ -241,7 +240,7 @@ fn list_ranked(
     places: &mut [u32],
     weights: &[u32],
 ) -> Directed
-    requires { ⌜ Ranked (now t) (now run) (now headings) (now topics) (now places) (now weights) ⌝ }
+    requires { ⌜ RisingPage (now t) (now run) (now headings) (now topics) (now places) (now weights) ⌝ }
     ensures { λ r. ⌜ directedIs r (now (list .exit)) ≡ directoryCall (now (t .entry)) (now (run .entry)) (now (headings .entry)) (now (topics .entry)) (now (list .entry)) ⌝ }
 {
     let n = count(topics);
@@ -271,10 +270,10 @@ fn list_within(
     if !rise {
         return Directed::Refused(Refusal::NotRising);
     }
-    list_ranked(t, run, headings, topics, list, places, weights)
+    list_rising(t, run, headings, topics, list, places, weights)
 }
 
-// The same with room of its own.
+// The list of a page, where its headings rise.
 fn list_page(
     t: &[u32],
     run: &[u32],

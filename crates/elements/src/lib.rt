@@ -1,4 +1,4 @@
-// The elements of a string: cut all at once, or only as far as the first level is compared.
+// The elements of a string: cut all at once, or only as far as the first level takes it.
 ghost use mathlib.Core.Path.{_≡_};
 ghost use mathlib.Core.Bool.{false};
 ghost use Prim.Native.Nat.{_≤_, _<_};

@@ -170,10 +170,10 @@ module _ {c : ℕ} {v : AreaVerdict} (is : numberIs v ≡ c) where
 
 -- ## directory
 
-module _ {c : calls.Directed} {list₁ : List ℕ} {d : Directed} (is : directedIs d list₁ ≡ c) where
-  directed-is : {refusal : ℕ} → record { refusal = refusal; list = list₁ } ≡ c → DirectedIs c refusal list₁
-  directed-is e = record { returned = ap (λ (x : calls.Directed). x .refusal) e; list = ap (λ (x : calls.Directed). x .list) e }
+directed-is : {c : calls.Directed} {refusal : ℕ} {list₁ : List ℕ} → record { refusal = refusal; list = list₁ } ≡ c → DirectedIs c refusal list₁
+directed-is e = record { returned = ap (λ (x : calls.Directed). x .refusal) e; list = ap (λ (x : calls.Directed). x .list) e }
 
+module _ {c : calls.Directed} {list₁ : List ℕ} {d : Directed} (is : directedIs d list₁ ≡ c) where
   pub directed-done : d ≡ directed.Done → DirectedIs c 0 list₁
   directed-done e = directed-is (sym (ap (λ (x : Directed). directedIs x list₁) e) ∙ is)
 

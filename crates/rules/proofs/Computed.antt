@@ -14,10 +14,10 @@ use Rattle.rules.specs.Table.{ruleNumber, before, inserted, sorted, plac
 use Rattle.rules.specs.Order.{goodString, longest, undefinedFrom, stepOf, elements, weightsAt, more, entriesFrom, walked, levelEntries, codes, levelsFrom, levelsOf, signℕ, signEntry, signList, common, answerFrom, compareOf, levelKey, codesKey, levelsKey, keyOf, signBytes}
 use Rattle.rules.specs.Charmap.{signHeader, headerLine, counted, givesByte, isGiven, entryLine, bodyLine, mapLinesFrom, codeGiven, firstByte, encodes, numbersFrom, areaOf, charmapOf}
 use Rattle.rules.specs.Coding.{goodOnes, onesOf, oneEach, areaAccepted, byteFrom, decodeOf, encodeOf}
-use Rattle.rules.specs.Directory.{partsOf, stringOf, inRun, partsFit, goodPart, firstOf, firstWeight, partWeight, plainFirst, rising, goodHeadings, lastNotAbove, headingOf, directoryOf}
+use Rattle.rules.specs.Directory.{partsOf, partAt, stringOf, inRun, partsFit, goodPart, firstOf, firstWeight, partWeight, plainFirst, rising, goodHeadings, lastNotAbove, headingOf, directoryOf}
 use Rattle.rules.specs.Calls.{cleared, compiledAs, compileCall, checkCall, stepCall, compareCall, writtenAs, keyFor, keyCall, decodeCall, encodeCall, mappedAs, charmapCall, areaCall, directedAs, directoryCall}
 use Rattle.rules.specs.Pairs.{localeFile, charmapFile, digitsIn, textsFrom, comparedLine, refusedLine, pairLine, pairLines, fileLine, pairsWith, pairsFrom, pairsOf}
 
 unfoldable pub computed : Unit {0}
-unfolding flatten bytes every oneOf same is begins lower lowest nameRefusal namesRefusal hexValue charShaped codeOf isCharName lexNone lex lexEnd tokensFrom withoutBlanks tokensOf withoutGaps operands tokensRefusal plainMarks wordsOf withoutOpeningGaps isByte isRange isEntry after isWordLine isSignLine isSignHeader takesAsIs opensComment endsEntry scanEscaped scan lineFrom lineOf isSign signRefusal signSet countAll weightCount sizeOf goodWeights goodItem hasChars noTwoAlike good isToggle isOn turned toggleRefusal defineLine ifLine elifLine declares declaresSymbol declaresChars isNew symbolLine elementFormed elementLine splitAt ruleWord ruleCode ruleCodes rulesFormed orderStartLine subjectOf sameSubject stands isSymbol weightRefusal weightsRefusal weightOf weightsOf rankFrom takenOut putAfter placed again orderLine reorderAfterLine reorderEndLine categoryLine signLine outsideLine endLine collateLine tokenLine wholeLine otherLine unusedLine lineOutcome linesFrom charsNamed charsOf ranksOf lineRanks itemsFrom levelsOfRank supplied meaningOf isRanked unranked finish compileOf ruleNumber before inserted sorted placedFrom permutation itemNumbers weightNumbers storedForm ruleOfNumber unpadded cutBy total itemsAt meaningIn accepted goodString longest undefinedFrom stepOf elements weightsAt more entriesFrom walked levelEntries codes levelsFrom levelsOf signℕ signEntry signList common answerFrom compareOf levelKey codesKey levelsKey keyOf signBytes signHeader headerLine counted givesByte isGiven entryLine bodyLine mapLinesFrom codeGiven firstByte encodes numbersFrom areaOf charmapOf goodOnes onesOf oneEach areaAccepted byteFrom decodeOf encodeOf partsOf stringOf inRun partsFit goodPart firstOf firstWeight partWeight plainFirst rising goodHeadings lastNotAbove headingOf directoryOf cleared compiledAs compileCall checkCall stepCall compareCall writtenAs keyFor keyCall decodeCall encodeCall mappedAs charmapCall areaCall directedAs directoryCall localeFile charmapFile digitsIn textsFrom comparedLine refusedLine pairLine pairLines fileLine pairsWith pairsFrom pairsOf
+unfolding flatten bytes every oneOf same is begins lower lowest nameRefusal namesRefusal hexValue charShaped codeOf isCharName lexNone lex lexEnd tokensFrom withoutBlanks tokensOf withoutGaps operands tokensRefusal plainMarks wordsOf withoutOpeningGaps isByte isRange isEntry after isWordLine isSignLine isSignHeader takesAsIs opensComment endsEntry scanEscaped scan lineFrom lineOf isSign signRefusal signSet countAll weightCount sizeOf goodWeights goodItem hasChars noTwoAlike good isToggle isOn turned toggleRefusal defineLine ifLine elifLine declares declaresSymbol declaresChars isNew symbolLine elementFormed elementLine splitAt ruleWord ruleCode ruleCodes rulesFormed orderStartLine subjectOf sameSubject stands isSymbol weightRefusal weightsRefusal weightOf weightsOf rankFrom takenOut putAfter placed again orderLine reorderAfterLine reorderEndLine categoryLine signLine outsideLine endLine collateLine tokenLine wholeLine otherLine unusedLine lineOutcome linesFrom charsNamed charsOf ranksOf lineRanks itemsFrom levelsOfRank supplied meaningOf isRanked unranked finish compileOf ruleNumber before inserted sorted placedFrom permutation itemNumbers weightNumbers storedForm ruleOfNumber unpadded cutBy total itemsAt meaningIn accepted goodString longest undefinedFrom stepOf elements weightsAt more entriesFrom walked levelEntries codes levelsFrom levelsOf signℕ signEntry signList common answerFrom compareOf levelKey codesKey levelsKey keyOf signBytes signHeader headerLine counted givesByte isGiven entryLine bodyLine mapLinesFrom codeGiven firstByte encodes numbersFrom areaOf charmapOf goodOnes onesOf oneEach areaAccepted byteFrom decodeOf encodeOf partsOf partAt stringOf inRun partsFit goodPart firstOf firstWeight partWeight plainFirst rising goodHeadings lastNotAbove headingOf directoryOf cleared compiledAs compileCall checkCall stepCall compareCall writtenAs keyFor keyCall decodeCall encodeCall mappedAs charmapCall areaCall directedAs directoryCall localeFile charmapFile digitsIn textsFrom comparedLine refusedLine pairLine pairLines fileLine pairsWith pairsFrom pairsOf
 computed = tt

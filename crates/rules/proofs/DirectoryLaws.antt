@@ -1,5 +1,5 @@
 -- The directory: which heading a topic gets, that no other fits, and that headings rise as topics do.
-use mathlib.Core.Path.{_≡_, refl, sym, ap, _∙_}
+use mathlib.Core.Path.{_≡_, refl, sym, _∙_}
 use mathlib.Core.Bool.{Bool, true, false, not, cond, _||_, false≢true}
 use mathlib.Core.List.{List, [], _∷_, map}
 use Prim.Native.Nat.{ℕ, zero, suc, _+_, _≤_, _<_}
@@ -7,13 +7,16 @@ use native.Mathlib.Omega.{arith}
 use lib.ListN.{length, getD}
 use lib.Dec.{eqb, leb, ltb}
 use borrow.Author.Tests.{leb-true, leb-false, le-leb, lt-leb, ltb-true, eqb-true, eqb-false, ne-eqb, not-true}
+use Rattle.lists.proofs.Lists.{All}
 use Rattle.lists.proofs.Bools.{by, and-left, and-right, or-false-left, or-false-right}
 use Rattle.rules.specs.Text.{every}
-use Rattle.rules.specs.Meaning.{Rule, Meaning}
-use Rattle.rules.specs.Order.{Entry, Sign, less, equal, greater, orElse, signℕ, signEntry, signList, entriesFrom, walked, levelEntries, elements, levelsOf, levelsFrom, weightsAt, compareOf, entryLists}
+use Rattle.rules.specs.Meaning.{Rule, Meaning, good}
+use Rattle.rules.specs.Order.{Entry, equal, greater, signℕ, signEntry, signList, entriesFrom, walked, levelEntries, elements, levelsOf, levelsFrom, weightsAt, compareOf}
 use Rattle.rules.specs.Directory.{firstOf, firstWeight, plainFirst, rising, lastNotAbove, headingOf}
 use Rattle.rules.proofs.TextLaws.{every-head, every-tail}
 use Rattle.rules.proofs.SignLaws.{Tri, tri, below, same, above, signℕ-same, signℕ-above}
+use Rattle.rules.proofs.MeaningLaws.{good-parts}
+use Rattle.rules.proofs.EntryLaws.{Fits, level-fits}
 use Rattle.rules.proofs.OrderLaws.{signLevels, compare-sign}
 
 -- ## The last heading not above a weight
@@ -47,7 +50,7 @@ last-one w n (v ∷ vs) best (suc k) h l a =
     omega arith
 
 -- What is found: nothing, all being above it; or the last that is not.
-pub data Found (w n : ℕ) (ws : List ℕ) (best r : ℕ) : Type 0 where
+data Found (w n : ℕ) (ws : List ℕ) (best r : ℕ) : Type 0 where
   nothing : r ≡ best → Above w 0 ws → Found w n ws best r
   one : (k : ℕ) → r ≡ n + k → k < length ws → getD ws k 0 ≤ w → Above w (suc k) ws → Found w n ws best r
 
@@ -70,7 +73,7 @@ found-later {w} {n} {v} vs true e (nothing i a) = one 0 (omega arith) (omega ari
 found-later {w} {n} {v} vs false e (nothing i a) = nothing i (above-both (leb-false v w e) a)
 found-later {w} {n} {v} vs t e (one k i h l a) = one (suc k) (omega arith) (omega arith) l (above-cons v a)
 
-pub found : (w n : ℕ) (ws : List ℕ) (best : ℕ) → Found w n ws best (lastNotAbove w n ws best)
+found : (w n : ℕ) (ws : List ℕ) (best : ℕ) → Found w n ws best (lastNotAbove w n ws best)
 unfolding lastNotAbove
 found w n [] best = nothing refl (record { each = λ j h l. absurd (omega arith) })
 found w n (v ∷ vs) best = found-later vs (leb v w) refl (found w (suc n) vs (cond (leb v w) n best))
@@ -95,7 +98,7 @@ heading-before ws w a = by (eqb w 0) (λ e. rw e) (λ e. rw e (last-none w 1 ws 
 pub heading-last : (ws : List ℕ) (w k : ℕ) → 0 < w → k < length ws → getD ws k 0 ≤ w → Above w (suc k) ws → headingOf ws w ≡ suc k
 heading-last ws w k p h l a = let z : 1 + k ≡ suc k = omega arith in heading-weighed ws w p ∙ last-one w 1 ws 0 k h l a ∙ z
 
--- "heading 0, which always exists": no number is above that of the last heading
+-- at most the number of headings
 pub heading-most : (ws : List ℕ) (w : ℕ) → headingOf ws w ≤ length ws
 heading-most ws w = by (eqb w 0) (λ e. weightless (eqb-true w 0 e)) (λ e. weighed (eqb-false w 0 e))
   where
@@ -108,7 +111,7 @@ heading-most ws w = by (eqb w 0) (λ e. weightless (eqb-true w 0 e)) (λ e. weig
     weighed n = rw (heading-weighed ws w (omega arith)) (most (found w 1 ws 0))
 
 -- its heading is not above it
-pub heading-not-above : (ws : List ℕ) (w k : ℕ) → headingOf ws w ≡ suc k → getD ws k 0 ≤ w
+heading-not-above : (ws : List ℕ) (w k : ℕ) → headingOf ws w ≡ suc k → getD ws k 0 ≤ w
 heading-not-above ws w k e = by (eqb w 0) (λ t. weightless (eqb-true w 0 t)) (λ t. weighed (eqb-false w 0 t))
   where
     weightless : w ≡ 0 → getD ws k 0 ≤ w
@@ -120,14 +123,14 @@ heading-not-above ws w k e = by (eqb w 0) (λ t. weightless (eqb-true w 0 t)) (�
     weighed n = told (sym (heading-weighed ws w (omega arith)) ∙ e) (found w 1 ws 0)
 
 -- and every later heading is
-pub heading-above : (ws : List ℕ) (w : ℕ) → 0 < w → Above w (headingOf ws w) ws
+heading-above : (ws : List ℕ) (w : ℕ) → 0 < w → Above w (headingOf ws w) ws
 heading-above ws w p = rw (heading-weighed ws w p) (told (found w 1 ws 0))
   where
     told : Found w 1 ws 0 (lastNotAbove w 1 ws 0) → Above w (lastNotAbove w 1 ws 0) ws
     told (nothing i a) = rw i a
     told (one k i h l a) = let z : 1 + k ≡ suc k = omega arith in rw (i, z) a
 
--- a greater weight gets no smaller number
+-- a weight that is not smaller gets no smaller number
 pub heading-rises : (ws : List ℕ) (v w : ℕ) → v ≤ w → headingOf ws v ≤ headingOf ws w
 heading-rises ws v w h = go (headingOf ws v) refl
   where
@@ -151,7 +154,7 @@ rising-head : (v w : ℕ) (ws : List ℕ) → rising (v ∷ w ∷ ws) ≡ true �
 unfolding rising
 rising-head v w ws h = ltb-true v w (and-left (ltb v w) (rising (w ∷ ws)) h)
 
-pub rising-tail : (v : ℕ) (ws : List ℕ) → rising (v ∷ ws) ≡ true → rising ws ≡ true
+rising-tail : (v : ℕ) (ws : List ℕ) → rising (v ∷ ws) ≡ true → rising ws ≡ true
 unfolding rising
 rising-tail v [] h = refl
 rising-tail v (w ∷ ws) h = and-right (ltb v w) (rising (w ∷ ws)) h
@@ -175,7 +178,7 @@ rising-behind [] k h c = absurd (omega arith)
 rising-behind (v ∷ vs) zero h c = above-cons v (rising-above v v vs (omega arith) h)
 rising-behind (v ∷ vs) (suc k) h c = above-cons v (rising-behind vs k (rising-tail v vs h) (omega arith))
 
-some-weight : (ws : List ℕ) (k : ℕ) → every (ltb 0) ws ≡ true → k < length ws → 0 < getD ws k 0
+pub some-weight : (ws : List ℕ) (k : ℕ) → every (ltb 0) ws ≡ true → k < length ws → 0 < getD ws k 0
 some-weight [] k h c = absurd (omega arith)
 some-weight (v ∷ vs) zero h c = ltb-true 0 v (every-head (ltb 0) v vs h)
 some-weight (v ∷ vs) (suc k) h c = some-weight vs k (every-tail (ltb 0) v vs h) (omega arith)
@@ -183,6 +186,31 @@ some-weight (v ∷ vs) (suc k) h c = some-weight vs k (every-tail (ltb 0) v vs h
 -- a heading's own string belongs to it
 pub heading-own : (ws : List ℕ) (k : ℕ) → every (ltb 0) ws ≡ true → rising ws ≡ true → k < length ws → headingOf ws (getD ws k 0) ≡ suc k
 heading-own ws k s h c = heading-last ws (getD ws k 0) k (some-weight ws k s c) c (omega arith) (rising-behind ws k h c)
+
+-- ## No weight
+
+first-none : (p : Bool) (n : ℕ) (es : List Entry) → All (Fits p n) es → firstOf es ≡ 0 → es ≡ []
+unfolding firstOf
+first-none p n [] a e = refl
+first-none p n (x ∷ xs) a e = let h = a .0 .positive in absurd (omega arith)
+
+zero-from : (rules : List Rule) (m : Meaning) (s : List ℕ) → m .rules ≡ rules → good m ≡ true → firstOf (getD (levelsFrom (m .items) rules 0 (elements (m .items) 0 s)) 0 []) ≡ 0
+    → getD (levelsFrom (m .items) rules 0 (elements (m .items) 0 s)) 0 [] ≡ []
+unfolding levelsFrom
+zero-from [] m s r g e = refl
+zero-from (r ∷ rs) m s k g e =
+    let ps : List ℕ = elements (m .items) 0 s in
+    first-none (r .position) (length ps) (levelEntries (m .items) r 0 ps)
+    (level-fits (length (m .rules)) (m .items) (good-parts m g .items) r 0 ps) e
+
+-- 0 stands for a string that has no weight at level 1, and for no other
+pub zero-none : (m : Meaning) (s : List ℕ) → good m ≡ true → firstWeight m s ≡ 0 → getD (levelsOf m s) 0 [] ≡ []
+unfolding firstWeight levelsOf
+zero-none m s g e = zero-from (m .rules) m s refl g e
+
+pub none-zero : (m : Meaning) (s : List ℕ) → getD (levelsOf m s) 0 [] ≡ [] → firstWeight m s ≡ 0
+unfolding firstWeight firstOf
+none-zero m s e = rw e
 
 -- ## A plain first level
 

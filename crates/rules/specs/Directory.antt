@@ -26,6 +26,10 @@ partsOf [] = []
 partsOf (a ∷ []) = []
 partsOf (a ∷ n ∷ rest) = part a n ∷ partsOf rest
 
+-- the part at a place, from 0
+unfoldable pub partAt : List ℕ → ℕ → Part
+partAt parts i = getD (partsOf parts) i (part 0 0)
+
 -- the string of a part
 unfoldable pub stringOf : List ℕ → Part → List ℕ
 stringOf run p = take (p .size) (drop (p .start) run)
@@ -44,7 +48,7 @@ goodPart run p = goodString (stringOf run p)
 
 -- ## "first level-1 weight"
 
--- of a level's entries: the first entry's, or 0 where there is none, since no weight is 0
+-- of a level's entries: the first entry's, or 0 where there is none, since no weight of an accepted table is 0
 unfoldable pub firstOf : List Entry → ℕ
 firstOf [] = 0
 firstOf (e ∷ es) = e .weight
@@ -57,7 +61,11 @@ firstWeight m s = firstOf (getD (levelsOf m s) 0 [])
 unfoldable pub partWeight : Meaning → List ℕ → Part → ℕ
 partWeight m run p = firstWeight m (stringOf run p)
 
--- "Level 1 must be plain forward."
+-- of each part that numbers give, by the meaning in a table
+abbrev pub weightsOf : (table run parts : List ℕ) → List ℕ
+weightsOf table run parts = map (partWeight (meaningIn table) run) (partsOf parts)
+
+-- "Level 1 must be plain forward."; every accepted table has one
 unfoldable pub plainFirst : List Rule → Bool
 plainFirst [] = false
 plainFirst (r ∷ rs) = not (r .backward || r .position)
@@ -92,11 +100,11 @@ directoryOf table run headings topics room =
     let m : Meaning = meaningIn table in
     let hs : List Part = partsOf headings in
     let ts : List Part = partsOf topics in
-    let weights : List ℕ = map (partWeight m run) hs in
+    let weights : List ℕ = weightsOf table run headings in
     if not (accepted table) then refused 11 0
     else if not (plainFirst (m .rules)) then refused 16 0
     else if not (partsFit run hs && partsFit run ts) then refused 17 0
     else if not (every (goodPart run) hs && every (goodPart run) ts) then refused 12 0
     else if not (goodHeadings weights) then refused 15 0
     else if ltb room (length ts) then refused 13 0
-    else granted (map (headingOf weights) (map (partWeight m run) ts))
+    else granted (map (headingOf weights) (weightsOf table run topics))

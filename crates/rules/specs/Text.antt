@@ -67,7 +67,8 @@ unfoldable pub lowest : List ℕ → ℕ
 lowest [] = 0
 lowest (r ∷ rs) = lower r (lowest rs)
 
--- what an operation gives, or its refusal: its number, and "the number of the first physical line, 0 for 1, 9 and 11 to 14"
+-- what an operation gives, or its refusal: its number, and "the number of the first physical line, 0 for 1, 9 and 11 to 14", and
+-- for 15 to 17 (02)
 pub data Result (A : Type 0) : Type 0 where
   granted : A → Result A
   refused : ℕ → ℕ → Result A

@@ -1,6 +1,5 @@
 -- `directory::both_good` meets its contract.
 use Rattle.directory.proofs.PageLaws.{fitting-headings, fitting-topics, first-fails, second-decides}
-use borrow.Author.Needs.{needs}
 use Rattle.directory.proofs.both_good.Statement.{statement}
 use Rattle.directory.proofs.both_good.Tie as tie
 

@@ -12,16 +12,16 @@ mul-good-string : tie.Need-mul-good-string
 mul-good-string c = let h = ends-inside (c .before .before .args .run .now) (c .before .before .args .p .start) (c .before .before .args .p .size) (c .before .before .pre) in omega arith
 
 sub-good-string : tie.Need-sub-good-string
-sub-good-string c = search (needs, ends-inside)
+sub-good-string c = search needs
 
 part-good-string-start : tie.Need-part-good-string-start
-part-good-string-start c = search (needs, ends-inside)
+part-good-string-start c = search needs
 
 part-good-string-end : tie.Need-part-good-string-end
 part-good-string-end c = search (needs, ends-inside)
 
 good-string-requires : tie.Need-good-string-requires
-good-string-requires c κs = search (needs, ends-inside)
+good-string-requires c κs = search needs
 
 returns : tie.Need-returns
 returns c = search slice-good

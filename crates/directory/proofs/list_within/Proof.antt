@@ -16,8 +16,8 @@ same-length-2 c = search needs
 returns : tie.Need-returns
 returns c = search page-falls
 
-list-ranked-requires : tie.Need-list-ranked-requires
-list-ranked-requires c κs =
+list-rising-requires : tie.Need-list-rising-requires
+list-rising-requires c κs =
     let asked = c .before .before .before .before .before .before .before .before .before .before .before .before .before .before .before .before .before .before .pre in
     search (page-ranked _ _ _ _ (asked .0) _ (c .before .before .before .before .before .before .before .before .weigh .ensures), asked .1)
 
@@ -41,7 +41,7 @@ list-within-spec =
     same-length
     same-length-2
     returns
-    list-ranked-requires
+    list-rising-requires
     same-length-3
     same-length-4
     same-length-5

@@ -1,7 +1,7 @@
 -- `directory::part_weight` meets its contract.
 use native.Mathlib.Omega.{arith}
 use Rattle.directory.proofs.PartLaws.{ends-inside}
-use Rattle.directory.proofs.PageLaws.{named-ready, named-weight}
+use Rattle.directory.proofs.PageLaws.{part-ready, part-weight}
 use borrow.Author.Needs.{needs}
 use Rattle.directory.proofs.part_weight.Statement.{statement}
 use Rattle.directory.proofs.part_weight.Tie as tie
@@ -13,25 +13,25 @@ mul-first-weight : tie.Need-mul-first-weight
 mul-first-weight c = let h = ends-inside (c .before .before .before .before .args .run .now) (c .before .before .before .before .args .p .start) (c .before .before .before .before .args .p .size) (c .before .before .before .before .pre .inside) in omega arith
 
 sub-first-weight : tie.Need-sub-first-weight
-sub-first-weight c = search (needs, ends-inside)
+sub-first-weight c = search needs
 
 part-first-weight-start : tie.Need-part-first-weight-start
-part-first-weight-start c = search (needs, ends-inside)
+part-first-weight-start c = search needs
 
 part-first-weight-end : tie.Need-part-first-weight-end
 part-first-weight-end c = search (needs, ends-inside)
 
 first-weight-requires : tie.Need-first-weight-requires
-first-weight-requires c κs = search named-ready
+first-weight-requires c κs = search part-ready
 
 number-requires : tie.Need-number-requires
-number-requires c κs = search (needs, ends-inside)
+number-requires c κs = search needs
 
 same-length : tie.Need-same-length
-same-length c = search (needs, ends-inside)
+same-length c = search needs
 
 returns : tie.Need-returns
-returns c = search named-weight
+returns c = search part-weight
 
 pub part-weight-spec : {M : Type 1} → statement M
 part-weight-spec =

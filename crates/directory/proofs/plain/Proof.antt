@@ -1,6 +1,5 @@
 -- `directory::plain` meets its contract: the rule of the first level says so.
 use Rattle.directory.proofs.PageLaws.{first-level, backward-first, forward-first}
-use borrow.Author.Needs.{needs}
 use Rattle.directory.proofs.plain.Statement.{statement}
 use Rattle.directory.proofs.plain.Tie as tie
 

@@ -1,5 +1,5 @@
 -- `directory::weight` meets its contract.
-use Rattle.directory.proofs.PageLaws.{ready-named, weight-at}
+use Rattle.directory.proofs.PageLaws.{ready-part, weight-at}
 use borrow.Author.Needs.{needs}
 use Rattle.directory.proofs.weight.Statement.{statement}
 use Rattle.directory.proofs.weight.Tie as tie
@@ -8,7 +8,7 @@ part-at-requires : tie.Need-part-at-requires
 part-at-requires c κs = search needs
 
 part-weight-requires : tie.Need-part-weight-requires
-part-weight-requires c κs = search ready-named
+part-weight-requires c κs = search ready-part
 
 same-length : tie.Need-same-length
 same-length c = search needs

@@ -1,29 +1,21 @@
 -- What the parts of a directory ask and give. No public contract cites this file.
 use mathlib.Core.Path.{_≡_}
 use mathlib.Core.Bool.{Bool, true, _&&_}
-use mathlib.Core.List.{List, map}
+use mathlib.Core.List.{List}
 use Prim.Native.Nat.{ℕ, _≤_}
-use lib.ListN.{length, getD, take}
+use lib.ListN.{length, take}
 use Rattle.rules.specs.Text.{every}
 use Rattle.rules.specs.Table.{accepted, meaningIn}
 use Rattle.rules.specs.Directory as paper
-use Rattle.rules.specs.Directory.{part, partsOf, inRun, partsFit, goodPart, partWeight, plainFirst, goodHeadings}
+use Rattle.rules.specs.Directory.{part, partsOf, inRun, partsFit, goodPart, weightsOf, plainFirst, goodHeadings}
 use Rattle.directory.specs.declared.Part.{Part}
 
 -- a part as the paper has it
 abbrev pub partAs : Part → paper.Part
 partAs p = part (p .start) (p .size)
 
--- the part at a place, from 0
-unfoldable pub partAt : List ℕ → ℕ → paper.Part
-partAt parts i = getD (partsOf parts) i (part 0 0)
-
--- the first weights of the parts, in their order
-abbrev pub weightsOf : List ℕ → List ℕ → List ℕ → List ℕ
-weightsOf t run parts = map (partWeight (meaningIn t) run) (partsOf parts)
-
 -- An accepted table whose first level is plain forward, a part of a run that is not refused, and room for the places of its string's elements.
-pub record Named (t run : List ℕ) (p : paper.Part) (places : List ℕ) : Type 0 where
+pub record PartReady (t run : List ℕ) (p : paper.Part) (places : List ℕ) : Type 0 where
   pub checked : accepted t ≡ true
   pub plain : plainFirst (meaningIn t .rules) ≡ true
   pub inside : inRun run p ≡ true
@@ -60,7 +52,7 @@ pub record Page (t run headings topics : List ℕ) : Type 0 where
   pub good : (every (goodPart run) (partsOf headings) && every (goodPart run) (partsOf topics)) ≡ true
 
 -- A page whose headings rise, with their weights in front.
-pub record Ranked (t run headings topics places weights : List ℕ) : Type 0 where
+pub record RisingPage (t run headings topics places weights : List ℕ) : Type 0 where
   pub page : Page t run headings topics
   pub kept : take (length (partsOf headings)) weights ≡ weightsOf t run headings
   pub rise : goodHeadings (weightsOf t run headings) ≡ true

@@ -1,14 +1,15 @@
--- `directory::list_ranked` meets its contract: 13, or the list.
+-- `directory::list_rising` meets its contract: 13, or the list.
 use Rattle.directory.proofs.PageLaws.{ranked-short, ranked-count, ranked-ready, ranked-rising, ranked-written}
+use native.Mathlib.Omega.{arith}
 use borrow.Author.Needs.{needs}
-use Rattle.directory.proofs.list_ranked.Statement.{statement}
-use Rattle.directory.proofs.list_ranked.Tie as tie
+use Rattle.directory.proofs.list_rising.Statement.{statement}
+use Rattle.directory.proofs.list_rising.Tie as tie
 
 count-requires : tie.Need-count-requires
 count-requires c κs = search needs
 
 returns : tie.Need-returns
-returns c = search ranked-short
+returns c = ranked-short _ _ _ _ _ _ (c .before .before .before .before .before .before .before .before .before .pre) _ (c .before .count .ensures) (omega arith)
 
 count-requires-2 : tie.Need-count-requires-2
 count-requires-2 c κs = search needs
@@ -30,8 +31,8 @@ same-length-2 c = search needs
 returns-2 : tie.Need-returns-2
 returns-2 c = search ranked-written
 
-pub list-ranked-spec : {M : Type 1} → statement M
-list-ranked-spec =
+pub list-rising-spec : {M : Type 1} → statement M
+list-rising-spec =
     tie.close
     (tie.spec
     count-requires
