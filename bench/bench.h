@@ -48,7 +48,7 @@ struct source joined_name_source(int count);
 /* Writes NAME.src, with the categories that localedef asks for, and NAME.charmap, with ASCII and the characters that the source names. */
 void write_source(const char *folder, const struct source *source);
 
-/* ---- strings.c: pairs of strings ---- */
+/* ---- strings.c: pairs of strings, pages ---- */
 
 enum { MOST_LENGTH = 4096, MOST_PAIRS = 8 };
 
@@ -69,6 +69,27 @@ extern struct string first_strings[MOST_PAIRS], second_strings[MOST_PAIRS];
 
 /* Makes pairs of this length, of ASCII letters or of letters from all over the table: how many. One character in eight is punctuation. */
 int make_pairs(enum difference difference, int length, const struct line *lines, int count, int whole);
+
+/* A page: so many headings and topics, parts of one run, each a start and a length. ICU takes the same parts of the run in UTF-16. */
+enum { MOST_PARTS = 1000, MOST_TOPIC = 64, MOST_RUN = MOST_PARTS * (1 + MOST_TOPIC) };
+
+struct page {
+    size_t count; /* of the run */
+    uint32_t run[MOST_RUN];
+    uint16_t utf16[MOST_RUN];
+    int headings, topics;
+    uint64_t heading_parts[2 * MOST_PARTS], topic_parts[2 * MOST_PARTS];
+};
+
+extern struct page page;
+
+/* What topics are made of: ASCII letters, under the table's first letters; letters from all over the table, under letters that are spread
+ * evenly over it; or one ASCII letter behind punctuation. In the first two, one character in eight is punctuation, the first too. */
+enum topic { ASCII, ALL, LATE, TOPICS };
+extern const char *const topic_names[TOPICS];
+
+/* Makes a page of so many headings and topics, which have this length. */
+void make_page(int headings, int topics, int length, enum topic topic, const struct line *lines, int count);
 
 /* A number below a bound, the same ones in every run. */
 uint32_t random_below(uint32_t bound);

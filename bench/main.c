@@ -1,7 +1,8 @@
-/* Measures the product beside its peers and prints the tables: bench FOLDER LOCALEDEF..
+/* Measures the product beside its peers and prints the tables: bench FOLDER TABLES LOCALEDEF..
  *
- * FOLDER is where sources and locales are kept; the other words are the command that runs localedef. All systems of a row take turns in one
- * run, and the least time of each counts, in processor time: other work on the machine slows a turn down but not the least of many. */
+ * FOLDER is where sources and locales are kept; TABLES is one word that names the tables, with blanks between them, all if it is empty; the
+ * other words are the command that runs localedef. All systems of a row take turns in one run, and the least time of each counts, in
+ * processor time: other work on the machine slows a turn down but not the least of many. */
 
 #define _GNU_SOURCE
 #include <fcntl.h>
@@ -143,6 +144,18 @@ static long product_key(int k)
     return (long)answer[1];
 }
 
+/* For each topic of the page its heading, from 1, 0 for none. */
+static uint32_t our_list[MOST_PARTS], icu_list[MOST_PARTS];
+
+static long product_directory(int k)
+{
+    (void)k;
+    if (zeharmeku_directory(table, table_count, page.run, page.count, page.heading_parts, 2 * (size_t)page.headings, page.topic_parts,
+                            2 * (size_t)page.topics, our_list, MOST_PARTS) != 0)
+        fail("refused", "directory");
+    return our_list[0];
+}
+
 static long wide_compare(int k)
 {
     return wcscoll_l(first_strings[k].wide, second_strings[k].wide, locale);
@@ -174,8 +187,42 @@ static long icu_key(int k)
 {
     return ucol_getSortKey(collator, (const UChar *)first_strings[k].utf16, (int32_t)first_strings[k].count, key_room, KEY_ROOM);
 }
+
+/* By halving: how many headings do not come after the topic. */
+static uint32_t icu_heading(const uint64_t *topic)
+{
+    const UChar *run = (const UChar *)page.utf16;
+    int from = 0, to = page.headings;
+    while (from < to) {
+        int middle = (from + to) / 2;
+        const uint64_t *heading = &page.heading_parts[2 * middle];
+        if (ucol_strcoll(collator, run + heading[0], (int32_t)heading[1], run + topic[0], (int32_t)topic[1]) != UCOL_GREATER)
+            from = middle + 1;
+        else
+            to = middle;
+    }
+    return (uint32_t)from;
+}
+
+static long icu_directory(int k)
+{
+    (void)k;
+    for (int t = 0; t < page.topics; t++)
+        icu_list[t] = icu_heading(&page.topic_parts[2 * t]);
+    return icu_list[0];
+}
+
+/* Letters that differ in accent or case alone are equal from here on, until the next order is taken. */
+static void icu_primary(void)
+{
+    ucol_setStrength(collator, UCOL_PRIMARY);
+}
 #else
-static const call icu_compare = NULL, icu_key = NULL;
+static const call icu_compare = NULL, icu_key = NULL, icu_directory = NULL;
+
+static void icu_primary(void)
+{
+}
 #endif
 
 /* ---- Compiling ---- */
@@ -390,7 +437,7 @@ static const char beside_line[] = "--:|--:|--:|--:|--:|--:|--:|--:|\n";
 
 static void compare_table(void)
 {
-    printf("\n## Compare, by difference and length\n\nA table of 100 lines, ASCII letters, nanoseconds for one comparison. "
+    printf("## Compare, by difference and length\n\nA table of 100 lines, ASCII letters, nanoseconds for one comparison. "
            "`check` is its share of our time, `left` our time without it, a dash where that is too little to be told.\n\n");
     printf("| second level | difference | length | %s|---|---|--:|%s", beside, beside_line);
     compare_rows(&forward_tables[0], sizes[0], "forward");
@@ -399,7 +446,7 @@ static void compare_table(void)
 
 static void growth_table(void)
 {
-    printf("\n## Compare, by size of the table\n\nThe last letter differs, all levels forward, nanoseconds for one comparison; "
+    printf("## Compare, by size of the table\n\nThe last letter differs, all levels forward, nanoseconds for one comparison; "
            "letters of ASCII, or from all over the table.\n\n");
     printf("| lines | letters | length | %s|--:|---|--:|%s", beside, beside_line);
     for (int s = 0; s < SIZES; s++) {
@@ -442,7 +489,7 @@ static void key_rows(const struct source *source, int size, const char *second)
 
 static void key_table(void)
 {
-    printf("\n## Key\n\nASCII letters, nanoseconds for one key.\n\n");
+    printf("## Key\n\nASCII letters, nanoseconds for one key.\n\n");
     printf("| lines | second level | length | wcsxfrm | strxfrm | ICU | ours | check | left | left / wcsxfrm | left / ICU |\n"
            "|--:|---|--:|%s", beside_line);
     for (int s = 0; s < SIZES; s++)
@@ -487,7 +534,7 @@ static void compile_row(const char *what, const struct source *source, int has_p
 static void compile_table(void)
 {
     static const char *const names[] = {"100 lines, rising", "1,000 lines, rising", "10,000 lines, rising", "32,000 lines, rising"};
-    printf("\n## Compile\n\nOne source, in milliseconds; localedef without its start. It refuses conditionals within conditionals, and lines "
+    printf("## Compile\n\nOne source, in milliseconds; localedef without its start. It refuses conditionals within conditionals, and lines "
            "that are nothing but a join.\n\n");
     printf("| source | bytes | localedef | ICU | ours | ours / localedef |\n|---|--:|--:|--:|--:|--:|\n");
     struct source small = small_source();
@@ -522,22 +569,100 @@ static void compile_table(void)
     compile_row("100 lines that name a symbol joined over 512 KiB", &source, 0);
 }
 
+/* Both systems put each topic under the same heading, or the row would say nothing. */
+static void same_headings(call theirs)
+{
+    product_directory(0);
+    if (theirs == NULL)
+        return;
+    theirs(0);
+    if (memcmp(our_list, icu_list, (size_t)page.topics * sizeof *our_list) != 0)
+        fail("a topic stands under another heading", "the row after the last one printed");
+}
+
+static void directory_row(void)
+{
+    struct timing timings[] = {{.call = icu_directory}, {.call = product_check}, {.call = product_directory}};
+    same_headings(icu_directory);
+    measure(timings, 3, 1);
+    double peers[] = {timings[0].best / 1e3};
+    cell(peers[0]);
+    cells_beside(timings[2].best / 1e3, timings[1].best / 1e3, peers, 1);
+    printf("\n");
+    fflush(stdout);
+}
+
+static void directory_rows(const struct source *source, int size, int headings)
+{
+    take_order(source);
+    icu_primary();
+    int count = table_lines(lines, size, RISING);
+    for (int t = 0; t < TOPICS; t++)
+        for (int n = 0; n < LENGTHS && lengths[n] <= MOST_TOPIC; n++) {
+            make_page(headings, MOST_PARTS, lengths[n], (enum topic)t, lines, count);
+            printf("|");
+            whole_cell(size);
+            whole_cell(page.headings);
+            whole_cell(page.topics);
+            printf(" %s |", topic_names[t]);
+            whole_cell(lengths[n]);
+            directory_row();
+        }
+}
+
+static void directory_table(void)
+{
+    printf("## Directory\n\nThe headings of all topics, microseconds for one call. Topics are of ASCII letters, under the first letters of "
+           "the table; of letters from all over the table, under such letters; or of punctuation but for the last. ICU halves over the "
+           "headings at its primary strength.\n\n");
+    printf("| lines | headings | topics | letters | length | ICU halving | ours | check | left | left / ICU |\n"
+           "|--:|--:|--:|---|--:|--:|--:|--:|--:|--:|\n");
+    directory_rows(&forward_tables[0], sizes[0], 26);
+    directory_rows(&forward_tables[SIZES - 1], sizes[SIZES - 1], 26);
+    directory_rows(&forward_tables[SIZES - 1], sizes[SIZES - 1], MOST_PARTS);
+}
+
+static const struct {
+    const char *name;
+    void (*print)(void);
+} tables[] = {{"check", check_table}, {"compare", compare_table}, {"growth", growth_table},
+              {"key", key_table},     {"compile", compile_table}, {"directory", directory_table}};
+enum { TABLES = sizeof tables / sizeof *tables };
+
+/* Prints the tables that are named, all if none is. */
+static void print_tables(char *names)
+{
+    int named[TABLES] = {0}, all = 1, printed = 0;
+    for (char *name = strtok(names, " "); name != NULL; name = strtok(NULL, " ")) {
+        int t = 0;
+        while (t < TABLES && strcmp(tables[t].name, name) != 0)
+            t++;
+        if (t == TABLES)
+            fail("no such table", name);
+        named[t] = 1;
+        all = 0;
+    }
+    for (int t = 0; t < TABLES; t++) {
+        if (!all && !named[t])
+            continue;
+        if (printed++ > 0)
+            printf("\n");
+        tables[t].print();
+    }
+}
+
 int main(int count, char **words)
 {
-    if (count < 3)
-        fail("wants", "FOLDER LOCALEDEF..");
+    if (count < 4)
+        fail("wants", "FOLDER TABLES LOCALEDEF..");
     folder = words[1];
-    localedef = words + 2;
-    localedef_words = count - 2;
+    localedef = words + 3;
+    localedef_words = count - 3;
     setenv("LOCPATH", folder, 1);
     static const char *const names[] = {"lines100", "lines1000", "lines10000", "lines32000"};
     for (int s = 0; s < SIZES; s++)
         forward_tables[s] = table_source(names[s], sizes[s], RISING, 0);
     backward_table = table_source("backward100", sizes[0], RISING, 1);
-    check_table();
-    compare_table();
-    growth_table();
-    key_table();
-    compile_table();
+    print_tables(words[2]);
     return 0;
 }

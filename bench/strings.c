@@ -1,4 +1,4 @@
-/* Pairs of strings that differ in one place. */
+/* Pairs of strings that differ in one place, and pages of topics under headings. */
 
 #include <stdlib.h>
 #include <string.h>
@@ -8,8 +8,10 @@
 
 const char *const difference_names[DIFFERENCES] = {"first letter", "last letter", "case of the first", "case of the last",
                                                    "ignorable, last but one"};
+const char *const topic_names[TOPICS] = {"ASCII", "all", "ASCII, last alone"};
 
 struct string first_strings[MOST_PAIRS], second_strings[MOST_PAIRS];
+struct page page;
 
 uint32_t random_below(uint32_t bound)
 {
@@ -67,9 +69,10 @@ static void finish(struct string *string, const uint32_t *codes, int length)
     string->utf16[length] = 0;
 }
 
+static const uint32_t punctuation[] = {'-', '.', ' '};
+
 static void make_pair(struct string *first, struct string *second, enum difference difference, int length)
 {
-    static const uint32_t punctuation[] = {'-', '.', ' '};
     uint32_t a[MOST_LENGTH], b[MOST_LENGTH];
     int opening = 0, closing = 0;
     for (int k = 0; k < length; k++) {
@@ -109,4 +112,49 @@ int make_pairs(enum difference difference, int length, const struct line *lines,
     for (int k = 0; k < pairs; k++)
         make_pair(&first_strings[k], &second_strings[k], difference, length);
     return pairs;
+}
+
+/* The characters from a place of the run on are a part. */
+static void put_part(uint64_t *part, size_t start)
+{
+    part[0] = start;
+    part[1] = page.count - start;
+}
+
+static void put_character(uint32_t c)
+{
+    page.run[page.count] = c;
+    page.utf16[page.count++] = (uint16_t)c;
+}
+
+static void put_topic(int length, enum topic topic)
+{
+    for (int k = 0; k < length; k++) {
+        uint32_t letter = random_below((uint32_t)letters), c = random_below(4) == 0 ? capital[letter] : small[letter];
+        int quiet = topic == LATE ? k < length - 1 : random_below(8) == 0;
+        put_character(quiet ? punctuation[random_below(3)] : c);
+    }
+}
+
+void make_page(int headings, int topics, int length, enum topic topic, const struct line *lines, int count)
+{
+    static uint32_t firsts[MOST_LINES]; /* a letter for each first weight, rising */
+    int many = 0;
+    for (int k = 0; k < count; k++)
+        if (lines[k].count == 1 && lines[k].base == k && !lines[k].ignored)
+            firsts[many++] = lines[k].chars[0];
+    page.count = 0;
+    page.headings = headings;
+    page.topics = topics;
+    for (int k = 0; k < headings; k++) {
+        size_t start = page.count;
+        put_character(firsts[topic == ALL ? k * many / headings : k]);
+        put_part(&page.heading_parts[2 * k], start);
+    }
+    list_letters(lines, count, topic == ALL);
+    for (int k = 0; k < topics; k++) {
+        size_t start = page.count;
+        put_topic(length, topic);
+        put_part(&page.topic_parts[2 * k], start);
+    }
 }
