@@ -1,14 +1,7 @@
-// The run cases of the directory, with what must be written in the file stdout. The file stdin is examples/danish/locale.src.
-mod danish;
-mod limits;
-mod pages;
-mod places;
-mod show;
+// The run cases of the directory that are texts, with what must be written in the file stdout. The file stdin has them, in Latin-1.
+mod groups;
 mod texts;
 
 fn main() {
-    danish::cases();
-    pages::cases();
-    places::cases();
-    limits::cases();
+    groups::cases();
 }

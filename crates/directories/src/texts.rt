@@ -1,7 +1,7 @@
 // Pages as texts, in which each heading and each topic ends with a bar. The run is both texts as they stand, so that the bars lie in no string.
 ghost use Prim.Native.Nat.{_≤_, _<_, _+_, _*_};
 ghost use lib.ListN.{length};
-use crate::show::directed_in;
+use telling::directed_in;
 
 fn wide(b: u8) -> u32 {
     b as u32

@@ -1,5 +1,5 @@
 // Pages by starts and lengths. The run is mostly abchd; at level 1 stand a, b, c, ch, d, then what is not listed.
-use crate::show::directed_in;
+use telling::directed_in;
 
 // Strings that overlap, are the same, or end in the middle of an element.
 fn parts(t: &[u32], run: &[u32]) {

@@ -1,4 +1,4 @@
-// What the run cases write: a line for each, its name and the answer. Lists are filled with EEEE before each call.
+// What the run cases of the directory write: a line for each, its name and the answer. Lists are filled with EEEE before each call.
 use directory::Directed;
 use units::Refusal;
 

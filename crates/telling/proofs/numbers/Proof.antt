@@ -1,9 +1,9 @@
--- `directories::show::numbers` reads no number past the end, and ends. The loop's invariant: i is at most the length. The measure is how many numbers are left.
+-- `telling::numbers` reads no number past the end, and ends. The loop's invariant: i is at most the length. The measure is how many numbers are left.
 use Prim.Native.Nat.{_-_, _≤_}
 use lib.ListN.{length}
 use borrow.Author.Needs.{needs}
-use Rattle.directories.proofs.show.numbers.Statement.{statement}
-use Rattle.directories.proofs.show.numbers.Tie as tie
+use Rattle.telling.proofs.numbers.Statement.{statement}
+use Rattle.telling.proofs.numbers.Tie as tie
 
 abbrev Inv-loop : tie.InvT-loop
 Inv-loop s i₀ i = i ≤ length s

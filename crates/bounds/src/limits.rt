@@ -1,7 +1,7 @@
 // The most headings and topics, and the longest strings. The table is that of 1,001 order lines, the characters from 10000 hex on, which the run holds too.
 ghost use Prim.Native.Nat.{_≤_, _<_, _+_, _*_};
 ghost use lib.ListN.{length};
-use crate::show::directed_in;
+use telling::directed_in;
 
 // A text put over the bytes from a place on.
 fn put(src: &mut [u8], at: usize, text: &[u8])
