@@ -60,8 +60,16 @@ fn odd(t: &[u32], run: &[u32]) {
 fn past(t: &[u32], run: &[u32]) {
     directed_in(b"a topic one past the end:", t, run, &[0, 1], &[4, 2], 2);
     directed_in(b"a heading one past the end:", t, run, &[4, 2], &[], 2);
+}
+
+// 17: past the end, an empty string too.
+fn past_empty(t: &[u32], run: &[u32]) {
     directed_in(b"an empty topic past the end:", t, run, &[], &[6, 0], 2);
     directed_in(b"an empty heading past the end:", t, run, &[6, 0], &[], 2);
+}
+
+// 17: in an empty run, and of several topics one.
+fn past_others(t: &[u32], run: &[u32]) {
     directed_in(b"a topic of an empty run:", t, &[], &[], &[0, 1], 2);
     directed_in(
         b"the second topic:",
@@ -99,6 +107,10 @@ fn sums(t: &[u32], run: &[u32]) {
         &[],
         2,
     );
+}
+
+// 17: the same, of two large numbers, and of numbers over 32 bits.
+fn halves(t: &[u32], run: &[u32]) {
     directed_in(
         b"2^63 and 2^63:",
         t,
@@ -118,7 +130,7 @@ fn sums(t: &[u32], run: &[u32]) {
     );
 }
 
-// A number that is no character: between two strings, and in one (12).
+// A number that is no character, between two strings and in none.
 fn no_character(t: &[u32], run: &[u32]) {
     directed_in(
         b"no character between strings:",
@@ -129,6 +141,10 @@ fn no_character(t: &[u32], run: &[u32]) {
         4,
     );
     directed_in(b"in no string:", t, run, &[], &[], 1);
+}
+
+// 12: a number that is no character, in a string.
+fn no_character_in(t: &[u32], run: &[u32]) {
     directed_in(b"in a topic:", t, run, &[0, 1], &[0, 2], 2);
     directed_in(b"in a heading:", t, run, &[0, 3], &[0, 1], 2);
     directed_in(b"at the end of a topic:", t, run, &[0, 1], &[2, 2], 2);
@@ -146,6 +162,10 @@ fn lists(t: &[u32], run: &[u32]) {
     );
     directed_in(b"exact:", t, run, &[0, 1], &[4, 1, 0, 1, 5, 0], 3);
     directed_in(b"longer:", t, run, &[0, 1], &[4, 1, 0, 1, 5, 0], 8);
+}
+
+// No list at all: 13 where there is a topic.
+fn no_list(t: &[u32], run: &[u32]) {
     directed_in(b"no list, one topic:", t, run, &[0, 1], &[4, 1], 0);
     directed_in(b"no list, no topic:", t, run, &[0, 1], &[], 0);
 }
@@ -155,6 +175,10 @@ fn faults(t: &[u32], run: &[u32]) {
     directed_in(b"13:", t, run, &[0, 1, 2, 1], &[0, 1], 0);
     directed_in(b"15 before 13:", t, run, &[2, 1, 0, 1], &[0, 1], 0);
     directed_in(b"12 before 15:", t, run, &[2, 1, 0, 1], &[0, 2], 0);
+}
+
+// The same, of one heading and of a part outside the run: 17 before 12.
+fn faults_in_parts(t: &[u32], run: &[u32]) {
     directed_in(
         b"12 of the heading that falls:",
         t,
@@ -182,16 +206,38 @@ fn faults_before(run: &[u32]) {
     directed_in(b"no table:", &[], run, &[0, 1], &[0, 1], 2);
 }
 
+// By the run abchd.
+fn cases_in(t: &[u32], run: &[u32]) {
+    parts(t, run);
+    empty(t, run);
+    odd(t, run);
+    past(t, run);
+    past_empty(t, run);
+    past_others(t, run);
+    sums(t, run);
+    halves(t, run);
+}
+
+// By runs with numbers that are no characters.
+fn cases_beside(t: &[u32], run: &[u32], other: &[u32], spoiled: &[u32]) {
+    no_character(t, other);
+    no_character_in(t, other);
+    lists(t, run);
+    no_list(t, run);
+    faults(t, spoiled);
+    faults_in_parts(t, spoiled);
+    faults_before(spoiled);
+}
+
 fn cases_by(t: &[u32]) {
-    parts(t, &[0x61, 0x62, 0x63, 0x68, 0x64]);
-    empty(t, &[0x61, 0x62, 0x63, 0x68, 0x64]);
-    odd(t, &[0x61, 0x62, 0x63, 0x68, 0x64]);
-    past(t, &[0x61, 0x62, 0x63, 0x68, 0x64]);
-    sums(t, &[0x61, 0x62, 0x63, 0x68, 0x64]);
-    no_character(t, &[0x61, 0xD800, 0x62, 0xFFFFFFFF]);
-    lists(t, &[0x61, 0x62, 0x63, 0x68, 0x64]);
-    faults(t, &[0x61, 0xD800, 0x62, 0x110000]);
-    faults_before(&[0x61, 0xD800, 0x62, 0x110000]);
+    let run = [0x61, 0x62, 0x63, 0x68, 0x64];
+    cases_in(t, &run);
+    cases_beside(
+        t,
+        &run,
+        &[0x61, 0xD800, 0x62, 0xFFFFFFFF],
+        &[0x61, 0xD800, 0x62, 0x110000],
+    );
 }
 
 pub fn cases() {

@@ -1,10 +1,10 @@
--- `bounds::limits::put` writes no byte past the end, and ends. The loop's invariant: at most the whole text is put, and the source keeps its length. The measure is how many bytes are left to put.
+-- `directories::limits::put` writes no byte past the end, and ends. The loop's invariant: at most the whole text is put, and the source keeps its length. The measure is how many bytes are left to put.
 use Prim.Native.Nat.{_-_, _≤_}
 use mathlib.Core.Path.{_≡_}
 use lib.ListN.{length}
 use borrow.Author.Needs.{needs}
-use Rattle.bounds.proofs.limits.put.Statement.{statement}
-use Rattle.bounds.proofs.limits.put.Tie as tie
+use Rattle.directories.proofs.limits.put.Statement.{statement}
+use Rattle.directories.proofs.limits.put.Tie as tie
 
 abbrev Inv-loop : tie.InvT-loop
 Inv-loop src₀ at text i₀ src i = (i ≤ length text) × (length src ≡ length src₀)

@@ -1,10 +1,10 @@
--- `bounds::limits::put_lines` puts no line past the end, and ends. The loop's invariant: the place is behind i lines, and the source keeps its length. The measure is how many lines are left.
+-- `directories::limits::put_lines` puts no line past the end, and ends. The loop's invariant: the place is behind i lines, and the source keeps its length. The measure is how many lines are left.
 use Prim.Native.Nat.{_+_, _*_, _-_, _≤_}
 use mathlib.Core.Path.{_≡_}
 use lib.ListN.{length}
 use borrow.Author.Needs.{needs}
-use Rattle.bounds.proofs.limits.put_lines.Statement.{statement}
-use Rattle.bounds.proofs.limits.put_lines.Tie as tie
+use Rattle.directories.proofs.limits.put_lines.Statement.{statement}
+use Rattle.directories.proofs.limits.put_lines.Tie as tie
 
 abbrev Inv-loop : tie.InvT-loop
 Inv-loop src₀ from n at₀ i₀ src at i = (i ≤ n) × (at ≡ from + 12 * i) × (length src ≡ length src₀)

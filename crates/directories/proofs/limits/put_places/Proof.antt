@@ -1,8 +1,8 @@
--- `bounds::limits::put_places` writes no number past the end, and ends. The loop's invariant: i is at most 1,001. The measure is how many pairs are left.
+-- `directories::limits::put_places` writes no number past the end, and ends. The loop's invariant: i is at most 1,001. The measure is how many pairs are left.
 use Prim.Native.Nat.{_-_, _≤_}
 use borrow.Author.Needs.{needs}
-use Rattle.bounds.proofs.limits.put_places.Statement.{statement}
-use Rattle.bounds.proofs.limits.put_places.Tie as tie
+use Rattle.directories.proofs.limits.put_places.Statement.{statement}
+use Rattle.directories.proofs.limits.put_places.Tie as tie
 
 abbrev Inv-loop : tie.InvT-loop
 Inv-loop places₀ i₀ places i = i ≤ 1001

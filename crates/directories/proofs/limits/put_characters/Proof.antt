@@ -1,8 +1,8 @@
--- `bounds::limits::put_characters` writes no number past the end, and ends. The loop's invariant: i is at most 1,001. The measure is how many numbers are left.
+-- `directories::limits::put_characters` writes no number past the end, and ends. The loop's invariant: i is at most 1,001. The measure is how many numbers are left.
 use Prim.Native.Nat.{_-_, _≤_}
 use borrow.Author.Needs.{needs}
-use Rattle.bounds.proofs.limits.put_characters.Statement.{statement}
-use Rattle.bounds.proofs.limits.put_characters.Tie as tie
+use Rattle.directories.proofs.limits.put_characters.Statement.{statement}
+use Rattle.directories.proofs.limits.put_characters.Tie as tie
 
 abbrev Inv-loop : tie.InvT-loop
 Inv-loop run₀ i₀ run i = i ≤ 1001
