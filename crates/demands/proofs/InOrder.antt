@@ -197,7 +197,7 @@ compile-line src area work r area₁ work₁ h =
 -- 02, K2: "Refusals, in this order", each over all headings, then all topics
 pub directory-refusal : (t run headings topics list : List ℕ) (r : Directed) (list₁ : List ℕ) → Directs t run headings topics list r list₁
     → directedIs r list₁ .refusal ≡ firstGiven
-    ( 11 unless accepted t
+    (11 unless accepted t
     ∷ 16 unless plainFirst (meaningIn t .rules)
     ∷ 17 unless partsFit run (partsOf headings)
     ∷ 17 unless partsFit run (partsOf topics)

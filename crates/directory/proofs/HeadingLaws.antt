@@ -70,11 +70,11 @@ pub record Halving (ws : List ℕ) (w lo hi : ℕ) : Type 0 where
 
 pub halving-start : (ws : List ℕ) (w : ℕ) → Halving ws w 0 (length ws)
 halving-start ws w = record {
-    ordered = omega arith;
-    inside = omega arith;
-    below = λ k e. absurd (omega arith);
-    above = record { each = λ j h l. absurd (omega arith) };
-  }
+  ordered = omega arith;
+  inside = omega arith;
+  below = λ k e. absurd (omega arith);
+  above = record { each = λ j h l. absurd (omega arith) };
+}
 
 abbrev pub half : ℕ → ℕ → ℕ
 half lo hi = lo + (hi - lo) / 2
@@ -96,17 +96,18 @@ module _ {ws : List ℕ} {w lo hi : ℕ} (v : Halving ws w lo hi) where
 
     pub halving-down : lo < hi → w < getD ws (half lo hi) 0 → Halving ws w lo (half lo hi)
     halving-down h l = record {
-        ordered = omega arith;
-        inside = omega (arith, v .inside);
-        below = v .below;
-        above = rising-from w ws (half lo hi) up (halving-inside h) l;
-      }
+      ordered = omega arith;
+      inside = omega (arith, v .inside);
+      below = v .below;
+      above = rising-from w ws (half lo hi) up (halving-inside h) l;
+    }
 
     pub halving-end : hi ≤ lo → lo ≡ headingOf ws w
     halving-end h = go lo refl
       where
         here : hi ≡ lo
         here = omega (arith, v .ordered)
+
         go : (n : ℕ) → lo ≡ n → lo ≡ headingOf ws w
         go zero e = e ∙ sym (heading-before ws w (rw (here, e) at (v .above)))
         go (suc k) e =
@@ -156,14 +157,14 @@ pub record Weighing (t run headings places₀ weights₀ : List ℕ) (n : ℕ) (
 pub weighing-none : (t run headings places weights : List ℕ) {n : ℕ} → Ready t run headings places → n ≡ length (partsOf headings)
     → Weighing t run headings places weights n places weights 0 0
 weighing-none t run headings places weights r e = record {
-    many = e;
-    to = omega arith;
-    ready = r;
-    wide = refl;
-    long = refl;
-    same = headings-run (weightsOf t run headings);
-    kept = refl;
-  }
+  many = e;
+  to = omega arith;
+  ready = r;
+  wide = refl;
+  long = refl;
+  same = headings-run (weightsOf t run headings);
+  kept = refl;
+}
 
 module _ {t run headings places₀ weights₀ : List ℕ} {n : ℕ} {places weights : List ℕ} {last i : ℕ}
     (v : Weighing t run headings places₀ weights₀ n places weights last i) where
@@ -185,14 +186,14 @@ module _ {t run headings places₀ weights₀ : List ℕ} {n : ℕ} {places weig
     pub weighing-more : {after : List ℕ} → length (partsOf headings) ≤ length weights₀ → length after ≡ length places → last < w
         → Weighing t run headings places₀ weights₀ n after (set weights i w) w (i + 1)
     weighing-more {after} k e l = record {
-        many = v .many;
-        to = omega arith;
-        ready = ready-kept (v .ready) e;
-        wide = e ∙ v .wide;
-        long = length-set weights i w ∙ v .long;
-        same = next ∙ rw (lt-ltb last w l, add-one i);
-        kept = rw (add-one i, take-suc-set weights i w (omega (arith, v .many, v .long)), take-suc (weightsOf t run headings) i 0 inside, there, v .kept);
-      }
+      many = v .many;
+      to = omega arith;
+      ready = ready-kept (v .ready) e;
+      wide = e ∙ v .wide;
+      long = length-set weights i w ∙ v .long;
+      same = next ∙ rw (lt-ltb last w l, add-one i);
+      kept = rw (add-one i, take-suc-set weights i w (omega (arith, v .many, v .long)), take-suc (weightsOf t run headings) i 0 inside, there, v .kept);
+    }
 
   pub weighing-all : n ≤ i → Weighed t run headings weights true
   unfolding risingFrom

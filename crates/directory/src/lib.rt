@@ -274,13 +274,7 @@ fn list_within(
 }
 
 // The list of a page, where its headings rise.
-fn list_page(
-    t: &[u32],
-    run: &[u32],
-    headings: &[u64],
-    topics: &[u64],
-    list: &mut [u32],
-) -> Directed
+fn list_page(t: &[u32], run: &[u32], headings: &[u64], topics: &[u64], list: &mut [u32]) -> Directed
     requires { ⌜ Page (now t) (now run) (now headings) (now topics) ⌝ }
     ensures { λ r. ⌜ directedIs r (now (list .exit)) ≡ directoryCall (now (t .entry)) (now (run .entry)) (now (headings .entry)) (now (topics .entry)) (now (list .entry)) ⌝ }
 {

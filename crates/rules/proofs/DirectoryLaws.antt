@@ -104,9 +104,11 @@ heading-most ws w = by (eqb w 0) (λ e. weightless (eqb-true w 0 e)) (λ e. weig
   where
     weightless : w ≡ 0 → headingOf ws w ≤ length ws
     weightless e = let h = heading-none ws in rw e (omega arith)
+
     most : Found w 1 ws 0 (lastNotAbove w 1 ws 0) → lastNotAbove w 1 ws 0 ≤ length ws
     most (nothing i a) = omega arith
     most (one k i h l a) = omega arith
+
     weighed : (w ≡ 0 → ⊥) → headingOf ws w ≤ length ws
     weighed n = rw (heading-weighed ws w (omega arith)) (most (found w 1 ws 0))
 
@@ -116,9 +118,11 @@ heading-not-above ws w k e = by (eqb w 0) (λ t. weightless (eqb-true w 0 t)) (�
   where
     weightless : w ≡ 0 → getD ws k 0 ≤ w
     weightless z = let h = heading-none ws in let d : headingOf ws 0 ≡ suc k = rw z at e in absurd (omega arith)
+
     told : lastNotAbove w 1 ws 0 ≡ suc k → Found w 1 ws 0 (lastNotAbove w 1 ws 0) → getD ws k 0 ≤ w
     told d (nothing i a) = absurd (omega arith)
     told d (one j i h l a) = let z : k ≡ j = omega arith in rw z l
+
     weighed : (w ≡ 0 → ⊥) → getD ws k 0 ≤ w
     weighed n = told (sym (heading-weighed ws w (omega arith)) ∙ e) (found w 1 ws 0)
 
@@ -140,13 +144,13 @@ heading-rises ws v w h = go (headingOf ws v) refl
         let l = heading-not-above ws v k e in
         let m = heading-most ws v in
         let p : 0 < w = by (eqb v 0)
-            (λ t. let z = eqb-true v 0 t in let d : headingOf ws 0 ≡ suc k = rw z at e in let c = heading-none ws in absurd (omega arith))
-            (λ t. let z = eqb-false v 0 t in omega arith) in
+        (λ t. let z = eqb-true v 0 t in let d : headingOf ws 0 ≡ suc k = rw z at e in let c = heading-none ws in absurd (omega arith))
+        (λ t. let z = eqb-false v 0 t in omega arith) in
         by (leb (suc k) (headingOf ws w)) (λ t. let b = leb-true (suc k) (headingOf ws w) t in omega arith)
         (λ t.
-            let b = leb-false (suc k) (headingOf ws w) t in
-            let a = heading-above ws w p .each k (omega arith) (omega arith) in
-            absurd (omega arith))
+        let b = leb-false (suc k) (headingOf ws w) t in
+        let a = heading-above ws w p .each k (omega arith) (omega arith) in
+        absurd (omega arith))
 
 -- ## Headings that rise
 
