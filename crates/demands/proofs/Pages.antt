@@ -7,11 +7,11 @@ use native.Mathlib.Omega.{arith}
 use lib.ListN.{length, getD, drop, length-map, length-append, List·getD-append}
 use lib.Dec.{leb, ltb}
 use borrow.Author.Tests.{ltb-false}
-use Rattle.lists.proofs.Bools.{by, and-left, and-right}
+use Rattle.lists.proofs.Bools.{by}
 use Rattle.rules.specs.Text.{every}
 use Rattle.rules.specs.Table.{accepted, meaningIn}
 use Rattle.rules.specs.Order.{greater, levelsOf}
-use Rattle.rules.specs.Directory.{partsOf, stringOf, partsFit, goodPart, firstWeight, partWeight, plainFirst, rising, goodHeadings, headingOf, directoryOf, partAt, weightsOf}
+use Rattle.rules.specs.Directory.{partsOf, stringOf, partsFit, goodPart, firstWeight, partWeight, plainFirst, goodHeadings, headingOf, directoryOf, partAt, weightsOf}
 use Rattle.rules.specs.Calls as calls
 use Rattle.rules.specs.Calls.{over, directedAs, directoryCall}
 use Rattle.rules.proofs.TableLaws.{accepted-stored}
@@ -79,14 +79,6 @@ all-listed t run headings topics list list₁ directed.Done e a b c d f g h i = 
 all-listed t run headings topics list list₁ (directed.Refused x) e a b c d f g h i =
     absurd (numberOf-some x (rw (a, b, c, d, f, g, h, i) at (directory-refusal t run headings topics list (directed.Refused x) list₁ e)))
 
-weighted : (ws : List ℕ) → goodHeadings ws ≡ true → every (ltb 0) ws ≡ true
-unfolding goodHeadings
-weighted ws r = and-left (every (ltb 0) ws) (rising ws) r
-
-rises : (ws : List ℕ) → goodHeadings ws ≡ true → rising ws ≡ true
-unfolding goodHeadings
-rises ws r = and-right (every (ltb 0) ws) (rising ws) r
-
 module _ (t run headings topics list list₁ : List ℕ) (e : Directs t run headings topics list directed.Done list₁) where
   lists : Lists t run headings topics list list₁
   lists = directory-lists t run headings topics list list₁ e
@@ -146,7 +138,7 @@ module _ (t run headings topics list list₁ : List ℕ) (e : Directs t run head
         let ws : List ℕ = weightsOf t run headings in
         let w : ℕ = partWeight (meaningIn t) run (partAt topics i) in
         let c : k < length ws = rw (weights-many t run headings) l in
-        let s = some-weight ws k (weighted ws (lists .rise)) c in
+        let s = some-weight ws k (lists .rise) c in
         let d : getD ws k 0 ≤ w = rw (weight-there t run headings k l) b in
         page-topic ∙ heading-last ws w k (omega arith) c d a
 
@@ -159,7 +151,7 @@ module _ (t run headings topics list list₁ : List ℕ) (e : Directs t run head
         ap (firstWeight (meaningIn t)) s ∙ sym (weight-there t run headings k l) in
         page-topic
         ∙ ap (headingOf ws) same
-        ∙ heading-own ws k (weighted ws (lists .rise)) (rises ws (lists .rise)) (rw (weights-many t run headings) l)
+        ∙ heading-own ws k (lists .rise) (rw (weights-many t run headings) l)
 
   -- ## Two topics
 

@@ -17,7 +17,7 @@ use Rattle.rules.specs.Text.{every}
 use Rattle.rules.specs.Table.{meaningIn}
 use Rattle.rules.specs.Directory.{part, partsOf, partWeight, rising, goodHeadings, headingOf, partAt, weightsOf}
 use Rattle.rules.specs.Calls.{over}
-use Rattle.rules.proofs.DirectoryLaws.{Above, heading-before, heading-last, heading-most, rising-from, some-weight}
+use Rattle.rules.proofs.DirectoryLaws.{Above, heading-before, heading-last, heading-most, rising-from, headings-rise, some-weight}
 use Rattle.rules.proofs.PutLaws.{Putting, putting-none, putting-more, putting-all}
 use Rattle.directory.specs.Asks.{Ready, Rising, Weighed}
 
@@ -55,10 +55,6 @@ headings-run (w ∷ ws) =
     (λ t. rw (t, rising-run w ws) (and-implied (every (ltb 0) ws) (risingFrom w ws) (λ h. run-above 0 w ws (omega arith) h)))
     (λ t. rw t)
 
-rise-weighted : (ws : List ℕ) → goodHeadings ws ≡ true → every (ltb 0) ws ≡ true
-unfolding goodHeadings
-rise-weighted ws h = and-left (every (ltb 0) ws) (rising ws) h
-
 -- ## Halving
 
 -- The heading before the range is not above w, and those from its end on are.
@@ -90,16 +86,12 @@ module _ {ws : List ℕ} {w lo hi : ℕ} (v : Halving ws w lo hi) where
       lower k e = let q : k ≡ half lo hi = omega arith in rw q l
 
   module _ (r : Rising ws) where
-    up : rising ws ≡ true
-    unfolding goodHeadings
-    up = and-right (every (ltb 0) ws) (rising ws) (r .rise)
-
     pub halving-down : lo < hi → w < getD ws (half lo hi) 0 → Halving ws w lo (half lo hi)
     halving-down h l = record {
       ordered = omega arith;
       inside = omega (arith, v .inside);
       below = v .below;
-      above = rising-from w ws (half lo hi) up (halving-inside h) l;
+      above = rising-from w ws (half lo hi) (headings-rise ws (r .rise)) (halving-inside h) l;
     }
 
     pub halving-end : hi ≤ lo → lo ≡ headingOf ws w
@@ -112,7 +104,7 @@ module _ {ws : List ℕ} {w lo hi : ℕ} (v : Halving ws w lo hi) where
         go zero e = e ∙ sym (heading-before ws w (rw (here, e) at (v .above)))
         go (suc k) e =
             let l : k < length ws = omega (arith, v .inside) in
-            let p = some-weight ws k (rise-weighted ws (r .rise)) l in
+            let p = some-weight ws k (r .rise) l in
             let b = v .below k e in
             e ∙ sym (heading-last ws w k (omega arith) l b (rw (here, e) at (v .above)))
 

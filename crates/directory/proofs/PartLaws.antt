@@ -13,7 +13,7 @@ use Rattle.lists.proofs.Bools.{by}
 use Rattle.rules.specs.Text.{every}
 use Rattle.rules.specs.Order.{goodString}
 use Rattle.rules.specs.Directory.{Part, part, partsOf, stringOf, inRun, goodPart, partAt}
-use Rattle.rules.proofs.TextLaws.{every-head, every-tail}
+use Rattle.rules.proofs.TextLaws.{every-at}
 
 -- ## Numbers as parts
 
@@ -93,12 +93,7 @@ module _ {p : Part → Bool} {parts : List ℕ} {i n : ℕ} (v : Passing p parts
 -- one of several that pass
 pub each-part : (p : Part → Bool) (parts : List ℕ) (i : ℕ) → every p (partsOf parts) ≡ true → i < length (partsOf parts) → p (partAt parts i) ≡ true
 unfolding partAt
-each-part p parts i e h = each p (partsOf parts) i e h
-  where
-    each : (p : Part → Bool) (xs : List Part) (i : ℕ) → every p xs ≡ true → i < length xs → p (getD xs i (part 0 0)) ≡ true
-    each p [] i e h = absurd (omega arith)
-    each p (x ∷ xs) zero e h = every-head p x xs e
-    each p (x ∷ xs) (suc i) e h = each p xs i (every-tail p x xs e) (omega arith)
+each-part p parts i e h = every-at p (partsOf parts) i (part 0 0) e h
 
 -- a part that is read lies in the run, where all do
 pub each-inside : (run parts : List ℕ) (i n : ℕ) (q : Part) → every (inRun run) (partsOf parts) ≡ true → n ≡ length (partsOf parts) → i < n

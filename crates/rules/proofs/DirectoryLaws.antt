@@ -12,8 +12,8 @@ use Rattle.lists.proofs.Bools.{by, and-left, and-right, or-false-left, or-false
 use Rattle.rules.specs.Text.{every}
 use Rattle.rules.specs.Meaning.{Rule, Meaning, good}
 use Rattle.rules.specs.Order.{Entry, equal, greater, signℕ, signEntry, signList, entriesFrom, walked, levelEntries, elements, levelsOf, levelsFrom, weightsAt, compareOf}
-use Rattle.rules.specs.Directory.{firstOf, firstWeight, plainFirst, rising, lastNotAbove, headingOf}
-use Rattle.rules.proofs.TextLaws.{every-head, every-tail}
+use Rattle.rules.specs.Directory.{firstOf, firstWeight, plainFirst, rising, goodHeadings, lastNotAbove, headingOf}
+use Rattle.rules.proofs.TextLaws.{every-at}
 use Rattle.rules.proofs.SignLaws.{Tri, tri, below, same, above, signℕ-same, signℕ-above}
 use Rattle.rules.proofs.MeaningLaws.{good-parts}
 use Rattle.rules.proofs.EntryLaws.{Fits, level-fits}
@@ -182,14 +182,21 @@ rising-behind [] k h c = absurd (omega arith)
 rising-behind (v ∷ vs) zero h c = above-cons v (rising-above v v vs (omega arith) h)
 rising-behind (v ∷ vs) (suc k) h c = above-cons v (rising-behind vs k (rising-tail v vs h) (omega arith))
 
-pub some-weight : (ws : List ℕ) (k : ℕ) → every (ltb 0) ws ≡ true → k < length ws → 0 < getD ws k 0
-some-weight [] k h c = absurd (omega arith)
-some-weight (v ∷ vs) zero h c = ltb-true 0 v (every-head (ltb 0) v vs h)
-some-weight (v ∷ vs) (suc k) h c = some-weight vs k (every-tail (ltb 0) v vs h) (omega arith)
+-- headings that are not refused have a weight each, and rise
+headings-weighted : (ws : List ℕ) → goodHeadings ws ≡ true → every (ltb 0) ws ≡ true
+unfolding goodHeadings
+headings-weighted ws h = and-left (every (ltb 0) ws) (rising ws) h
+
+pub headings-rise : (ws : List ℕ) → goodHeadings ws ≡ true → rising ws ≡ true
+unfolding goodHeadings
+headings-rise ws h = and-right (every (ltb 0) ws) (rising ws) h
+
+pub some-weight : (ws : List ℕ) (k : ℕ) → goodHeadings ws ≡ true → k < length ws → 0 < getD ws k 0
+some-weight ws k h c = ltb-true 0 (getD ws k 0) (every-at (ltb 0) ws k 0 (headings-weighted ws h) c)
 
 -- a heading's own string belongs to it
-pub heading-own : (ws : List ℕ) (k : ℕ) → every (ltb 0) ws ≡ true → rising ws ≡ true → k < length ws → headingOf ws (getD ws k 0) ≡ suc k
-heading-own ws k s h c = heading-last ws (getD ws k 0) k (some-weight ws k s c) c (omega arith) (rising-behind ws k h c)
+pub heading-own : (ws : List ℕ) (k : ℕ) → goodHeadings ws ≡ true → k < length ws → headingOf ws (getD ws k 0) ≡ suc k
+heading-own ws k h c = heading-last ws (getD ws k 0) k (some-weight ws k h c) c (omega arith) (rising-behind ws k (headings-rise ws h) c)
 
 -- ## No weight
 

@@ -43,6 +43,12 @@ every-getD p [] k d h e = h
 every-getD p (x ∷ xs) zero d h e = every-head p x xs e
 every-getD p (x ∷ xs) (suc k) d h e = every-getD p xs k d h (every-tail p x xs e)
 
+-- each that stands in the list passes
+pub every-at : {A : Type 0} (p : A → Bool) (xs : List A) (k : ℕ) (d : A) → every p xs ≡ true → k < length xs → p (getD xs k d) ≡ true
+every-at p [] k d e h = absurd (omega arith)
+every-at p (x ∷ xs) zero d e h = every-head p x xs e
+every-at p (x ∷ xs) (suc k) d e h = every-at p xs k d (every-tail p x xs e) (omega arith)
+
 pub every-map : {A B : Type 0} (p : B → Bool) (f : A → B) (xs : List A) → ((x : A) → p (f x) ≡ true) → every p (map f xs) ≡ true
 unfolding every
 every-map p f [] h = refl
