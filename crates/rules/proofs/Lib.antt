@@ -2,11 +2,13 @@ pub mod Computed
 pub mod Examples
 pub mod TextLaws
 pub mod MeaningLaws
-pub mod TableLaws
+pub mod StorableLaws
+pub mod SortLaws
 pub mod SizeLaws
-pub mod PermutationLaws
+pub mod TableLaws
+pub mod BucketLaws
 pub mod AlikeLaws
-pub mod LinearLaws
+pub mod ListingLaws
 pub mod WidthLaws
 pub mod RankLaws
 pub mod PlacedLaws

@@ -1,21 +1,23 @@
 -- The numbers that store a good meaning fit 32 bits, and no two good meanings are stored alike.
 use mathlib.Core.Path.{_≡_, refl, sym, ap, _∙_}
 use mathlib.Core.Bool.{Bool, true, false, not}
-use mathlib.Core.List.{List, [], _∷_, map, flatten}
+use mathlib.Core.List.{List, [], _∷_, _++_, map, flatten}
 use Prim.Native.Nat.{ℕ, zero, suc, _+_, _*_, _≤_, _<_}
 use native.Mathlib.Omega.{arith}
-use lib.ListN.{length, getD, drop}
+use lib.ListN.{length, getD}
 use lib.Dec.{leb, ltb}
 use borrow.Author.Tests.{leb-true, lt-ltb}
-use Rattle.lists.proofs.Bools.{and-left, and-right, and-intro}
+use Rattle.lists.proofs.Bools.{and-left, and-right, and-intro, cond-both}
 use Rattle.rules.specs.Text.{within, every}
 use Rattle.rules.specs.Names.{isCharacter}
-use Rattle.rules.specs.Meaning.{Rule, Item, Meaning, countAll, weightCount, goodWeights, goodItem, good}
-use Rattle.rules.specs.Table.{pad, ruleNumber, counts, itemNumbers, weightNumbers, permutation, storedForm, meaningIn}
+use Rattle.rules.specs.Meaning.{Rule, Item, Meaning, countAll, weightCount, goodWeights, goodItem, noTwoAlike, good}
+use Rattle.rules.specs.Table.{pad, ruleNumber, sums, counts, weightLists, ends, charNumbers, mask, listing, itemBuckets, below, startsFrom, starts, weightNumbers, storedForm, meaningIn}
 use Rattle.rules.proofs.TextLaws.{every-head, every-tail, every-both, every-mono}
 use Rattle.rules.proofs.MeaningLaws.{item-parts, good-parts}
-use Rattle.rules.proofs.TableLaws.{meaning-stored, stored-back}
-use Rattle.rules.proofs.LinearLaws.{permutation-permutes, permutes-places}
+use Rattle.rules.proofs.StorableLaws.{items-stored}
+use Rattle.rules.proofs.TableLaws.{stored-back}
+use Rattle.rules.proofs.BucketLaws.{mask-fits}
+use Rattle.rules.proofs.ListingLaws.{lists-places, listing-lists}
 
 -- ## No two alike
 
@@ -87,37 +89,56 @@ chars-fit [] k h = refl
 chars-fit (c ∷ cs) zero h = char-fits c (every-head isCharacter c cs h)
 chars-fit (c ∷ cs) (suc k) h = chars-fit cs k (every-tail isCharacter c cs h)
 
-counts-fit : (ls : List (List ℕ)) → every goodWeights ls ≡ true → every fits (counts ls) ≡ true
-unfolding every
-counts-fit [] h = refl
-counts-fit (ws ∷ ls) h =
-    let a = good-count ws (every-head goodWeights ws ls h) in
-    and-intro (fit (length ws) (omega arith)) (counts-fit ls (every-tail goodWeights ws ls h))
-
-first-fits : (ps : List ℕ) → every fits ps ≡ true → fits (getD ps 0 0) ≡ true
-first-fits [] h = refl
-first-fits (p ∷ ps) h = every-head fits p ps h
-
-rest-fits : (ps : List ℕ) → every fits ps ≡ true → every fits (drop 1 ps) ≡ true
-rest-fits [] h = h
-rest-fits (p ∷ ps) h = every-tail fits p ps h
-
-records-fit : (l : ℕ) (at : ℕ) (ps : List ℕ) (is : List Item) (rest : List ℕ) → at + weightCount is < 4294967296 → every (goodItem l) is ≡ true
-    → every fits ps ≡ true → every fits rest ≡ true → every fits (itemNumbers at ps is rest) ≡ true
-unfolding itemNumbers every weightCount
-records-fit l at ps [] rest b h p k = k
-records-fit l at ps (i ∷ is) rest b h p k =
-    let g = item-parts l i (every-head (goodItem l) i is h) in
-    let c = g .characters in
+items-fit : (l : ℕ) (is : List Item) (rest : List ℕ) → every (goodItem l) is ≡ true → every fits rest ≡ true → every fits (charNumbers is rest) ≡ true
+unfolding charNumbers every
+items-fit l [] rest h k = k
+items-fit l (i ∷ is) rest h k =
+    let c = item-parts l i (every-head (goodItem l) i is h) .characters in
     and-intro (chars-fit (i .chars) 0 c)
     (and-intro (chars-fit (i .chars) 1 c)
     (and-intro (chars-fit (i .chars) 2 c)
-    (and-intro (chars-fit (i .chars) 3 c)
-    (and-intro (fit at (omega arith))
-    (and-intro (first-fits ps p)
-    (every-both fits (counts (i .weights)) (itemNumbers (at + countAll (i .weights)) (drop 1 ps) is rest)
-    (counts-fit (i .weights) (g .weights))
-    (records-fit l (at + countAll (i .weights)) (drop 1 ps) is rest (omega arith) (every-tail (goodItem l) i is h) (rest-fits ps p) k)))))))
+    (and-intro (chars-fit (i .chars) 3 c) (items-fit l is rest (every-tail (goodItem l) i is h) k))))
+
+sums-fit : (at : ℕ) (ls : List (List ℕ)) → at + countAll ls < 4294967296 → every fits (sums at (counts ls)) ≡ true
+unfolding sums every countAll
+sums-fit at [] b = refl
+sums-fit at (w ∷ ls) b = and-intro (fit (at + length w) (omega arith)) (sums-fit (at + length w) ls (omega arith))
+
+countAll-append : (xs ys : List (List ℕ)) → countAll (xs ++ ys) ≡ countAll xs + countAll ys
+unfolding countAll
+countAll-append [] ys = omega arith
+countAll-append (x ∷ xs) ys = omega (arith, countAll-append xs ys)
+
+pub lists-count : (is : List Item) → countAll (weightLists is) ≡ weightCount is
+unfolding countAll weightLists weightCount
+lists-count [] = refl
+lists-count (i ∷ is) = omega (arith, countAll-append (i .weights) (weightLists is), lists-count is)
+
+ends-fit : (is : List Item) → weightCount is < 4294967296 → every fits (ends is) ≡ true
+unfolding ends
+ends-fit is b = sums-fit 0 (weightLists is) (omega (arith, lists-count is))
+
+below-few : (b : ℕ) (qs : List ℕ) → below b qs ≤ length qs
+unfolding below
+below-few b [] = omega arith
+below-few b (q ∷ qs) =
+    let r = below-few b qs in
+    cond-both (λ (n : ℕ). n + below b qs ≤ suc (length qs)) (ltb q b) (omega arith) (omega arith)
+
+pub buckets-length : (i : ℕ) (is : List Item) → length (itemBuckets i is) ≡ length is
+unfolding itemBuckets
+buckets-length i [] = refl
+buckets-length i (x ∷ is) = ap suc (buckets-length i is)
+
+startsFrom-fit : (n b : ℕ) (qs : List ℕ) → length qs ≤ 32768 → every fits (startsFrom n b qs) ≡ true
+unfolding startsFrom every
+startsFrom-fit zero b qs h = refl
+startsFrom-fit (suc n) b qs h =
+    and-intro (fit (below b qs + 65536 * below (suc b) qs) (omega (arith, below-few b qs, below-few (suc b) qs))) (startsFrom-fit n (suc (suc b)) qs h)
+
+starts-fit : (is : List Item) → length is ≤ 32768 → every fits (starts is) ≡ true
+unfolding starts
+starts-fit is h = startsFrom-fit (length is) 0 (itemBuckets (length is) is) (omega (arith, buckets-length (length is) is))
 
 rule-fits : (b p : Bool) → fits (ruleNumber (record { backward = b; position = p })) ≡ true
 unfolding ruleNumber
@@ -134,23 +155,29 @@ rules-fit (r ∷ rs) = and-intro (rule-fits (r .backward) (r .position)) (rules-
 place-fits : (n p : ℕ) → n ≤ 32768 → within 1 n p ≡ true → fits p ≡ true
 place-fits n p b h = let a = leb-true p n (and-right (leb 1 p) (leb p n) h) in fit p (omega arith)
 
+listing-fit : (l : ℕ) (is : List Item) → every (goodItem l) is ≡ true → noTwoAlike is ≡ true → length is ≤ 32768 → every fits (listing is) ≡ true
+listing-fit l is h d b =
+    every-mono (within 1 (length is)) fits (λ p k. place-fits (length is) p b k) (listing is)
+    (lists-places is (listing is) (listing-lists l is (items-stored l is h) d))
+
 -- every number of the stored form of a good meaning is below 2^32
 pub stored-fits : (m : Meaning) → good m ≡ true → every fits (storedForm m []) ≡ true
 unfolding storedForm every
 stored-fits m h =
     let g = good-parts m h in
     let l : ℕ = length (m .rules) in
+    let is : List Item = m .items in
+    let rs : List ℕ = map ruleNumber (m .rules) ++ weightNumbers is [] in
     let a = g .few-levels in
     let b = g .few-items in
-    let w = weightCount-bound l (m .items) (g .few-levels) (g .items) in
-    let passes = permutation-permutes l (m .items) (meaning-stored m h) (g .apart) in
-    let ps : every fits (permutation (m .items)) ≡ true =
-    every-mono (within 1 (length (m .items))) fits (λ p k. place-fits (length (m .items)) p b k) (permutation (m .items))
-    (permutes-places (m .items) (permutation (m .items)) passes) in
+    let w = weightCount-bound l is (g .few-levels) (g .items) in
+    let few = mask-fits (length is) b in
     and-intro (fit l (omega arith))
-    (and-intro (fit (length (m .items)) (omega arith))
-    (and-intro (fit (weightCount (m .items)) (omega arith))
-    (every-both fits (map ruleNumber (m .rules)) (itemNumbers 0 (permutation (m .items)) (m .items) (weightNumbers (m .items) []))
-    (rules-fit (m .rules))
-    (records-fit l 0 (permutation (m .items)) (m .items) (weightNumbers (m .items) []) (omega arith) (g .items) ps
-    (weights-fit l (m .items) [] (g .items) refl)))))
+    (and-intro (fit (length is) (omega arith))
+    (and-intro (fit (weightCount is) (omega arith))
+    (and-intro (fit (mask (length is)) (omega arith))
+    (every-both fits (ends is) (charNumbers is (listing is ++ starts is ++ rs)) (ends-fit is (omega arith))
+    (items-fit l is (listing is ++ starts is ++ rs) (g .items)
+    (every-both fits (listing is ++ starts is) rs
+    (every-both fits (listing is) (starts is) (listing-fit l is (g .items) (g .apart) b) (starts-fit is b))
+    (every-both fits (map ruleNumber (m .rules)) (weightNumbers is []) (rules-fit (m .rules)) (weights-fit l is [] (g .items) refl))))))))
