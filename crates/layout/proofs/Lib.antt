@@ -1,3 +1,6 @@
 pub mod LayoutLaws
-pub mod TotalLaws
+pub mod StartLaws
+pub mod ToldLaws
+pub mod KeyedLaws
+pub mod BucketLaws
 pub mod PartLaws

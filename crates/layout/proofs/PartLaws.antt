@@ -1,62 +1,106 @@
--- Where the parts of an accepted table stand: its rules, each item's record, each item's weights at each level.
+-- Where the parts of an accepted table stand: its rules, the end of each item's weights at each level, the weights.
 use mathlib.Core.Path.{_≡_, refl, sym, ap, _∙_}
 use mathlib.Core.Bool.{Bool, true, false}
-use mathlib.Core.List.{List, [], _∷_, _++_, map, flatten, append-assoc}
+use mathlib.Core.List.{List, [], _∷_, _++_, map, flatten, append-assoc, map-append}
 use Prim.Native.Nat.{ℕ, zero, suc, pred, _+_, _-_, _*_, _≤_, _<_}
 use native.Mathlib.Numerals.{sub-one}
-use native.Mathlib.Nat.{min-le-right}
+use native.Mathlib.Nat.{min-le-right, suc-mul, zero-mul, mul-le-mul-right}
 use native.Mathlib.Omega.{arith}
-use lib.ListN.{length, getD, take, drop, length-map, length-take, length-drop}
-use lib.Seq.{drop-drop, drop-cons, take-append-seam, drop-append-add, getD-drop}
+use lib.ListN.{length, getD, take, drop, length-map, length-take, length-drop, List·getD-append}
+use lib.Seq.{drop-drop, drop-at, take-append-seam, drop-append-add, getD-drop, getD-append-add}
 use Rattle.rules.specs.Meaning.{Rule, Item, Meaning, goodItem, countAll, weightCount, sizeOf, good}
-use Rattle.rules.specs.Table.{padded, counts, total, ruleNumber, ruleOfNumber, itemNumbers, weightNumbers, permutation, storedForm, meaningIn, accepted}
+use Rattle.rules.specs.Table.{counts, sums, weightLists, ends, charNumbers, mask, listing, starts, ruleNumber, ruleOfNumber, weightNumbers, storedForm, meaningIn, accepted}
 use Rattle.rules.specs.Order.{weightsAt, noItem}
 use Rattle.rules.specs.Text.{every}
 use Rattle.rules.proofs.TextLaws.{every-head, every-tail}
 use Rattle.rules.proofs.EntryLaws.{weightsAt-good}
-use Rattle.rules.proofs.WidthLaws.{good-count}
+use Rattle.rules.proofs.WidthLaws.{good-count, countAll-bound}
 use Rattle.rules.proofs.MeaningLaws.{item-parts, Good, good-parts}
-use Rattle.rules.proofs.TableLaws.{meaning-stored, accepted-stored, rule-back, rules-drop, records-from}
-use Rattle.rules.proofs.SizeLaws.{stored-size, flatten-length}
-use Rattle.layout.specs.Parts.{recordAt, ruleAt, Within, Holds}
-use Rattle.layout.proofs.LayoutLaws.{recordAt-bound, recordAt-room}
+use Rattle.rules.proofs.StorableLaws.{AllStored, meaning-stored, rule-back, rules-drop}
+use Rattle.rules.proofs.SizeLaws.{lists-length, ends-length, stored-size, flatten-length}
+use Rattle.rules.proofs.TableLaws.{accepted-stored, lists-flat, parts-drop}
+use Rattle.layout.specs.Parts.{endsAt, rulesPart, weightsPart, ruleAt, Within, Holds, Many, ManyAll}
+use Rattle.layout.proofs.LayoutLaws.{endsAt-is, endsAt-bound, endsAt-room, endsAt-least, endsAt-suc}
 
--- ## The weights of an item, level by level
+-- ## Running sums
 
--- how many weights stand before a level's
-total-counts : (ws : List (List ℕ)) (k : ℕ) → total (take k (counts ws)) ≡ countAll (take k ws)
-unfolding total countAll
-total-counts [] zero = refl
-total-counts [] (suc k) = refl
-total-counts (w ∷ ws) zero = refl
-total-counts (w ∷ ws) (suc k) = ap (λ (n : ℕ). length w + n) (total-counts ws k)
+-- one more is what it adds above the one before
+sums-step : (at : ℕ) (ws : List (List ℕ)) (x : ℕ) → x < length ws → getD (sums at (counts ws)) x 0 ≡ getD (at ∷ sums at (counts ws)) x 0 + length (getD ws x [])
+unfolding sums
+sums-step at [] x h = absurd (omega arith)
+sums-step at (w ∷ ws) zero h = refl
+sums-step at (w ∷ ws) (suc x) h = sums-step (at + length w) ws x (omega arith)
 
-level-drop : (ws : List (List ℕ)) (rest : List ℕ) (k : ℕ) → drop (countAll (take k ws)) (flatten ws ++ rest) ≡ flatten (drop k ws) ++ rest
-unfolding countAll flatten
-level-drop [] rest zero = refl
-level-drop [] rest (suc k) = refl
-level-drop (w ∷ ws) rest zero = refl
-level-drop (w ∷ ws) rest (suc k) =
-    rw (append-assoc w (flatten ws) rest, drop-append-add w (flatten ws ++ rest) (countAll (take k ws))) (level-drop ws rest k)
+-- behind some of them, the sums go on from all of these
+sums-past : (at : ℕ) (ws vs : List (List ℕ)) (y : ℕ)
+    → getD (at ∷ sums at (counts (ws ++ vs))) (length ws + y) 0 ≡ getD ((at + countAll ws) ∷ sums (at + countAll ws) (counts vs)) y 0
+unfolding sums countAll
+sums-past at [] vs y =
+    let e : at + 0 ≡ at = omega arith in
+    let z : 0 + y ≡ y = omega arith in
+    rw (e, z)
+sums-past at (w ∷ ws) vs y =
+    let e : at + length w + countAll ws ≡ at + (length w + countAll ws) = omega arith in
+    let s : suc (length ws) + y ≡ suc (length ws + y) = omega arith in
+    rw (s, ← e) (sums-past (at + length w) ws vs y)
 
-level-take : (ws : List (List ℕ)) (rest : List ℕ) (k : ℕ) → take (length (getD ws k [])) (flatten (drop k ws) ++ rest) ≡ getD ws k []
-unfolding flatten
-level-take [] rest zero = refl
-level-take [] rest (suc k) = refl
-level-take (w ∷ ws) rest zero = rw (append-assoc w (flatten ws) rest) (take-append-seam w (flatten ws ++ rest))
-level-take (w ∷ ws) rest (suc k) = level-take ws rest k
+-- running sums are not below where they begin
+sums-low : (at : ℕ) (ns : List ℕ) (x : ℕ) → x ≤ length ns → at ≤ getD (at ∷ sums at ns) x 0
+unfolding sums
+sums-low at ns zero h = omega arith
+sums-low at [] (suc x) h = absurd (omega arith)
+sums-low at (n ∷ ns) (suc x) h = omega (arith, sums-low (at + n) ns x (omega arith))
 
-weights-from : (is : List Item) (rest : List ℕ) (k : ℕ) → drop (weightCount (take k is)) (weightNumbers is rest) ≡ weightNumbers (drop k is) rest
-unfolding weightCount weightNumbers
-weights-from [] rest zero = refl
-weights-from [] rest (suc k) = refl
-weights-from (i ∷ is) rest zero = refl
-weights-from (i ∷ is) rest (suc k) =
-    rw (← flatten-length (i .weights), drop-append-add (flatten (i .weights)) (weightNumbers is rest) (weightCount (take k is))) (weights-from is rest k)
+list-held : (ws : List (List ℕ)) (rest : List ℕ) (at x : ℕ) → x < length ws
+    → take (getD (sums at (counts ws)) x 0 - getD (at ∷ sums at (counts ws)) x 0) (drop (getD (at ∷ sums at (counts ws)) x 0 - at) (flatten ws ++ rest))
+    ≡ getD ws x []
+unfolding sums flatten
+list-held [] rest at x h = absurd (omega arith)
+list-held (w ∷ ws) rest at zero h =
+    let e : (at + length w) - at ≡ length w = omega arith in
+    let z : at - at ≡ 0 = omega arith in
+    rw (e, z, append-assoc w (flatten ws) rest) (take-append-seam w (flatten ws ++ rest))
+list-held (w ∷ ws) rest at (suc x) h =
+    let b : ℕ = getD ((at + length w) ∷ sums (at + length w) (counts ws)) x 0 in
+    let low : at + length w ≤ b = sums-low (at + length w) (counts ws) x (omega (arith, lib.ListN.length-map ws length)) in
+    let e : b - at ≡ length w + (b - (at + length w)) = omega arith in
+    rw (e, append-assoc w (flatten ws) rest, drop-append-add w (flatten ws ++ rest) (b - (at + length w))) (list-held ws rest (at + length w) x (omega arith))
 
-stored-levels : (l : ℕ) (is : List Item) (k : ℕ) → k < length is → every (goodItem l) is ≡ true → length (getD is k noItem .weights) ≡ l
+lists-at : (l : ℕ) (is : List Item) (k j : ℕ) → AllStored l is → k < length is → j < l
+    → getD (weightLists is) (k * l + j) [] ≡ getD (getD is k noItem .weights) j []
+unfolding weightLists
+lists-at l [] k j s h u = absurd (omega arith)
+lists-at l (i ∷ is) zero j s h u =
+    let e : 0 * l + j ≡ j = omega (arith, zero-mul l) in
+    rw e (List·getD-append (i .weights) (weightLists is) [] j (omega (arith, s .0 .2)))
+lists-at l (i ∷ is) (suc k) j s h u =
+    let e : suc k * l + j ≡ length (i .weights) + (k * l + j) = omega (arith, suc-mul k l, s .0 .2) in
+    rw (e, getD-append-add (i .weights) (weightLists is) (k * l + j) []) (lists-at l is k j (s .1) (omega arith) u)
+
+-- before the ends of item k: the weights of all items before it
+sums-before : (l at : ℕ) (is : List Item) (k : ℕ) → AllStored l is → k ≤ length is
+    → getD (at ∷ sums at (counts (weightLists is))) (k * l) 0 ≡ at + weightCount (take k is)
+unfolding weightLists weightCount
+sums-before l at is zero s h = let e : 0 * l ≡ 0 = zero-mul l in rw e (omega arith)
+sums-before l at [] (suc k) s h = absurd (omega arith)
+sums-before l at (i ∷ is) (suc k) s h =
+    let e : suc k * l ≡ length (i .weights) + k * l = omega (arith, suc-mul k l, s .0 .2) in
+    rw e (sums-past at (i .weights) (weightLists is) (k * l)
+    ∙ sums-before l (at + countAll (i .weights)) is k (s .1) (omega arith) ∙ omega arith)
+
+-- the weights of one item more
+count-next : (is : List Item) (k : ℕ) → k < length is → weightCount (take (suc k) is) ≡ weightCount (take k is) + countAll (getD is k noItem .weights)
+unfolding weightCount
+count-next [] k h = absurd (omega arith)
+count-next (i ∷ is) zero h = omega arith
+count-next (i ∷ is) (suc k) h = omega (arith, count-next is k (omega arith))
+
+stored-levels : (l : ℕ) (is : List Item) (k : ℕ) → k < length is → every (goodItem l) is ≡ true
+    → (length (getD is k noItem .weights) ≡ l) × (countAll (getD is k noItem .weights) ≤ 8 * l)
 stored-levels l [] k b h = absurd (omega arith)
-stored-levels l (i ∷ is) zero b h = item-parts l i (every-head (goodItem l) i is h) .levels
+stored-levels l (i ∷ is) zero b h =
+    let g = item-parts l i (every-head (goodItem l) i is h) in
+    (g .levels, omega (arith, g .levels, countAll-bound (i .weights) (g .weights)))
 stored-levels l (i ∷ is) (suc k) b h = stored-levels l is k (omega arith) (every-tail (goodItem l) i is h)
 
 -- so many numbers can be taken only where they stand
@@ -68,29 +112,39 @@ run-inside n from t e h =
 -- ## A stored meaning
 
 module _ (m : Meaning) (rest : List ℕ) (g : good m ≡ true) where
-  body-drop : drop (16 + length (m .rules)) (storedForm m rest)
-      ≡ itemNumbers 0 (permutation (m .items)) (m .items) (weightNumbers (m .items) rest)
+  -- the rules, and what follows them
+  abbrev rulesOn : List ℕ
+  rulesOn = map ruleNumber (m .rules) ++ weightNumbers (m .items) rest
+
+  -- the number before the first end is a spare one
+  from-ends : drop 15 (storedForm m rest) ≡ (0 ∷ ends (m .items)) ++ charNumbers (m .items) (listing (m .items) ++ starts (m .items) ++ rulesOn)
   unfolding storedForm
-  body-drop =
-      sym (drop-drop (length (m .rules)) 16 (storedForm m rest))
-      ∙ rules-drop (m .rules) (itemNumbers 0 (permutation (m .items)) (m .items) (weightNumbers (m .items) rest))
+  from-ends = refl
 
-  -- from record k on
-  stored-record : (k : ℕ) → k ≤ length (m .items)
-      → drop (recordAt (length (m .rules)) k) (storedForm m rest)
-      ≡ itemNumbers (weightCount (take k (m .items))) (drop k (permutation (m .items))) (drop k (m .items)) (weightNumbers (m .items) rest)
-  unfolding recordAt
-  stored-record k h =
+  pub stored-chars : drop (endsAt (length (m .rules)) (length (m .items))) (storedForm m rest)
+      ≡ charNumbers (m .items) (listing (m .items) ++ starts (m .items) ++ rulesOn)
+  unfolding storedForm endsAt
+  stored-chars =
+      let n : ℕ = length (m .items) * length (m .rules) in
+      sym (drop-drop n 16 (storedForm m rest)) ∙ drop-at (ends (m .items)) _ n (ends-length (length (m .rules)) (m .items) (meaning-stored m g))
+
+  stored-rules : drop (rulesPart (length (m .rules)) (length (m .items))) (storedForm m rest) ≡ rulesOn
+  stored-rules =
       let l : ℕ = length (m .rules) in
-      let z : 0 + weightCount (take k (m .items)) ≡ weightCount (take k (m .items)) = omega arith in
-      sym (drop-drop (k * (6 + l)) (16 + l) (storedForm m rest))
-      ∙ ap (λ (r : List ℕ). drop (k * (6 + l)) r) body-drop
-      ∙ (rw z at (records-from l (m .items) 0 (permutation (m .items)) (weightNumbers (m .items) rest) k h (meaning-stored m g)))
+      let n : ℕ = length (m .items) in
+      sym (drop-drop (6 * n) (endsAt l n) (storedForm m rest)) ∙ ap (drop (6 * n)) stored-chars ∙ parts-drop (m .items) rulesOn
 
-  -- the weights, from where they begin on
-  stored-weights : drop (recordAt (length (m .rules)) (length (m .items))) (storedForm m rest) ≡ weightNumbers (m .items) rest
-  unfolding itemNumbers
-  stored-weights = stored-record (length (m .items)) (omega arith) ∙ rw (lib.Seq.drop-length (m .items))
+  stored-weights : drop (weightsPart (length (m .rules)) (length (m .items))) (storedForm m rest) ≡ weightNumbers (m .items) rest
+  stored-weights =
+      let l : ℕ = length (m .rules) in
+      sym (drop-drop l (rulesPart l (length (m .items))) (storedForm m rest)) ∙ ap (drop l) stored-rules ∙ rules-drop (m .rules) (weightNumbers (m .items) rest)
+
+  -- the x-th end, and the one before it
+  stored-end : (x : ℕ) → x ≤ length (m .items) * length (m .rules) → getD (storedForm m rest) (15 + x) 0 ≡ getD (0 ∷ ends (m .items)) x 0
+  stored-end x h =
+      let n = ends-length (length (m .rules)) (m .items) (meaning-stored m g) in
+      sym (getD-drop 15 (storedForm m rest) x 0) ∙ ap (λ (u : List ℕ). getD u x 0) from-ends
+      ∙ List·getD-append (0 ∷ ends (m .items)) _ 0 x (omega arith)
 
 -- ## An accepted table
 
@@ -98,33 +152,16 @@ module _ (m : Meaning) (rest : List ℕ) (g : good m ≡ true) where
 abbrev restOf : List ℕ → List ℕ
 restOf t = drop (length (storedForm (meaningIn t) [])) t
 
--- what stands behind an item's record
-abbrev behind : List ℕ → ℕ → List ℕ
-behind t k =
-    itemNumbers
-    (weightCount (take k (meaningIn t .items)) + countAll (getD (meaningIn t .items) k noItem .weights))
-    (drop 1 (drop k (permutation (meaningIn t .items))))
-    (drop (suc k) (meaningIn t .items))
-    (weightNumbers (meaningIn t .items) (restOf t))
-
 getD-rules : (rs : List Rule) (more : List ℕ) (k : ℕ) (d : Rule) → k < length rs → getD (map ruleNumber rs ++ more) k 0 ≡ ruleNumber (getD rs k d)
 getD-rules [] more k d h = absurd (omega arith)
 getD-rules (r ∷ rs) more zero d h = refl
 getD-rules (r ∷ rs) more (suc k) d h = getD-rules rs more k d (omega arith)
 
-getD-counts : (ws : List (List ℕ)) (more : List ℕ) (k : ℕ) → k < length ws → getD (counts ws ++ more) k 0 ≡ length (getD ws k [])
-getD-counts [] more k h = absurd (omega arith)
-getD-counts (w ∷ ws) more zero h = refl
-getD-counts (w ∷ ws) more (suc k) h = getD-counts ws more k (omega arith)
-
-take-counts : (ws : List (List ℕ)) (more : List ℕ) (k : ℕ) → k ≤ length ws → take k (counts ws ++ more) ≡ take k (counts ws)
-take-counts ws more k h = lib.Seq.take-append-le k (counts ws) more (rw (length-map ws length) h)
-
 module _ (t : List ℕ) (h : accepted t ≡ true) where
   whole : t ≡ storedForm (meaningIn t) (restOf t)
   whole = accepted-stored t h .1
 
-  good-in : good (meaningIn t) ≡ true
+  pub good-in : good (meaningIn t) ≡ true
   good-in = accepted-stored t h .0
 
   pub table-good : Good (meaningIn t)
@@ -138,51 +175,47 @@ module _ (t : List ℕ) (h : accepted t ≡ true) where
   unfolding storedForm
   table-items = ap (λ (x : List ℕ). getD x 1 0) whole
 
+  pub table-mask : getD t 3 0 ≡ mask (length (meaningIn t .items))
+  unfolding storedForm
+  table-mask = ap (λ (x : List ℕ). getD x 3 0) whole
+
   -- all its parts are in the area
-  pub table-long : recordAt (length (meaningIn t .rules)) (length (meaningIn t .items)) + weightCount (meaningIn t .items) ≤ length t
-  unfolding recordAt sizeOf
+  pub table-long : weightsPart (length (meaningIn t .rules)) (length (meaningIn t .items)) + weightCount (meaningIn t .items) ≤ length t
+  unfolding sizeOf
   table-long =
+      let l : ℕ = length (meaningIn t .rules) in
+      let n : ℕ = length (meaningIn t .items) in
       let e = ap length whole in
       let s = stored-size (meaningIn t) (restOf t) good-in in
-      omega arith
+      omega (arith, endsAt-is l n, native.Mathlib.Nat.mul-add n 6 l)
 
-  pub table-rule : (level : ℕ) → level < length (meaningIn t .rules) → getD t (16 + level) 0 ≡ ruleNumber (ruleAt t level)
-  unfolding storedForm
+  pub table-rule : (level : ℕ) → level < length (meaningIn t .rules)
+      → getD t (rulesPart (length (meaningIn t .rules)) (length (meaningIn t .items)) + level) 0 ≡ ruleNumber (ruleAt t level)
   table-rule level k =
-      sym (getD-drop 16 t level 0)
-      ∙ ap (λ (x : List ℕ). getD (drop 16 x) level 0) whole
-      ∙ getD-rules (meaningIn t .rules) (itemNumbers 0 (permutation (meaningIn t .items)) (meaningIn t .items) (weightNumbers (meaningIn t .items) (restOf t))) level _ k
+      let at : ℕ = rulesPart (length (meaningIn t .rules)) (length (meaningIn t .items)) in
+      sym (getD-drop at t level 0)
+      ∙ ap (λ (x : List ℕ). getD (drop at x) level 0) whole
+      ∙ ap (λ (x : List ℕ). getD x level 0) (stored-rules (meaningIn t) (restOf t) good-in)
+      ∙ getD-rules (meaningIn t .rules) (weightNumbers (meaningIn t .items) (restOf t)) level _ k
 
-  -- an item's record
-  pub table-record : (k : ℕ) → k < length (meaningIn t .items)
-      → drop (recordAt (length (meaningIn t .rules)) k) t
-      ≡ padded (getD (meaningIn t .items) k noItem .chars)
-      (weightCount (take k (meaningIn t .items)) ∷ getD (drop k (permutation (meaningIn t .items))) 0 0
-      ∷ counts (getD (meaningIn t .items) k noItem .weights) ++ behind t k)
-  unfolding itemNumbers
-  table-record k b =
-      ap (λ (x : List ℕ). drop (recordAt (length (meaningIn t .rules)) k) x) whole
-      ∙ stored-record (meaningIn t) (restOf t) good-in k (omega arith)
-      ∙ ap
-      (λ (is : List Item). itemNumbers (weightCount (take k (meaningIn t .items))) (drop k (permutation (meaningIn t .items))) is (weightNumbers (meaningIn t .items) (restOf t)))
-      (drop-cons (meaningIn t .items) k noItem b)
+  -- the weights, from where they begin on
+  table-weights : drop (weightsPart (length (meaningIn t .rules)) (length (meaningIn t .items))) t ≡ weightNumbers (meaningIn t .items) (restOf t)
+  table-weights =
+      ap (drop (weightsPart (length (meaningIn t .rules)) (length (meaningIn t .items)))) whole ∙ stored-weights (meaningIn t) (restOf t) good-in
 
-  -- the weights of an item, from where they begin on
-  table-weights : (k : ℕ) → k < length (meaningIn t .items)
-      → drop (recordAt (length (meaningIn t .rules)) (length (meaningIn t .items)) + weightCount (take k (meaningIn t .items))) t
-      ≡ flatten (getD (meaningIn t .items) k noItem .weights) ++ weightNumbers (drop (suc k) (meaningIn t .items)) (restOf t)
-  unfolding weightNumbers
-  table-weights k b =
-      sym (drop-drop (weightCount (take k (meaningIn t .items))) (recordAt (length (meaningIn t .rules)) (length (meaningIn t .items))) t)
-      ∙ ap (λ (x : List ℕ). drop (weightCount (take k (meaningIn t .items))) (drop (recordAt (length (meaningIn t .rules)) (length (meaningIn t .items))) x)) whole
-      ∙ ap (λ (x : List ℕ). drop (weightCount (take k (meaningIn t .items))) x) (stored-weights (meaningIn t) (restOf t) good-in)
-      ∙ weights-from (meaningIn t .items) (restOf t) k
-      ∙ ap (λ (is : List Item). weightNumbers is (restOf t)) (drop-cons (meaningIn t .items) k noItem b)
+  -- the characters, and what follows them
+  pub table-chars : drop (endsAt (length (meaningIn t .rules)) (length (meaningIn t .items))) t
+      ≡ charNumbers (meaningIn t .items) (listing (meaningIn t .items) ++ starts (meaningIn t .items) ++ rulesOn (meaningIn t) (restOf t) good-in)
+  table-chars =
+      ap (drop (endsAt (length (meaningIn t .rules)) (length (meaningIn t .items)))) whole ∙ stored-chars (meaningIn t) (restOf t) good-in
 
-  -- the header and the rules are in the area
-  pub table-head : 16 + length (meaningIn t .rules) ≤ length t
-  unfolding recordAt
-  table-head = let e = table-long in omega arith
+  -- the x-th end, and the one before it
+  table-end : (x : ℕ) → x ≤ length (meaningIn t .items) * length (meaningIn t .rules) → getD t (15 + x) 0 ≡ getD (0 ∷ ends (meaningIn t .items)) x 0
+  table-end x b = ap (λ (u : List ℕ). getD u (15 + x) 0) whole ∙ stored-end (meaningIn t) (restOf t) good-in x b
+
+  -- the header is in the area
+  pub table-head : 16 ≤ length t
+  table-head = let e = table-long in omega (arith, endsAt-least (length (meaningIn t .rules)) (length (meaningIn t .items)))
 
 -- ## A rule by its number
 
@@ -202,89 +235,22 @@ rule-small false false = omega arith
 
 -- ## Where an item's weights at a level are found
 
--- how large the parts of an accepted table are, with its levels and items counted, and a record's place
-pub record Sizes (t : List ℕ) (place level l n at : ℕ) : Type 0 where
+-- how large the parts are
+pub record Sizes (t : List ℕ) (l n : ℕ) : Type 0 where
   pub few-levels : l ≤ 8
   pub few-items : n ≤ 32768
-  pub level-in : level < l
-  pub place-in : pred place < n
-  pub small : at ≤ 458776
-  pub weights-small : recordAt l n ≤ 458776
-  pub room : at + (6 + l) ≤ length t
+  pub long : weightsPart l n ≤ length t
+  pub near : endsAt l n ≤ 262160
 
-module _ (t : List ℕ) (place level l n at : ℕ) (w : Within t place level) (le : l ≡ length (meaningIn t .rules)) (ne : n ≡ length (meaningIn t .items))
-    (ae : at ≡ recordAt l (place - 1)) where
-  pub sizes : Sizes t place level l n at
-  sizes =
-      let g = table-good t (w .checked) in
-      let a : l ≤ 8 = omega (arith, g .few-levels) in
-      let b : n ≤ 32768 = omega (arith, g .few-items) in
-      let p : place - 1 < n = omega (arith, w .from-one, w .in-items) in
-      let long : recordAt l n ≤ length t = rw (le, ne) (let e = table-long t (w .checked) in omega arith) in
-      record {
-        few-levels = a;
-        few-items = b;
-        level-in = omega (arith, w .in-levels);
-        place-in = rw (sub-one place) at p;
-        small = omega (arith, recordAt-bound l (place - 1) a (omega arith));
-        weights-small = recordAt-bound l n a b;
-        room = omega (arith, recordAt-room l (place - 1) n p);
-      }
+pub table-sizes : (t : List ℕ) {l n : ℕ} → accepted t ≡ true → l ≡ length (meaningIn t .rules) → n ≡ length (meaningIn t .items) → Sizes t l n
+table-sizes t h le ne =
+    let g = table-good t h in
+    let a = g .few-levels in
+    let b = g .few-items in
+    rw (le, ne) (record {
+      few-levels = a;
+      few-items = b;
+      long = let e = table-long t h in omega arith;
+      near = endsAt-bound (length (meaningIn t .rules)) (length (meaningIn t .items)) a b;
+    })
 
-  -- its record, with the place from 0
-  record-is : drop at t
-      ≡ padded (getD (meaningIn t .items) (pred place) noItem .chars)
-      (weightCount (take (pred place) (meaningIn t .items)) ∷ getD (drop (pred place) (permutation (meaningIn t .items))) 0 0
-      ∷ counts (getD (meaningIn t .items) (pred place) noItem .weights) ++ behind t (pred place))
-  record-is = rw (ae, sub-one place, le) (table-record t (w .checked) (pred place) (rw ne at (sizes .place-in)))
-
-  start-is : getD t (at + 4) 0 ≡ weightCount (take (pred place) (meaningIn t .items))
-  start-is = sym (getD-drop at t 4 0) ∙ ap (λ (x : List ℕ). getD x 4 0) record-is
-
-  counts-are : drop (at + 6) t ≡ counts (getD (meaningIn t .items) (pred place) noItem .weights) ++ behind t (pred place)
-  counts-are = sym (drop-drop 6 at t) ∙ ap (λ (x : List ℕ). drop 6 x) record-is
-
-  levels-are : length (getD (meaningIn t .items) (pred place) noItem .weights) ≡ length (meaningIn t .rules)
-  levels-are = stored-levels (length (meaningIn t .rules)) (meaningIn t .items) (pred place) (rw ne at (sizes .place-in)) (table-good t (w .checked) .items)
-
-  -- how many weights stand at the level
-  count-is : getD t (at + 6 + level) 0 ≡ length (weightsAt (meaningIn t .items) level place)
-  unfolding weightsAt
-  count-is =
-      sym (getD-drop (at + 6) t level 0)
-      ∙ ap (λ (x : List ℕ). getD x level 0) counts-are
-      ∙ getD-counts (getD (meaningIn t .items) (pred place) noItem .weights) (behind t (pred place)) level (rw levels-are (w .in-levels))
-
-  module _ (before base : ℕ) (be : before ≡ total (take level (drop (at + 6) t))) (we : base ≡ recordAt l n) where
-    before-is : before ≡ countAll (take level (getD (meaningIn t .items) (pred place) noItem .weights))
-    before-is =
-        be
-        ∙ ap (λ (x : List ℕ). total (take level x)) counts-are
-        ∙ ap total (take-counts (getD (meaningIn t .items) (pred place) noItem .weights) (behind t (pred place)) level
-        (rw levels-are (let h = w .in-levels in omega arith)))
-        ∙ total-counts (getD (meaningIn t .items) (pred place) noItem .weights) level
-
-    from-is : drop (base + getD t (at + 4) 0 + before) t
-        ≡ flatten (drop level (getD (meaningIn t .items) (pred place) noItem .weights)) ++ weightNumbers (drop (suc (pred place)) (meaningIn t .items)) (restOf t)
-    from-is =
-        rw (we, start-is, le, ne, ← drop-drop before (recordAt (length (meaningIn t .rules)) (length (meaningIn t .items)) + weightCount (take (pred place) (meaningIn t .items))) t)
-        (ap (λ (x : List ℕ). drop before x) (table-weights t (w .checked) (pred place) (rw ne at (sizes .place-in)))
-        ∙ rw before-is
-        (level-drop (getD (meaningIn t .items) (pred place) noItem .weights) (weightNumbers (drop (suc (pred place)) (meaningIn t .items)) (restOf t)) level))
-
-    few-are : length (weightsAt (meaningIn t .items) level place) ≤ 8
-    few-are = good-count (weightsAt (meaningIn t .items) level place) (weightsAt-good (length (meaningIn t .rules)) (meaningIn t .items) (table-good t (w .checked) .items) level place)
-
-    run-is : take (getD t (at + 6 + level) 0) (drop (base + getD t (at + 4) 0 + before) t) ≡ weightsAt (meaningIn t .items) level place
-    unfolding weightsAt
-    run-is =
-        rw (count-is, from-is)
-        (level-take (getD (meaningIn t .items) (pred place) noItem .weights) (weightNumbers (drop (suc (pred place)) (meaningIn t .items)) (restOf t)) level)
-
-    pub weights-held : Holds t (record { from = base + getD t (at + 4) 0 + before; count = getD t (at + 6 + level) 0 }) (weightsAt (meaningIn t .items) level place)
-    weights-held = record {
-      is = run-is;
-      many = count-is;
-      few = rw count-is few-are;
-      inside = run-inside (getD t (at + 6 + level) 0) (base + getD t (at + 4) 0 + before) t (ap length run-is ∙ sym count-is);
-    }

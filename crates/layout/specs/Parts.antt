@@ -1,22 +1,39 @@
 -- Where the parts of a table stand (docs/TABLE.md), and what its readers give.
 use mathlib.Core.Path.{_≡_}
 use mathlib.Core.Bool.{true, false}
-use mathlib.Core.List.{List}
-use Prim.Native.Nat.{ℕ, _+_, _*_, _≤_, _<_}
+use mathlib.Core.List.{List, _∷_}
+use Prim.Native.Nat.{ℕ, pred, _+_, _*_, _≤_, _<_}
 use lib.ListN.{length, getD, take, drop}
 use Rattle.rules.specs.Meaning as meaning
-use Rattle.rules.specs.Table.{accepted, meaningIn, total}
+use Rattle.rules.specs.Meaning.{countAll}
+use Rattle.rules.specs.Table.{ends, accepted, meaningIn}
+use Rattle.rules.specs.Order.{weightsAt, noItem}
 use Rattle.layout.specs.declared.Rule.{Rule}
 use Rattle.layout.specs.declared.Run.{Run}
 
--- where record k begins, counted from 0, in a table of l levels; the weights begin where record I would
-unfoldable pub recordAt : ℕ → ℕ → ℕ
-recordAt l k = 16 + l + k * (6 + l)
+-- where the ends of item k begin, both counted from 0, in a table of l levels
+unfoldable pub endsAt : ℕ → ℕ → ℕ
+endsAt l k = 16 + k * l
 
--- The sum of at most eight numbers from a place on.
-pub record Totals (t : List ℕ) (from n r : ℕ) : Type 0 where
-  pub is : r ≡ total (take n (drop from t))
-  pub small : r ≤ 34359738360
+-- where the characters begin, in a table of l levels and n items: behind the ends
+abbrev pub charsPart : ℕ → ℕ → ℕ
+charsPart l n = endsAt l n
+
+-- the listing
+abbrev pub listingPart : ℕ → ℕ → ℕ
+listingPart l n = charsPart l n + 4 * n
+
+-- the starts of the buckets
+abbrev pub startsPart : ℕ → ℕ → ℕ
+startsPart l n = charsPart l n + 5 * n
+
+-- the rules
+abbrev pub rulesPart : ℕ → ℕ → ℕ
+rulesPart l n = charsPart l n + 6 * n
+
+-- the weights
+abbrev pub weightsPart : ℕ → ℕ → ℕ
+weightsPart l n = rulesPart l n + l
 
 -- a rule as the paper has it
 abbrev pub ruleAs : Rule → meaning.Rule
@@ -33,9 +50,25 @@ pub record Within (t : List ℕ) (place level : ℕ) : Type 0 where
   pub in-items : place ≤ length (meaningIn t .items)
   pub in-levels : level < length (meaningIn t .rules)
 
+-- How many weights stand before those of the item at a place, from 1, at a level, from 0. Those of the level behind the last stand behind all of
+-- the item's own.
+pub record Before (t : List ℕ) (place level r : ℕ) : Type 0 where
+  pub is : r ≡ getD (0 ∷ ends (meaningIn t .items)) (pred place * length (meaningIn t .rules) + level) 0
+  pub small : r ≤ 4294967295
+
 -- A run of numbers in the table that are these weights.
 pub record Holds (t : List ℕ) (r : Run) (weights : List ℕ) : Type 0 where
   pub is : take (r .count) (drop (r .from) t) ≡ weights
   pub many : r .count ≡ length weights
   pub few : r .count ≤ 8
   pub inside : 0 < r .count → r .from + r .count ≤ length t
+
+-- So many weights the item at a place has at a level.
+pub record Many (t : List ℕ) (place level r : ℕ) : Type 0 where
+  pub is : r ≡ length (weightsAt (meaningIn t .items) level place)
+  pub few : r ≤ 8
+
+-- So many it has at all levels.
+pub record ManyAll (t : List ℕ) (place r : ℕ) : Type 0 where
+  pub is : r ≡ countAll (getD (meaningIn t .items) (pred place) noItem .weights)
+  pub few : r ≤ 64

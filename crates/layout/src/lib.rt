@@ -1,11 +1,12 @@
 // The layout of a table (docs/TABLE.md): where each part stands, and the readers of an accepted table. Offsets and strides are known here alone.
 ghost use mathlib.Core.Path.{_≡_};
 ghost use mathlib.Core.Bool.{true};
-ghost use Prim.Native.Nat.{_+_, _≤_, _<_};
-ghost use lib.ListN.{length, getD};
-ghost use Rattle.rules.specs.Table.{accepted, meaningIn};
+ghost use Prim.Native.Nat.{_+_, _/_, _≤_, _<_};
+ghost use lib.ListN.{length, getD, drop};
+ghost use Rattle.rules.specs.Table.{mask, accepted, meaningIn};
 ghost use Rattle.rules.specs.Order.{weightsAt};
-ghost use Rattle.layout.specs.Parts.{recordAt, Totals, ruleAs, ruleAt, Within, Holds};
+ghost use Rattle.layout.specs.Starts.{bucketFor, startAt};
+ghost use Rattle.layout.specs.Parts.{endsAt, rulesPart, weightsPart, Before, ruleAs, ruleAt, Within, Holds, Many, ManyAll};
 use units::Rank;
 
 // How the entries of a level are walked.
@@ -20,27 +21,69 @@ pub struct Run {
     pub count: usize,
 }
 
-// Where record k begins, and for the number of items, where the weights begin.
-pub fn record_at(levels: usize, k: usize) -> usize
+// Where the ends of item k begin, from 0; for the number of items, where the characters begin.
+pub fn ends_at(levels: usize, k: usize) -> usize
     requires { ⌜ (levels ≤ 8) × (k ≤ 32768) ⌝ }
-    ensures { λ r. ⌜ r ≡ recordAt levels k ⌝ }
+    ensures { λ r. ⌜ r ≡ endsAt levels k ⌝ }
 {
-    16 + levels + k * (6 + levels)
+    16 + k * levels
 }
 
-// The sum of n numbers from a place on, at most eight of them.
-pub fn total_of(t: &[u32], from: usize, n: usize) -> usize
-    requires { ⌜ (from + n ≤ length (now t)) × (n ≤ 8) ⌝ }
-    ensures { λ r. ⌜ Totals (now (t .entry)) from n r ⌝ }
+// Where the rules begin.
+fn rules_part(levels: usize, items: usize) -> usize
+    requires { ⌜ (levels ≤ 8) × (items ≤ 32768) ⌝ }
+    ensures { λ r. ⌜ r ≡ rulesPart levels items ⌝ }
 {
-    let mut sum: usize = 0;
-    let mut i = from;
-    let end = from + n;
-    while i < end {
-        sum += t[i] as usize;
-        i += 1;
+    ends_at(levels, items) + 6 * items
+}
+
+// Where the weights begin.
+pub fn weights_part(levels: usize, items: usize) -> usize
+    requires { ⌜ (levels ≤ 8) × (items ≤ 32768) ⌝ }
+    ensures { λ r. ⌜ r ≡ weightsPart levels items ⌝ }
+{
+    rules_part(levels, items) + levels
+}
+
+// One less than how many buckets characters have, where there are so many items.
+pub fn mask_for(items: u32) -> u32
+    requires { ⌜ items ≤ 32768 ⌝ }
+    ensures { λ r. ⌜ r ≡ mask items ⌝ }
+{
+    let mut p: u32 = 1;
+    let mut k: usize = 0;
+    while k < 15 {
+        if p < items {
+            p = 2 * p;
+            k += 1;
+        } else {
+            k += 1;
+        }
     }
-    sum
+    p - 1
+}
+
+// The bucket of an item whose characters begin with a number.
+pub fn bucket_of(items: u32, buckets: u32, c: u32) -> u32
+    requires { ⌜ (1 ≤ items) × (items ≤ 32768) × (buckets ≡ mask items) ⌝ }
+    ensures { λ r. ⌜ r ≡ bucketFor items c ⌝ }
+{
+    if c == 0x110000 {
+        return 2 * items - 1;
+    }
+    c & buckets
+}
+
+// The start of a bucket, where the starts stand from a place on; two stand in each number.
+pub fn start_of(t: &[u32], from: usize, b: usize) -> u32
+    requires { ⌜ from + b / 2 < length (now t) ⌝ }
+    ensures { λ r. ⌜ r ≡ startAt (drop from (now (t .entry))) b ⌝ }
+{
+    let n = t[from + b / 2];
+    if b % 2 == 0 {
+        return n % 65536;
+    }
+    n / 65536
 }
 
 // How many levels an accepted table has.
@@ -65,7 +108,10 @@ pub fn rule_of(t: &[u32], level: usize) -> Rule
     requires { ⌜ level < length (meaningIn (now t) .rules) ⌝ }
     ensures { λ r. ⌜ ruleAs r ≡ ruleAt (now (t .entry)) level ⌝ }
 {
-    let n = t[16 + level];
+    let l = levels(t);
+    let m = items(t);
+    let at = rules_part(l, m);
+    let n = t[at + level];
     if n == 0 {
         return Rule {
             backward: false,
@@ -90,6 +136,17 @@ pub fn rule_of(t: &[u32], level: usize) -> Rule
     }
 }
 
+// How many weights stand before those of the item at a place, from 1, at a level, from 0, or at the number of levels, behind all of its own.
+fn weights_before(t: &[u32], place: usize, level: usize) -> usize
+    requires { ⌜ Within (now t) place 0 ⌝ }
+    requires { ⌜ level ≤ length (meaningIn (now t) .rules) ⌝ }
+    ensures { λ r. ⌜ Before (now (t .entry)) place level r ⌝ }
+{
+    let l = levels(t);
+    let at = ends_at(l, place - 1) + level;
+    t[at - 1] as usize
+}
+
 // Where the weights stand of the item at a place, from 1, at a level, from 0.
 pub fn weights(t: &[u32], place: usize, level: usize) -> Run
     requires { ⌜ Within (now t) place level ⌝ }
@@ -97,13 +154,34 @@ pub fn weights(t: &[u32], place: usize, level: usize) -> Run
 {
     let l = levels(t);
     let n = items(t);
-    let at = record_at(l, place - 1);
-    let before = total_of(t, at + 6, level);
-    let from = record_at(l, n) + t[at + 4] as usize + before;
+    let base = weights_part(l, n);
+    let before = weights_before(t, place, level);
+    let to = weights_before(t, place, level + 1);
     Run {
-        from: from,
-        count: t[at + 6 + level] as usize,
+        from: base + before,
+        count: to - before,
     }
+}
+
+// How many weights the item at a place, from 1, has at a level, from 0.
+pub fn count_at(t: &[u32], place: usize, level: usize) -> usize
+    requires { ⌜ Within (now t) place level ⌝ }
+    ensures { λ r. ⌜ Many (now (t .entry)) place level r ⌝ }
+{
+    let before = weights_before(t, place, level);
+    let to = weights_before(t, place, level + 1);
+    to - before
+}
+
+// How many weights the item at a place, from 1, has at all levels together.
+pub fn count_all(t: &[u32], place: usize) -> usize
+    requires { ⌜ Within (now t) place 0 ⌝ }
+    ensures { λ r. ⌜ ManyAll (now (t .entry)) place r ⌝ }
+{
+    let l = levels(t);
+    let before = weights_before(t, place, 0);
+    let to = weights_before(t, place, l);
+    to - before
 }
 
 // The weight that stands at a place of the table.

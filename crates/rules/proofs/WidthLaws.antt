@@ -118,7 +118,7 @@ ends-fit : (is : List Item) → weightCount is < 4294967296 → every fits (ends
 unfolding ends
 ends-fit is b = sums-fit 0 (weightLists is) (omega (arith, lists-count is))
 
-below-few : (b : ℕ) (qs : List ℕ) → below b qs ≤ length qs
+pub below-few : (b : ℕ) (qs : List ℕ) → below b qs ≤ length qs
 unfolding below
 below-few b [] = omega arith
 below-few b (q ∷ qs) =
