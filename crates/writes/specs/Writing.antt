@@ -1,14 +1,14 @@
 -- What stands in a table's area after one item was written.
 use mathlib.Core.Path.{_≡_}
-use mathlib.Core.List.{List, [], _∷_, map, flatten}
-use Prim.Native.Nat.{ℕ, _+_, _/_, _≤_, _<_}
+use mathlib.Core.List.{List, [], _∷_, flatten}
+use Prim.Native.Nat.{ℕ, _+_, _-_, _/_, _≤_, _<_}
 use lib.ListN.{length, getD, set, drop}
 use lib.Seq.{sets}
 use lib.Dec.{eqb, leb}
 use Rattle.rules.specs.Text.{if_then_else_}
 use Rattle.rules.specs.Lines.{quoted}
 use Rattle.rules.specs.Meaning.{countAll}
-use Rattle.rules.specs.Table.{pad, padded, counts}
+use Rattle.rules.specs.Table.{pad, padded, sums, counts}
 use Rattle.rules.specs.State.{Subject}
 use Rattle.lines.specs.declared.Signs.{Signs}
 use Rattle.lines.specs.declared.Spot.{Spot}
@@ -47,22 +47,26 @@ partSize g src part.None = 0
 partSize g src (part.One p) = 1
 partSize g src (part.Quotes p) = quoteSize g src p
 
--- The weights of an operand stand in the area from a place on, and how many they are at another.
-pub record LevelPut (g : Signs) (src w : List ℕ) (own : ℕ) (x : Part) (area : List ℕ) (slot at : ℕ) (after : List ℕ) (next : ℕ) : Type 0 where
+-- The weights of an operand stand in the area from a place on, and where they end, counted from `base`, at another.
+pub record LevelPut (g : Signs) (src w : List ℕ) (own : ℕ) (x : Part) (area : List ℕ) (slot base at : ℕ) (after : List ℕ) (next : ℕ) : Type 0 where
   pub is : (n : ℕ) (ds : List Decl) → Holds (keyAt g src) (length src) w n ds
-      → after ≡ set (sets area at (partRanks g src own x (rankIn w ds))) slot (length (partRanks g src own x (rankIn w ds)))
+      → after ≡ set (sets area at (partRanks g src own x (rankIn w ds))) slot (at + length (partRanks g src own x (rankIn w ds)) - base)
   pub to : next ≡ at + partSize g src x
 
--- The area has place for a line's counts, and behind them for its weights, which are equally many whatever their ranks are.
-pub record LineRoom (g : Signs) (src : List ℕ) (place levels own : ℕ) (area : List ℕ) (counts at : ℕ) : Type 0 where
-  pub before : counts + levels ≤ at
+-- The area has place for a line's ends, and behind them for its weights, which are equally many whatever their ranks are; ends are counted from
+-- `base`, and can be stored.
+pub record LineRoom (g : Signs) (src : List ℕ) (place levels own : ℕ) (area : List ℕ) (slots base at : ℕ) : Type 0 where
+  pub before : slots + levels ≤ base
+  pub from : base ≤ at
   pub by : Subject → ℕ
   pub room : at + countAll (ranksAt g src place levels own by) ≤ length area
+  pub small : at + countAll (ranksAt g src place levels own by) < base + 4294967296
 
--- The counts of a line's weights stand in the area, and the weights.
-pub record LinePut (g : Signs) (src w : List ℕ) (place levels own : ℕ) (area : List ℕ) (counts at : ℕ) (after : List ℕ) (next : ℕ) : Type 0 where
+-- The ends of a line's weights stand in the area, and the weights.
+pub record LinePut (g : Signs) (src w : List ℕ) (place levels own : ℕ) (area : List ℕ) (slots base at : ℕ) (after : List ℕ) (next : ℕ) : Type 0 where
   pub is : (n : ℕ) (ds : List Decl) → Holds (keyAt g src) (length src) w n ds
-      → after ≡ sets (sets area counts (map length (ranksAt g src place levels own (rankIn w ds)))) at (flatten (ranksAt g src place levels own (rankIn w ds)))
+      → after ≡ sets (sets area slots (sums (at - base) (counts (ranksAt g src place levels own (rankIn w ds))))) at
+      (flatten (ranksAt g src place levels own (rankIn w ds)))
   pub to : (n : ℕ) (ds : List Decl) → Holds (keyAt g src) (length src) w n ds → next ≡ at + countAll (ranksAt g src place levels own (rankIn w ds))
 
 -- ## Characters
@@ -89,15 +93,20 @@ pub record CodeIs (g : Signs) (src : List ℕ) (p : Spot) (r : Coded) : Type 0 w
 
 -- ## The whole item
 
--- The area has place for its record, and behind that for its weights, which are equally many whatever their ranks are.
-pub record ItemRoom (g : Signs) (src w : List ℕ) (mark levels : ℕ) (area : List ℕ) (from at : ℕ) : Type 0 where
-  pub before : from + 6 + levels ≤ at
+-- The area has place for its ends, behind them for its characters, and behind those for its weights, which are equally many whatever their ranks
+-- are; ends are counted from `base`, and can be stored.
+pub record ItemRoom (g : Signs) (src w : List ℕ) (mark levels : ℕ) (area : List ℕ) (slots from base at : ℕ) : Type 0 where
+  pub ends : slots + levels ≤ from
+  pub chars : from + 4 ≤ base
+  pub behind : base ≤ at
   pub by : Subject → ℕ
   pub room : at + countAll (itemRanks g src w mark levels by) ≤ length area
+  pub small : at + countAll (itemRanks g src w mark levels by) < base + 4294967296
 
--- Its record stands in the area, and its weights; `start` is where those start among all.
-pub record ItemPut (g : Signs) (src w : List ℕ) (mark levels start : ℕ) (area : List ℕ) (from at : ℕ) (after : List ℕ) (next : ℕ) : Type 0 where
+-- Its characters stand in the area, its ends, and its weights.
+pub record ItemPut (g : Signs) (src w : List ℕ) (mark levels : ℕ) (area : List ℕ) (slots from base at : ℕ) (after : List ℕ) (next : ℕ) : Type 0 where
   pub is : (n : ℕ) (ds : List Decl) → Holds (keyAt g src) (length src) w n ds
-      → after ≡ sets (sets area from (padded (itemChars g src w mark) (start ∷ 0 ∷ counts (itemRanks g src w mark levels (rankIn w ds))))) at
+      → after ≡ sets (sets (sets area from (padded (itemChars g src w mark) [])) slots
+      (sums (at - base) (counts (itemRanks g src w mark levels (rankIn w ds))))) at
       (flatten (itemRanks g src w mark levels (rankIn w ds)))
   pub to : (n : ℕ) (ds : List Decl) → Holds (keyAt g src) (length src) w n ds → next ≡ at + countAll (itemRanks g src w mark levels (rankIn w ds))

@@ -1,4 +1,4 @@
-// One item of a table, written from its order line: its characters, the counts of its weights, and the weights, read again from the source.
+// One item of a table, written from its order line: its characters, where its weights end at each level, and the weights, read again from the source.
 ghost use mathlib.Core.Path.{_≡_};
 ghost use mathlib.Core.List.{[], _∷_};
 ghost use Prim.Native.Nat.{_+_, _*_, _/_, _≤_, _<_};
@@ -94,7 +94,7 @@ fn narrow(n: usize) -> u32
     n as u32
 }
 
-// The weights of one operand, and how many they are at a place of its own; the place behind the weights.
+// The weights of one operand, and where they end, counted from base, at a place of its own; the place behind the weights.
 fn write_level(
     src: &[u8],
     g: Signs,
@@ -103,20 +103,22 @@ fn write_level(
     own: Rank,
     area: &mut [u32],
     slot: usize,
+    base: usize,
     at: usize,
 ) -> usize
     requires { ⌜ PartFits g (now src) part ⌝ }
     requires { ⌜ Sound (keyAt g (now src)) (length (now src)) (now work) ⌝ }
     requires { ⌜ (slot < length (now area)) × (at + partSize g (now src) part ≤ length (now area)) ⌝ }
-    ensures { λ r. ⌜ LevelPut g (now (src .entry)) (now (work .entry)) (own .0) part (now (area .entry)) slot at (now (area .exit)) r ⌝ }
+    requires { ⌜ (base ≤ at) × (at + partSize g (now src) part < base + 4294967296) ⌝ }
+    ensures { λ r. ⌜ LevelPut g (now (src .entry)) (now (work .entry)) (own .0) part (now (area .entry)) slot base at (now (area .exit)) r ⌝ }
 {
     let end = write_part(src, g, work, part, own, area, at);
-    area[slot] = narrow(end - at);
+    area[slot] = narrow(end - base);
     end
 }
 
-// The weights of an order line, from the place after its subject on, with their counts at places of their own, level by level; own is the
-// line's own rank. The place behind the weights.
+// The weights of an order line, from the place after its subject on, with their ends, counted from base, at places of their own, level by level;
+// own is the line's own rank. The place behind the weights.
 pub fn write_line(
     src: &[u8],
     g: Signs,
@@ -125,23 +127,24 @@ pub fn write_line(
     levels: usize,
     own: Rank,
     area: &mut [u32],
-    counts: usize,
+    slots: usize,
+    base: usize,
     at: usize,
 ) -> usize
     requires { ⌜ Readable g (now src) place levels ⌝ }
     requires { ⌜ Sound (keyAt g (now src)) (length (now src)) (now work) ⌝ }
-    requires { ⌜ LineRoom g (now src) place levels (own .0) (now area) counts at ⌝ }
-    ensures { λ r. ⌜ LinePut g (now (src .entry)) (now (work .entry)) place levels (own .0) (now (area .entry)) counts at (now (area .exit)) r ⌝ }
+    requires { ⌜ LineRoom g (now src) place levels (own .0) (now area) slots base at ⌝ }
+    ensures { λ r. ⌜ LinePut g (now (src .entry)) (now (work .entry)) place levels (own .0) (now (area .entry)) slots base at (now (area .exit)) r ⌝ }
 {
     let mut c = first_part(src, g, place);
     let mut left = levels;
-    let mut slot = counts;
+    let mut slot = slots;
     let mut next = at;
     while 0 < left {
         let t = next_part(src, g, c);
         let part = t.part;
         let after = t.next;
-        next = write_level(src, g, work, part, own, area, slot, next);
+        next = write_level(src, g, work, part, own, area, slot, base, next);
         slot += 1;
         left -= 1;
         c = after;
@@ -230,28 +233,27 @@ pub fn write_chars(src: &[u8], g: Signs, work: &[u32], mark: usize, area: &mut [
     write_quoted(src, g, p, area, at);
 }
 
-// The record of an item, of the order line of a mark: its characters, where its weights start among all, a 0 for the place of the permutation,
-// and the counts; and its weights. The place behind those.
+// An item, of the order line of a mark: its characters from a place on, its ends, counted from base, from another, its weights from a third. The
+// place behind those.
 pub fn write_item(
     src: &[u8],
     g: Signs,
     work: &[u32],
     mark: usize,
     levels: usize,
-    start: u32,
     area: &mut [u32],
+    slots: usize,
     from: usize,
+    base: usize,
     at: usize,
 ) -> usize
     requires { ⌜ CharsReady (length (now src)) (now work) mark × RowReady g (now src) (now work) mark levels ⌝ }
     requires { ⌜ Sound (keyAt g (now src)) (length (now src)) (now work) ⌝ }
-    requires { ⌜ ItemRoom g (now src) (now work) mark levels (now area) from at ⌝ }
-    ensures { λ r. ⌜ ItemPut g (now (src .entry)) (now (work .entry)) mark levels start (now (area .entry)) from at (now (area .exit)) r ⌝ }
+    requires { ⌜ ItemRoom g (now src) (now work) mark levels (now area) slots from base at ⌝ }
+    ensures { λ r. ⌜ ItemPut g (now (src .entry)) (now (work .entry)) mark levels (now (area .entry)) slots from base at (now (area .exit)) r ⌝ }
 {
     let place = wide(told(work, mark, 2));
     let own = Rank(told(work, mark, 4));
     write_chars(src, g, work, mark, area, from);
-    area[from + 4] = start;
-    area[from + 5] = 0;
-    write_line(src, g, work, place, levels, own, area, from + 6, at)
+    write_line(src, g, work, place, levels, own, area, slots, base, at)
 }
