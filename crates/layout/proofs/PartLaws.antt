@@ -6,8 +6,10 @@ use Prim.Native.Nat.{ℕ, zero, suc, pred, _+_, _-_, _*_, _≤_, _<_}
 use native.Mathlib.Numerals.{sub-one}
 use native.Mathlib.Nat.{min-le-right}
 use native.Mathlib.Omega.{arith}
+use mir.Syntax.{w64}
+use mir.Val.{Fits}
 use lib.ListN.{length, getD, take, drop, length-map, length-take, length-drop}
-use lib.Seq.{drop-drop, drop-cons, take-append-seam, drop-append-add, getD-drop}
+use lib.Seq.{drop-drop, drop-cons, take-all, take-append-seam, drop-append-add, getD-drop}
 use Rattle.rules.specs.Meaning.{Rule, Item, Meaning, goodItem, countAll, weightCount, sizeOf, good}
 use Rattle.rules.specs.Table.{padded, counts, total, ruleNumber, ruleOfNumber, itemNumbers, weightNumbers, permutation, storedForm, meaningIn, accepted}
 use Rattle.rules.specs.Order.{weightsAt, noItem}
@@ -18,7 +20,7 @@ use Rattle.rules.proofs.WidthLaws.{good-count}
 use Rattle.rules.proofs.MeaningLaws.{item-parts, Good, good-parts}
 use Rattle.rules.proofs.TableLaws.{meaning-stored, accepted-stored, rule-back, rules-drop, records-from}
 use Rattle.rules.proofs.SizeLaws.{stored-size, flatten-length}
-use Rattle.layout.specs.Parts.{recordAt, ruleAt, Within, Holds}
+use Rattle.layout.specs.Parts.{recordAt, Totals, ruleAt, Within, Holds, ManyAll}
 use Rattle.layout.proofs.LayoutLaws.{recordAt-bound, recordAt-room}
 
 -- ## The weights of an item, level by level
@@ -54,7 +56,8 @@ weights-from (i ∷ is) rest zero = refl
 weights-from (i ∷ is) rest (suc k) =
     rw (← flatten-length (i .weights), drop-append-add (flatten (i .weights)) (weightNumbers is rest) (weightCount (take k is))) (weights-from is rest k)
 
-stored-levels : (l : ℕ) (is : List Item) (k : ℕ) → k < length is → every (goodItem l) is ≡ true → length (getD is k noItem .weights) ≡ l
+-- an item has a list of weights for each level
+pub stored-levels : (l : ℕ) (is : List Item) (k : ℕ) → k < length is → every (goodItem l) is ≡ true → length (getD is k noItem .weights) ≡ l
 stored-levels l [] k b h = absurd (omega arith)
 stored-levels l (i ∷ is) zero b h = item-parts l i (every-head (goodItem l) i is h) .levels
 stored-levels l (i ∷ is) (suc k) b h = stored-levels l is k (omega arith) (every-tail (goodItem l) i is h)
@@ -288,3 +291,43 @@ module _ (t : List ℕ) (place level l n at : ℕ) (w : Within t place level) (l
       few = rw count-is few-are;
       inside = run-inside (getD t (at + 6 + level) 0) (base + getD t (at + 4) 0 + before) t (ap length run-is ∙ sym count-is);
     }
+
+-- ## How many weights an item has
+
+-- where no level has more than eight
+countAll-le : (ws : List (List ℕ)) → ((k : ℕ) → length (getD ws k []) ≤ 8) → countAll ws ≤ 8 * length ws
+unfolding countAll
+countAll-le [] h = omega arith
+countAll-le (w ∷ ws) h = let e = countAll-le ws (λ k. h (suc k)) in let n = h 0 in omega arith
+
+pub levels-few : {t : List ℕ} {place l : ℕ} → Within t place 0 → l ≡ length (meaningIn t .rules) → l ≤ 8
+levels-few {t} w le = omega (arith, table-good t (w .checked) .few-levels)
+
+pub place-few : {t : List ℕ} {place : ℕ} → Within t place 0 → place - 1 ≤ 32768
+place-few {t} w = omega (arith, w .in-items, table-good t (w .checked) .few-items)
+
+module _ (t : List ℕ) (place l at : ℕ) (w : Within t place 0) (le : l ≡ length (meaningIn t .rules)) (ae : at ≡ recordAt l (place - 1)) where
+  item-sizes : Sizes t place 0 l (length (meaningIn t .items)) at
+  item-sizes = sizes t place 0 l (length (meaningIn t .items)) at w le refl ae
+
+  pub counts-fit : Fits w64 (at + 6)
+  counts-fit = omega (arith, item-sizes .small)
+
+  pub counts-room : at + 6 + l ≤ length t
+  counts-room = omega (arith, item-sizes .room)
+
+  pub item-counted : {r : ℕ} → Totals t (at + 6) l r → ManyAll t place r
+  unfolding weightsAt
+  item-counted {r} e =
+      let n : ℕ = length (meaningIn t .items) in
+      let ws : List (List ℕ) = getD (meaningIn t .items) (pred place) noItem .weights in
+      let levels : length ws ≡ l = levels-are t place 0 l n at w le refl ae ∙ sym le in
+      let is : r ≡ countAll ws =
+      e .is
+      ∙ ap (λ (x : List ℕ). total (take l x)) (counts-are t place 0 l n at w le refl ae)
+      ∙ ap total (take-counts ws (behind t (pred place)) l (omega arith))
+      ∙ total-counts ws l
+      ∙ ap countAll (take-all l ws (omega arith)) in
+      let each = weightsAt-good (length (meaningIn t .rules)) (meaningIn t .items) (table-good t (w .checked) .items) in
+      let b = countAll-le ws (λ k. good-count (getD ws k []) (each k place)) in
+      record { is = is; few = omega (arith, is, item-sizes .few-levels) }

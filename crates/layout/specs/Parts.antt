@@ -2,10 +2,12 @@
 use mathlib.Core.Path.{_≡_}
 use mathlib.Core.Bool.{true, false}
 use mathlib.Core.List.{List}
-use Prim.Native.Nat.{ℕ, _+_, _*_, _≤_, _<_}
+use Prim.Native.Nat.{ℕ, pred, _+_, _*_, _≤_, _<_}
 use lib.ListN.{length, getD, take, drop}
 use Rattle.rules.specs.Meaning as meaning
+use Rattle.rules.specs.Meaning.{countAll}
 use Rattle.rules.specs.Table.{accepted, meaningIn, total}
+use Rattle.rules.specs.Order.{noItem}
 use Rattle.layout.specs.declared.Rule.{Rule}
 use Rattle.layout.specs.declared.Run.{Run}
 
@@ -39,3 +41,8 @@ pub record Holds (t : List ℕ) (r : Run) (weights : List ℕ) : Type 0 where
   pub many : r .count ≡ length weights
   pub few : r .count ≤ 8
   pub inside : 0 < r .count → r .from + r .count ≤ length t
+
+-- How many weights the item at a place has at all levels together.
+pub record ManyAll (t : List ℕ) (place r : ℕ) : Type 0 where
+  pub is : r ≡ countAll (getD (meaningIn t .items) (pred place) noItem .weights)
+  pub few : r ≤ 64

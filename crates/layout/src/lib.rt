@@ -5,7 +5,7 @@ ghost use Prim.Native.Nat.{_+_, _≤_, _<_};
 ghost use lib.ListN.{length, getD};
 ghost use Rattle.rules.specs.Table.{accepted, meaningIn};
 ghost use Rattle.rules.specs.Order.{weightsAt};
-ghost use Rattle.layout.specs.Parts.{recordAt, Totals, ruleAs, ruleAt, Within, Holds};
+ghost use Rattle.layout.specs.Parts.{recordAt, Totals, ruleAs, ruleAt, Within, Holds, ManyAll};
 use units::Rank;
 
 // How the entries of a level are walked.
@@ -104,6 +104,16 @@ pub fn weights(t: &[u32], place: usize, level: usize) -> Run
         from: from,
         count: t[at + 6 + level] as usize,
     }
+}
+
+// How many weights the item at a place, from 1, has at all levels together.
+pub fn count_all(t: &[u32], place: usize) -> usize
+    requires { ⌜ Within (now t) place 0 ⌝ }
+    ensures { λ r. ⌜ ManyAll (now (t .entry)) place r ⌝ }
+{
+    let l = levels(t);
+    let at = record_at(l, place - 1);
+    total_of(t, at + 6, l)
 }
 
 // The weight that stands at a place of the table.
