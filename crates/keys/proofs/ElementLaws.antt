@@ -1,7 +1,7 @@
 -- The bytes of an entry and of an element, as put_entry, put_later and put_element write them.
-use mathlib.Core.Path.{_≡_, refl, sym, ap, _∙_}
+use mathlib.Core.Path.{_≡_, ap, _∙_}
 use mathlib.Core.Bool.{Bool, true, false}
-use mathlib.Core.List.{List, [], _∷_, _++_, append-nil}
+use mathlib.Core.List.{List, [], _++_, append-nil}
 use Prim.Native.Nat.{ℕ, _+_, _≤_, _<_}
 use native.Mathlib.Numerals.{add-one}
 use native.Mathlib.Omega.{arith}
@@ -11,7 +11,7 @@ use Rattle.lists.proofs.Runs.{run, run-whole, run-none, run-cons}
 use Rattle.rules.specs.Order.{two}
 use Rattle.layout.specs.declared.Run.{Run}
 use Rattle.units.specs.declared.Rank.{Rank}
-use Rattle.keys.specs.Writing.{entryBytes, laterBytes, elementBytes, TwoFit, EntryFits, Narrow, LaterFit, ElementFits, Puts}
+use Rattle.keys.specs.Writing.{entryBytes, laterBytes, elementBytes, TwoFit, EntryFits, LaterFit, ElementFits, Puts}
 use Rattle.keys.proofs.PutLaws.{puts-then, Putting, putting-none, putting-room, putting-more, putting-all}
 
 -- ## An entry
@@ -96,39 +96,39 @@ module _ {t room now : List ℕ} {from end at i next : ℕ} {p : Bool} (v : Late
 
 -- ## All weights of an element
 
-module _ {t : List ℕ} {run₀ : Run} {room : List ℕ} {at : ℕ} {p : Bool} {n : ℕ} (f : ElementFits t run₀ room at p n) where
-  pub first-inside : run₀ .from < length t
+module _ {t : List ℕ} {w : Run} {room : List ℕ} {at : ℕ} {p : Bool} {n : ℕ} (f : ElementFits t w room at p n) where
+  pub first-inside : w .from < length t
   first-inside = omega (arith, f .some, f .narrow .within)
 
-  module _ {r : Rank} (e : r .0 ≡ getD t (run₀ .from) 0) where
+  module _ {r : Rank} (e : r .0 ≡ getD t (w .from) 0) where
     -- the first, and the others
-    element-parts : elementBytes p n (take (run₀ .count) (drop (run₀ .from) t))
-        ≡ entryBytes p n (r .0) ++ laterBytes p (run t (run₀ .from + 1) (run₀ .from + run₀ .count))
+    element-parts : elementBytes p n (take (w .count) (drop (w .from) t))
+        ≡ entryBytes p n (r .0) ++ laterBytes p (run t (w .from + 1) (w .from + w .count))
     unfolding elementBytes
     element-parts =
-        let h : run₀ .from < run₀ .from + run₀ .count = omega (arith, f .some) in
-        rw (e, run-whole t (run₀ .from) (run₀ .count), run-cons t (run₀ .from) (run₀ .from + run₀ .count) h (f .narrow .within))
+        let h : w .from < w .from + w .count = omega (arith, f .some) in
+        rw (e, run-whole t (w .from) (w .count), run-cons t (w .from) (w .from + w .count) h (f .narrow .within))
 
-    element-long : length (elementBytes p n (take (run₀ .count) (drop (run₀ .from) t)))
-        ≡ length (entryBytes p n (r .0)) + length (laterBytes p (run t (run₀ .from + 1) (run₀ .from + run₀ .count)))
+    element-long : length (elementBytes p n (take (w .count) (drop (w .from) t)))
+        ≡ length (entryBytes p n (r .0)) + length (laterBytes p (run t (w .from + 1) (w .from + w .count)))
     element-long =
-        ap length element-parts ∙ length-append (entryBytes p n (r .0)) (laterBytes p (run t (run₀ .from + 1) (run₀ .from + run₀ .count)))
+        ap length element-parts ∙ length-append (entryBytes p n (r .0)) (laterBytes p (run t (w .from + 1) (w .from + w .count)))
 
     pub first-fits : EntryFits room at p n (r .0)
     first-fits = record {
       counted = f .counted;
-      weighs = rw e (f .narrow .small (run₀ .from) (omega arith) (omega (arith, f .some)));
+      weighs = rw e (f .narrow .small (w .from) (omega arith) (omega (arith, f .some)));
       inside = omega (arith, f .inside, element-long);
     }
 
     module _ {first : List ℕ} {next : ℕ} (q : Puts room at (entryBytes p n (r .0)) first next) where
-      pub element-one : run₀ .count ≡ 1 → Puts room at (elementBytes p n (take (run₀ .count) (drop (run₀ .from) t))) first next
+      pub element-one : w .count ≡ 1 → Puts room at (elementBytes p n (take (w .count) (drop (w .from) t))) first next
       element-one h =
-          let z : laterBytes p (run t (run₀ .from + 1) (run₀ .from + run₀ .count)) ≡ [] =
-          later-nil t (run₀ .from + 1) (run₀ .from + run₀ .count) p (omega arith) in
+          let z : laterBytes p (run t (w .from + 1) (w .from + w .count)) ≡ [] =
+          later-nil t (w .from + 1) (w .from + w .count) p (omega arith) in
           rw (element-parts, z, append-nil (entryBytes p n (r .0))) q
 
-      pub others-fit : LaterFit t (run₀ .from + 1) (run₀ .from + run₀ .count) first next p
+      pub others-fit : LaterFit t (w .from + 1) (w .from + w .count) first next p
       others-fit =
           let l : length first ≡ length room = ap length (q .is) ∙ length-sets room at (entryBytes p n (r .0)) in
           record {
@@ -137,6 +137,6 @@ module _ {t : List ℕ} {run₀ : Run} {room : List ℕ} {at : ℕ} {p : Bool} {
           }
 
       pub element-all : {second : List ℕ} {behind : ℕ}
-          → Puts first next (laterBytes p (run t (run₀ .from + 1) (run₀ .from + run₀ .count))) second behind
-          → Puts room at (elementBytes p n (take (run₀ .count) (drop (run₀ .from) t))) second behind
+          → Puts first next (laterBytes p (run t (w .from + 1) (w .from + w .count))) second behind
+          → Puts room at (elementBytes p n (take (w .count) (drop (w .from) t))) second behind
       element-all s = rw element-parts (puts-then q s)
