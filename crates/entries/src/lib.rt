@@ -51,7 +51,7 @@ pub fn start() -> Cursor
 }
 
 // The place of the element that is i-th in the direction walked, from 0.
-fn place_at(places: &[u32], backward: bool, i: usize) -> usize
+pub fn place_at(places: &[u32], backward: bool, i: usize) -> usize
     requires { ⌜ i < length (now places) ⌝ }
     ensures { λ r. ⌜ r ≡ getD (directed backward (now (places .entry))) i 0 ⌝ }
 {

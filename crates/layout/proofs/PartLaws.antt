@@ -95,13 +95,19 @@ count-next [] k h = absurd (omega arith)
 count-next (i ∷ is) zero h = omega arith
 count-next (i ∷ is) (suc k) h = omega (arith, count-next is k (omega arith))
 
-stored-levels : (l : ℕ) (is : List Item) (k : ℕ) → k < length is → every (goodItem l) is ≡ true
-    → (length (getD is k noItem .weights) ≡ l) × (countAll (getD is k noItem .weights) ≤ 8 * l)
+-- an item has as many lists of weights as the table has levels
+pub stored-levels : (l : ℕ) (is : List Item) (k : ℕ) → k < length is → every (goodItem l) is ≡ true → length (getD is k noItem .weights) ≡ l
 stored-levels l [] k b h = absurd (omega arith)
-stored-levels l (i ∷ is) zero b h =
-    let g = item-parts l i (every-head (goodItem l) i is h) in
-    (g .levels, omega (arith, g .levels, countAll-bound (i .weights) (g .weights)))
+stored-levels l (i ∷ is) zero b h = item-parts l i (every-head (goodItem l) i is h) .levels
 stored-levels l (i ∷ is) (suc k) b h = stored-levels l is k (omega arith) (every-tail (goodItem l) i is h)
+
+-- and at most eight weights in each
+stored-count : (l : ℕ) (is : List Item) (k : ℕ) → k < length is → every (goodItem l) is ≡ true → countAll (getD is k noItem .weights) ≤ 8 * l
+stored-count l [] k b h = absurd (omega arith)
+stored-count l (i ∷ is) zero b h =
+    let g = item-parts l i (every-head (goodItem l) i is h) in
+    omega (arith, g .levels, countAll-bound (i .weights) (g .weights))
+stored-count l (i ∷ is) (suc k) b h = stored-count l is k (omega arith) (every-tail (goodItem l) i is h)
 
 -- so many numbers can be taken only where they stand
 run-inside : (n from : ℕ) (t : List ℕ) → length (take n (drop from t)) ≡ n → 0 < n → from + n ≤ length t
@@ -315,8 +321,8 @@ module _ (t : List ℕ) (place : ℕ) (w : Within t place 0) where
   many-all b r h k =
       let e = before-all b r h k in
       let inside : pred place < length (meaningIn t .items) = omega (arith, w .from-one, w .in-items) in
-      let c = stored-levels (length (meaningIn t .rules)) (meaningIn t .items) (pred place) inside (few .items) in
-      (omega arith, record { is = omega (arith, e); few = omega (arith, e, c .1, few .few-levels) })
+      let c = stored-count (length (meaningIn t .rules)) (meaningIn t .items) (pred place) inside (few .items) in
+      (omega arith, record { is = omega (arith, e); few = omega (arith, e, c, few .few-levels) })
 
 module _ (t : List ℕ) (place level : ℕ) (w : Within t place level) where
   pub within-first : Within t place 0
