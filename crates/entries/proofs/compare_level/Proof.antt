@@ -1,5 +1,5 @@
 -- `entries::compare_level` meets its contract. The loop's invariant: the run over what both walks have still to come, with the entries passed, is the run over the whole levels. The measure is how many entries the first walk has still to come.
-use Rattle.entries.proofs.CompareLaws.{Comparing, comparing-none, both-end, first-ends, second-ends, differ-less, differ-greater, agree-more, agree-fewer}
+use Rattle.entries.proofs.CompareLaws.{Comparing, comparing-none, both-end, first-ends, second-ends, differ-less, differ-greater, agree-fits, agree-more, agree-fewer}
 use lib.ListN.{length}
 use Rattle.layout.specs.Parts.{ruleAs}
 use Rattle.entries.specs.Walk.{entriesLeft}
@@ -8,7 +8,7 @@ use Rattle.entries.proofs.compare_level.Statement.{statement}
 use Rattle.entries.proofs.compare_level.Tie as tie
 
 abbrev Inv-loop : tie.InvT-loop
-Inv-loop t a b level rule x₀ y₀ agreed₀ x y agreed = Comparing t a b level (ruleAs rule) x y agreed
+Inv-loop t a b level rule x₀ y₀ agreed₀ x y agreed = Comparing t a b level (ruleAs rule) (record { x = x; y = y; agreed = agreed })
 
 abbrev μ-loop : tie.MeasureT-loop
 μ-loop t a b level rule x₀ y₀ agreed₀ x y agreed = length (entriesLeft t a level (ruleAs rule) x)
@@ -21,6 +21,9 @@ start-requires-2 c κs = search needs
 
 loop-holds : tie.Need-loop-holds Inv-loop μ-loop
 loop-holds c = search comparing-none
+
+onward-requires : tie.Need-onward-requires Inv-loop μ-loop
+onward-requires c κs = search needs
 
 next-requires : tie.Need-next-requires Inv-loop μ-loop
 next-requires c κs = search needs
@@ -74,7 +77,7 @@ enum-told-7 : tie.Need-enum-told-7 Inv-loop μ-loop
 enum-told-7 c = search needs
 
 add-agreed : tie.Need-add-agreed Inv-loop μ-loop
-add-agreed c = search needs
+add-agreed c = search agree-fits
 
 loop-less : tie.Need-loop-less Inv-loop μ-loop
 loop-less c = search agree-fewer
@@ -91,6 +94,7 @@ compare-level-spec =
     start-requires
     start-requires-2
     loop-holds
+    onward-requires
     next-requires
     next-requires-2
     enum-told
