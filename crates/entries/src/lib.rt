@@ -180,19 +180,19 @@ fn level_with(x: Cursor, y: Cursor) -> bool
     false
 }
 
-// Two walks that stand level, so many elements passed, the last `skipped` of them without a weight.
-fn between(passed: usize, behind: usize, skipped: usize, agreed: usize) -> Walks
-    ensures { λ r. ⌜ r ≡ atElements passed behind skipped agreed ⌝ }
+// Two walks that stand level, i and j elements passed, the last `skipped` of them without a weight.
+fn between(i: usize, j: usize, skipped: usize, agreed: usize) -> Walks
+    ensures { λ r. ⌜ r ≡ atElements i j skipped agreed ⌝ }
 {
     Walks {
         x: Cursor {
-            passed: passed,
+            passed: i,
             from: 0,
             left: 0,
             skipped: skipped,
         },
         y: Cursor {
-            passed: behind,
+            passed: j,
             from: 0,
             left: 0,
             skipped: skipped,
