@@ -4,8 +4,6 @@ use mathlib.Core.List.{List, []}
 use Prim.Native.Nat.{ℕ, suc, _+_, _≤_, _<_}
 use native.Mathlib.Numerals.{add-one}
 use native.Mathlib.Omega.{arith}
-use mir.Syntax.{w64}
-use mir.Val.{Fits}
 use lib.ListN.{length}
 use Rattle.rules.specs.Meaning.{Rule}
 use Rattle.rules.specs.Table.{meaningIn}
@@ -75,10 +73,6 @@ comparing-none {t} {a} {b} {level} rule v w p q =
       };
       same = rw (fresh-entries t a level rule, fresh-entries t b level rule);
     })
-
--- one entry more is counted
-pub agree-fits : {t a b : List ℕ} {level : ℕ} {rule : Rule} {w r : Walks} → Onward t a b level rule w r → Fits w64 (r .agreed + 1)
-agree-fits o = omega (arith, o .stand .few)
 
 -- an answer with a sign of one's own, the walks having gone on
 told : {t a b : List ℕ} {level : ℕ} {rule : Rule} {w r : Walks} → Comparing t a b level rule w → Onward t a b level rule w r → (s : Sign)

@@ -1,9 +1,10 @@
 -- `entries::compare_level` meets its contract. The loop's invariant: the run over what both walks have still to come, with the entries passed, is the run over the whole levels. The measure is how many entries the first walk has still to come.
-use Rattle.entries.proofs.CompareLaws.{Comparing, comparing-none, both-end, first-ends, second-ends, differ-less, differ-greater, agree-fits, agree-more, agree-fewer}
+use Rattle.entries.proofs.CompareLaws.{Comparing, comparing-none, both-end, first-ends, second-ends, differ-less, differ-greater, agree-more, agree-fewer}
 use lib.ListN.{length}
 use Rattle.layout.specs.Parts.{ruleAs}
 use Rattle.entries.specs.Walk.{entriesLeft}
 use borrow.Author.Needs.{needs}
+use native.Mathlib.Omega.{arith}
 use Rattle.entries.proofs.compare_level.Statement.{statement}
 use Rattle.entries.proofs.compare_level.Tie as tie
 
@@ -77,7 +78,7 @@ enum-told-7 : tie.Need-enum-told-7 Inv-loop μ-loop
 enum-told-7 c = search needs
 
 add-agreed : tie.Need-add-agreed Inv-loop μ-loop
-add-agreed c = search agree-fits
+add-agreed c = omega (arith, c .before .before .before .before .before .before .before .before .before .before .before .onward .ensures .stand .few)
 
 loop-less : tie.Need-loop-less Inv-loop μ-loop
 loop-less c = search agree-fewer
