@@ -66,7 +66,7 @@ module _ (t places : List ℕ) (level : ℕ) (rule : Rule) where
       rw (walked-directed rule f places, drop-of-length-le (map f (directed (rule .backward) places)) l)
 
   -- one element
-  on-element : (i n : ℕ) → i < length places
+  pub on-element : (i n : ℕ) → i < length places
       → entriesOn t places level rule i n
       ≡ entriesFrom (rule .position) n
       (weightsOn t places level rule i ∷ drop (suc i) (walked rule (map (weightsAt (meaningIn t .items) level) places)))
@@ -106,7 +106,7 @@ module _ (t places : List ℕ) (level : ℕ) (rule : Rule) where
   fresh-sound = record { passed = omega arith; skipped = omega arith; inside = λ h. absurd (omega arith) }
 
   -- with no weight left of the element, it has those of the elements not passed
-  left-none : (c : Cursor) → c .left ≤ 0 → entriesLeft t places level rule c ≡ entriesOn t places level rule (c .passed) (c .skipped)
+  pub left-none : (c : Cursor) → c .left ≤ 0 → entriesLeft t places level rule c ≡ entriesOn t places level rule (c .passed) (c .skipped)
   unfolding entriesLeft more
   left-none c h = let e : c .left ≡ 0 = omega arith in rw e
 
