@@ -16,12 +16,11 @@ use Rattle.lines.specs.declared.Signs.{Signs}
 use Rattle.subjects.specs.Keys.{keyAt}
 use Rattle.store.specs.Store.{Decl, Holds, Sound}
 use Rattle.ranks.specs.declared.Part.{Part}
-use Rattle.ranks.specs.declared.Part.the-variants as part
 use Rattle.ranks.specs.declared.Cursor.{Cursor}
 use Rattle.ranks.specs.declared.Turn.{Turn}
 use Rattle.ranks.specs.Ranks.{rankIn, ranksBy, levelRanks}
-use Rattle.ranks.specs.Reading.{partRanks, PartFits, weightsLeft, Ahead, TurnIs, Starts, ranksAt}
-use Rattle.writes.specs.Writing.{RanksPut, quoteSize, partSize, LevelPut, LineRoom, LinePut}
+use Rattle.ranks.specs.Reading.{partRanks, weightsLeft, Ahead, TurnIs, Starts, ranksAt}
+use Rattle.writes.specs.Writing.{RanksPut, partSize, LevelPut, LineRoom, LinePut}
 use Rattle.writes.proofs.StoreLaws.{sets-swap}
 use Rattle.writes.proofs.PartLaws.{partRanks-length}
 
@@ -34,11 +33,13 @@ module _ (g : Signs) (src : List ℕ) {w : List ℕ} (own : ℕ) (x : Part) {are
       let f : Subject → ℕ = rankIn w (s .ds) in
       k .puts (s .n) (s .ds) (s .holds) .to ∙ ap (λ (n : ℕ). at + n) (partRanks-length g src own x f)
 
-  pub level-from : (base : ℕ) → base ≤ at → base ≤ next
-  level-from base h = omega (arith, level-to)
+  -- where the weights end, counted from a place that is not before base
+  module _ (place : ℕ) where
+    pub level-from : place ≤ at → place ≤ next
+    level-from h = omega (arith, level-to)
 
-  pub level-small : (base : ℕ) → at + partSize g src x < base + 4294967296 → next - base < 4294967296
-  level-small base h = omega (arith, level-to)
+    pub level-small : {base : ℕ} → at + partSize g src x < base + 4294967296 → base ≤ place → next - place < 4294967296
+    level-small h b = omega (arith, level-to)
 
   pub level-long : length after ≡ length area
   level-long =
