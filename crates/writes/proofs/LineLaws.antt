@@ -33,7 +33,7 @@ module _ (g : Signs) (src : List ℕ) {w : List ℕ} (own : ℕ) (x : Part) {are
       let f : Subject → ℕ = rankIn w (s .ds) in
       k .puts (s .n) (s .ds) (s .holds) .to ∙ ap (λ (n : ℕ). at + n) (partRanks-length g src own x f)
 
-  -- where the weights end, counted from a place that is not before base
+  -- where the weights end, counted from a place between base and their first
   module _ (place : ℕ) where
     pub level-from : place ≤ at → place ≤ next
     level-from h = omega (arith, level-to)
@@ -103,7 +103,8 @@ fill-step now slot base next r rs h b =
     ∙ sym (sets-append (sets now slot es) next r (flatten rs))
 
 -- The weights of the last `left` levels are still to be written.
-pub record Filling (g : Signs) (src w : List ℕ) (place levels own : ℕ) (area : List ℕ) (slots base at : ℕ) (now : List ℕ) (c : Cursor) (left slot next : ℕ) : Type 0 where
+pub record Filling (g : Signs) (src w : List ℕ) (place levels own : ℕ) (area : List ℕ) (slots base at : ℕ) (now : List ℕ) (c : Cursor)
+    (left slot next : ℕ) : Type 0 where
   pub same : (n : ℕ) (ds : List Decl) → Holds (keyAt g src) (length src) w n ds
       → sets (sets now slot (sums (next - base) (counts (levelRanks (rankIn w ds) own left (weightsLeft g src c))))) next
       (flatten (levelRanks (rankIn w ds) own left (weightsLeft g src c)))
