@@ -8,6 +8,7 @@ use lib.ListN.{length, set, length-set, length-map}
 use lib.Seq.{sets, length-sets}
 use Rattle.lists.proofs.Lists.{sets-append}
 use Rattle.rules.specs.State.{Subject}
+use Rattle.rules.proofs.SizeLaws.{sums-length}
 use Rattle.rules.specs.Meaning.{countAll}
 use Rattle.rules.specs.Table.{sums, counts}
 use Rattle.rules.specs.Tokens.{Token}
@@ -81,9 +82,7 @@ levelRanks-length f own (suc l) (w ∷ ws) = ap suc (levelRanks-length f own l w
 
 -- as many ends as levels
 ends-length : (at : ℕ) (rs : List (List ℕ)) → length (sums at (counts rs)) ≡ length rs
-unfolding sums
-ends-length at [] = refl
-ends-length at (r ∷ rs) = ap suc (ends-length (at + length r) rs)
+ends-length at rs = sums-length at (counts rs) ∙ length-map rs length
 
 -- ## Level by level
 
