@@ -51,7 +51,7 @@ pub listing-length : (is : List Item) → length (listing is) ≡ length is
 unfolding listing
 listing-length is = length-map (sorted (keyed (length is) 1 is)) placeOf ∙ sorted-length (keyed (length is) 1 is) ∙ keyed-length (length is) 1 is
 
-startsFrom-length : (n b : ℕ) (qs : List ℕ) → length (startsFrom n b qs) ≡ n
+pub startsFrom-length : (n b : ℕ) (qs : List ℕ) → length (startsFrom n b qs) ≡ n
 unfolding startsFrom
 startsFrom-length zero b qs = refl
 startsFrom-length (suc n) b qs = ap suc (startsFrom-length n (suc (suc b)) qs)
