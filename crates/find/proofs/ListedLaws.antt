@@ -2,9 +2,9 @@
 -- bucket stand together, from its start to the start of the next.
 use mathlib.Core.Path.{_≡_, refl, sym, ap, _∙_}
 use mathlib.Core.Logic.{_⊎_, inl, inr}
-use mathlib.Core.Bool.{Bool, true, false, _&&_, false≢true}
+use mathlib.Core.Bool.{true, false, _&&_, false≢true}
 use mathlib.Core.List.{List, [], _∷_, map}
-use Prim.Native.Nat.{ℕ, zero, suc, pred, _+_, _-_, _*_, _≤_, _<_}
+use Prim.Native.Nat.{ℕ, zero, suc, pred, _-_, _*_, _≤_, _<_}
 use native.Mathlib.Omega.{arith}
 use native.Mathlib.Decide.{decLt}
 use lib.ListN.{length, getD}
@@ -17,7 +17,7 @@ use Rattle.rules.specs.Names.{isCharacter}
 use Rattle.rules.specs.Meaning.{Item, Meaning, goodItem, hasChars}
 use Rattle.rules.specs.Table.{padded, before, bucket, listing, itemBuckets, below}
 use Rattle.rules.specs.Order.{noItem}
-use Rattle.rules.proofs.TextLaws.{every-at, within-low, within-high, within-intro, same-true}
+use Rattle.rules.proofs.TextLaws.{every-at, within-low, within-high, within-intro, same-true, same-refl}
 use Rattle.rules.proofs.MeaningLaws.{Good, GoodItem, item-parts}
 use Rattle.rules.proofs.SizeLaws.{listing-length}
 use Rattle.rules.proofs.SortLaws.{before-trans, before-cases}
@@ -155,7 +155,7 @@ module _ (m : Meaning) (g : Good m) where
       cs = listedChars (m .items) k
 
       go : (bucket n [] < bucket n cs) ⊎ ((bucket n [] ≡ bucket n cs) × (before (padded [] []) (padded cs []) ≡ true)) → ⊥
-      go (inl l) = omega (arith, bucket-same n [] some-item refl, bucket-few n cs some-item)
+      go (inl l) = omega (arith, bucket-same n [] some-item (same-refl []), bucket-few n cs some-item)
       go (inr r) = clash (r .1) (rw (take-length cs) at (longer-before cs 0 (length cs) (listed-characters k b) (omega arith)))
 
   -- UNDEFINED is listed last
@@ -216,7 +216,7 @@ module _ (m : Meaning) (g : Good m) where
         | yes l ↦ l
         | no l ↦
             let low : bucket n [] < b = rw undefined-last at (bucket-before b (n - 1) (omega arith) (omega arith)) in
-            absurd (omega (arith, bucket-same n [] some refl))
+            absurd (omega (arith, bucket-same n [] some (same-refl [])))
       ]
 
   -- nor is a character's bucket, nor the next

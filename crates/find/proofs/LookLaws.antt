@@ -23,10 +23,11 @@ use Rattle.find.specs.declared.Found.{Found}
 use Rattle.find.specs.declared.Near.{Near}
 use Rattle.find.specs.declared.Near.the-variants.{Element, Within}
 use Rattle.find.specs.Answer.{foundAs}
-use Rattle.find.specs.Search.{listedKey, Least, Shares, AtMost, Window, Ahead, Looked}
+use Rattle.find.specs.Search.{Least, Shares, AtMost, Window, Ahead, Looked}
 use Rattle.find.proofs.BeginningLaws.{Agree, before-tail, before-head, not-before-head, longer-before, between-begins, begins-short}
 use Rattle.find.proofs.BeginningLaws.{begins-agree, agree-begins, agree-long, begins-take, pad-over, agree-bucket}
 use Rattle.find.proofs.ListedLaws.{listed-rising, item-listed, item-good, listed-characters, listed-short, some-item, undefined-last}
+use Rattle.find.proofs.SearchLaws.{table-indexed}
 
 module _ (m : Meaning) (g : Good m) (s : List ℕ) (h : every isCharacter s ≡ true) where
   -- where s begins with no item's characters, the element is UNDEFINED, which is listed last
@@ -191,7 +192,7 @@ pub seeking-start : (t s : List ℕ) (at chars items : ℕ) {size : ℕ} → acc
     → chars ≡ charsPart (length (meaningIn t .rules)) (length (meaningIn t .items)) → items ≡ length (meaningIn t .items) → Window s at size
     → Seeking t s at chars items size
 seeking-start t s at chars items {size} h characters inside ce ie v =
-    let w : Indexed t chars items = record { checked = h; chars-are = ce; items-are = ie } in
+    let w = table-indexed t h ce ie in
     record { indexed = w; characters = characters; inside = inside; few = v .few; left = v .left; most = most w }
   where
     most : Indexed t chars items → AtMost (meaningIn t .items) (drop at s) size

@@ -3,7 +3,7 @@ use mathlib.Core.Path.{_≡_, refl, sym, ap, _∙_, subst}
 use mathlib.Core.Logic.{_⊎_, inl, inr}
 use mathlib.Core.Bool.{true}
 use mathlib.Core.List.{List, [], _∷_}
-use Prim.Native.Nat.{ℕ, zero, suc, pred, _+_, _*_, _≤_, _<_}
+use Prim.Native.Nat.{ℕ, suc, pred, _+_, _≤_, _<_}
 use native.Mathlib.Omega.{arith}
 use native.Mathlib.Decide.{decLt}
 use lib.ListN.{length, getD}
@@ -13,14 +13,14 @@ use Rattle.lists.proofs.Bools.{and-left, and-intro}
 use Rattle.rules.specs.Text.{every, begins}
 use Rattle.rules.specs.Names.{isCharacter}
 use Rattle.rules.specs.Meaning.{Item, Meaning}
-use Rattle.rules.specs.Table.{pad, padded, before, bucket, listKey, listing, accepted, meaningIn}
+use Rattle.rules.specs.Table.{pad, padded, before, bucket, listing, meaningIn}
 use Rattle.rules.specs.Order.{noItem, stepOf}
 use Rattle.rules.proofs.TextLaws.{every-head, every-tail, within-low, within-high}
 use Rattle.rules.proofs.MeaningLaws.{Good, item-parts}
 use Rattle.rules.proofs.SortLaws.{before-cases}
 use Rattle.rules.proofs.ElementLaws.{charsAt, step-is}
 use Rattle.layout.specs.declared.Listed.{Listed}
-use Rattle.layout.specs.Parts.{charsPart, Indexed, startFor, listedChars, Lists}
+use Rattle.layout.specs.Parts.{Indexed, startFor, listedChars, Lists}
 use Rattle.layout.proofs.IndexLaws.{indexed-good, listed-place}
 use Rattle.find.specs.Answer.{Quick}
 use Rattle.find.specs.Search.{listedKey}
@@ -97,10 +97,6 @@ module _ (m : Meaning) (g : Good m) (c k : ℕ) (start : k ≡ startFor (m .item
       (λ q b t. omega (arith, one, short q b (charsAt (m .items) q) rest refl t)))
 
 -- ## quick
-
-pub quick-indexed : (t : List ℕ) {chars items : ℕ} → accepted t ≡ true → chars ≡ charsPart (length (meaningIn t .rules)) (length (meaningIn t .items))
-    → items ≡ length (meaningIn t .items) → Indexed t chars items
-quick-indexed t h ce ie = record { checked = h; chars-are = ce; items-are = ie }
 
 module _ {t : List ℕ} {chars items : ℕ} (w : Indexed t chars items) (c : ℕ) {b k : ℕ} (be : b ≡ bucket (length (meaningIn t .items)) (c ∷ []))
     (ke : k ≡ startFor (meaningIn t .items) b) where

@@ -1,5 +1,5 @@
 -- The search by halving, from the start of the key's bucket to the start of the next: the loop of first_from.
-use mathlib.Core.Path.{_≡_, refl, sym, ap, _∙_}
+use mathlib.Core.Path.{_≡_, sym, ap, _∙_}
 use mathlib.Core.Bool.{Bool, true, false}
 use mathlib.Core.List.{List, [], _∷_}
 use Prim.Native.Nat.{ℕ, suc, _+_, _-_, _*_, _/_, _≤_, _<_}
@@ -7,15 +7,19 @@ use native.Mathlib.Omega.{arith}
 use native.Mathlib.Decide.{decLt}
 use lib.ListN.{length, getD}
 use Rattle.rules.specs.Meaning.{Item}
-use Rattle.rules.specs.Table.{pad, padded, before, bucket, meaningIn}
+use Rattle.rules.specs.Table.{pad, padded, before, bucket, accepted, meaningIn}
 use Rattle.rules.proofs.SortLaws.{before-less, before-trans}
 use Rattle.layout.specs.declared.Listed.{Listed}
-use Rattle.layout.specs.Parts.{Indexed, startFor, listedChars, Lists}
+use Rattle.layout.specs.Parts.{charsPart, Indexed, startFor, listedChars, Lists}
 use Rattle.layout.proofs.IndexLaws.{indexed-good}
 use Rattle.find.specs.declared.Key.{Key}
 use Rattle.find.specs.Search.{numbersOf, listedKey, bucketed, keyIn, Least}
 use Rattle.find.proofs.BeginningLaws.{before-tail, before-greater}
 use Rattle.find.proofs.ListedLaws.{listed-rising, some-item, bucket-before, bucket-from, start-next, start-inside, bucket-next}
+
+pub table-indexed : (t : List ℕ) {chars items : ℕ} → accepted t ≡ true → chars ≡ charsPart (length (meaningIn t .rules)) (length (meaningIn t .items))
+    → items ≡ length (meaningIn t .items) → Indexed t chars items
+table-indexed t h ce ie = record { checked = h; chars-are = ce; items-are = ie }
 
 -- the four numbers of a listed item
 key-is : {t : List ℕ} {k : ℕ} {i : Listed} → Lists t k i → keyIn t (i .from) ≡ padded (listedChars (meaningIn t .items) k) []
@@ -56,8 +60,8 @@ module _ {t : List ℕ} {chars items : ℕ} (w : Indexed t chars items) where
       record {
         ordered = up;
         inside = omega arith;
-        from-start = rw e;
-        to-next = rw e;
+        from-start = omega (arith, ap (startFor is) e);
+        to-next = omega (arith, ap (λ (x : ℕ). startFor is (suc x)) e);
         below = λ k l. before-less _ _ _ _ (omega (arith, e, bucket-before (meaningIn t) g b k l (omega arith)));
         here = before-greater _ _ _ _ (omega (arith, e, bucket-from (meaningIn t) g (suc b) (startFor is (suc b)) (omega arith) last));
       }

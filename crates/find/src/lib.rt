@@ -213,8 +213,9 @@ pub fn quick(t: &[u32], c: u32) -> usize
     let n = items(t);
     let k = start_in(t, chars, n, bucket_in(t, c));
     let item = item_at(t, chars, n, k);
-    if t[item.from] == c {
-        if t[item.from + 1] == 0x110000 {
+    let from = item.from;
+    if t[from] == c {
+        if t[from + 1] == 0x110000 {
             return item.place;
         }
     }

@@ -2,7 +2,7 @@
 use mathlib.Core.Path.{_≡_, refl, sym, ap, _∙_}
 use mathlib.Core.Bool.{true}
 use mathlib.Core.List.{List, [], _∷_, _++_, append-assoc}
-use Prim.Native.Nat.{ℕ, zero, suc, pred, _+_, _-_, _*_, _/_, _≤_, _<_}
+use Prim.Native.Nat.{ℕ, zero, suc, pred, _+_, _-_, _*_, _≤_, _<_}
 use native.Mathlib.Numerals.{sub-one}
 use native.Mathlib.Omega.{arith}
 use lib.ListN.{length, getD, drop, List·getD-append}
@@ -18,11 +18,10 @@ use Rattle.rules.proofs.StorableLaws.{items-stored}
 use Rattle.rules.proofs.SizeLaws.{chars-length, listing-length, starts-length}
 use Rattle.rules.proofs.TableLaws.{chars-append}
 use Rattle.rules.proofs.ListingLaws.{listsAll, lists-places, listing-lists}
-use Rattle.layout.specs.declared.Listed.{Listed}
 use Rattle.layout.specs.Starts.{startAt}
-use Rattle.layout.specs.Parts.{charsPart, startFor, Indexed, listedChars, Lists}
+use Rattle.layout.specs.Parts.{startFor, Indexed, listedChars, Lists}
 use Rattle.layout.proofs.StartLaws.{starts-at}
-use Rattle.layout.proofs.PartLaws.{Sizes, table-sizes, table-good, table-chars, table-mask}
+use Rattle.layout.proofs.PartLaws.{table-sizes, table-good, table-chars, table-mask}
 
 -- ## The parts behind the characters
 

@@ -4,28 +4,29 @@ use Prim.Native.Nat.{_-_}
 use native.Mathlib.Omega.{arith}
 use borrow.Author.Needs.{needs}
 use Rattle.rules.specs.Table.{meaningIn}
+use Rattle.layout.proofs.IndexLaws.{indexed-sizes}
 use Rattle.find.specs.Search.{numbersOf}
 use Rattle.find.proofs.SearchLaws.{next-bucket, Halving, halving-start, halving-up, halving-down, halving-end}
 use Rattle.find.proofs.first_from.Statement.{statement}
 use Rattle.find.proofs.first_from.Tie as tie
 
 abbrev Inv-loop : tie.InvT-loop
-Inv-loop t chars items key lo₀ hi₀ lo hi = Halving (meaningIn t .items) items (numbersOf key) lo hi
+Inv-loop t chars items key bucket next lo₀ hi₀ lo hi = Halving (meaningIn t .items) items (numbersOf key) lo hi
 
 abbrev μ-loop : tie.MeasureT-loop
-μ-loop t chars items key lo₀ hi₀ lo hi = hi - lo
+μ-loop t chars items key bucket next lo₀ hi₀ lo hi = hi - lo
 
 bucket-in-requires : tie.Need-bucket-in-requires Inv-loop μ-loop
 bucket-in-requires c κs = search needs
 
 add-next : tie.Need-add-next Inv-loop μ-loop
-add-next c = ?
+add-next c = let w = c .before .before .pre in omega (arith, indexed-sizes w, next-bucket w _ (c .bucket-in .ensures))
 
 start-in-requires : tie.Need-start-in-requires Inv-loop μ-loop
-start-in-requires c κs = ?
+start-in-requires c κs = let w = c .before .before .pre in (w, omega (arith, next-bucket w _ (c .bucket-in .ensures)))
 
 start-in-requires-2 : tie.Need-start-in-requires-2 Inv-loop μ-loop
-start-in-requires-2 c κs = ?
+start-in-requires-2 c κs = let w = c .before .before .before .pre in (w, next-bucket w _ (c .before .bucket-in .ensures))
 
 loop-holds : tie.Need-loop-holds Inv-loop μ-loop
 loop-holds c = search halving-start
