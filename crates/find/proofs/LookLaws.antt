@@ -48,7 +48,8 @@ module _ (m : Meaning) (g : Good m) (s : List ℕ) (h : every isCharacter s ≡ 
   module _ (size : ℕ) (left : size ≤ length s) (most : AtMost (m .items) s size) (k : ℕ)
       (least : Least (m .items) (length (m .items)) (padded (take size s) []) k) where
     -- what begins as s does stands in the bucket that is searched
-    same-bucket : (cs : List ℕ) (n : ℕ) → Agree cs s n → 1 ≤ n → n ≤ size → bucket (length (m .items)) cs ≡ bucket (length (m .items)) (padded (take size s) [])
+    same-bucket : (cs : List ℕ) (n : ℕ) → Agree cs s n → 1 ≤ n → n ≤ size
+        → bucket (length (m .items)) cs ≡ bucket (length (m .items)) (padded (take size s) [])
     same-bucket cs n a b l = agree-bucket (length (m .items)) cs s n size h a b (omega (arith, left)) (omega arith)
 
     -- the item that the search comes to does not come before the characters, if it stands in that bucket
@@ -161,7 +162,8 @@ module _ {t : List ℕ} {chars items : ℕ} (w : Indexed t chars items) {s : Lis
           (let f = long in let d = sh .within in omega arith)
           (rw q (not-before (meaningIn t) (indexed-good w) (drop at s) characters size long (a .most) k least there)) agree)
         where
-          there : bucket (length (meaningIn t .items)) (listedChars (meaningIn t .items) k) ≡ bucket (length (meaningIn t .items)) (padded (take size (drop at s)) [])
+          there : bucket (length (meaningIn t .items)) (listedChars (meaningIn t .items) k)
+              ≡ bucket (length (meaningIn t .items)) (padded (take size (drop at s)) [])
           there = same-bucket (meaningIn t) (indexed-good w) (drop at s) characters size long (a .most) k least _ n agree (omega arith) (sh .within)
 
       module _ (y : n ≡ size → ⊥) where

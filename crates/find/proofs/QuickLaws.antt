@@ -69,7 +69,8 @@ module _ (m : Meaning) (g : Good m) (c k : ℕ) (start : k ≡ startFor (m .item
       let at-j : listedChars (m .items) j ≡ c ∷ d ∷ ds = r .2 ∙ e ∙ ap (λ (y : ℕ). y ∷ d ∷ ds) xc in
       let same : bucket n (listedChars (m .items) j) ≡ bucket n (c ∷ []) = ap (bucket n) at-j in
       let characters = item-parts (length (m .rules)) (getD (m .items) q noItem) (item-good m g q b) .characters in
-      let of-d : isCharacter d ≡ true = every-head isCharacter d ds (every-tail isCharacter x (d ∷ ds) (subst (λ (l : List ℕ). every isCharacter l ≡ true) e characters)) in
+      let all : every isCharacter (x ∷ d ∷ ds) ≡ true = subst (λ (l : List ℕ). every isCharacter l ≡ true) e characters in
+      let of-d : isCharacter d ≡ true = every-head isCharacter d ds (every-tail isCharacter x (d ∷ ds) all) in
       elim (decLt j k) [
         | yes l ↦ absurd (omega (arith, same, bucket-before m g (bucket n (c ∷ [])) j (omega arith) (r .1)))
         | no l ↦ elim (decLt k j) [

@@ -6,7 +6,7 @@
 // does not come before the next four characters. It is the element if the string begins with all of it; else no item that stands there is longer
 // than what the two share, and the search goes on for that beginning. Most places need one search, none more than four.
 ghost use mathlib.Core.Path.{_≡_};
-ghost use mathlib.Core.Bool.{true, false};
+ghost use mathlib.Core.Bool.{true};
 ghost use mathlib.Core.List.{[]};
 ghost use Prim.Native.Nat.{_+_, _≤_, _<_};
 ghost use lib.ListN.{length, getD, take, drop};

@@ -60,7 +60,8 @@ listing-number is rest e k h =
     ∙ List·getD-append (listing is) (starts is ++ rest) 0 k (omega (arith, listing-length is)))
 
 -- and behind the listing
-starts-drop : (is : List Item) (rest : List ℕ) {n : ℕ} → n ≡ length is → drop (5 * n) (charNumbers is (listing is ++ starts is ++ rest)) ≡ starts is ++ rest
+starts-drop : (is : List Item) (rest : List ℕ) {n : ℕ} → n ≡ length is
+    → drop (5 * n) (charNumbers is (listing is ++ starts is ++ rest)) ≡ starts is ++ rest
 starts-drop is rest {n} e =
     let f : 5 * n ≡ 4 * length is + length is = omega arith in
     rw f
@@ -143,7 +144,9 @@ module _ {t : List ℕ} {chars items : ℕ} (w : Indexed t chars items) where
       record {
         is = is;
         room = omega (arith, s .2);
-        numbers = λ i l. rw (sub-one p) (numbers-here (pred p) i (omega arith) l) ∙ ap (λ (x : ℕ). getD (getD (meaningIn t .items) (pred x) noItem .chars) i pad) is;
+        numbers = λ i l.
+            rw (sub-one p) (numbers-here (pred p) i (omega arith) l)
+            ∙ ap (λ (x : ℕ). getD (getD (meaningIn t .items) (pred x) noItem .chars) i pad) is;
       }
 
 -- ## bucket_in
