@@ -7,13 +7,13 @@ use Rattle.find.proofs.longest.Statement.{statement}
 use Rattle.find.proofs.longest.Tie as tie
 
 abbrev Inv-loop : tie.InvT-loop
-Inv-loop t s at l n size₀ size = Seeking t s at l n size
+Inv-loop t s at chars n size₀ size = Seeking t s at chars n size
 
 abbrev μ-loop : tie.MeasureT-loop
-μ-loop t s at l n size₀ size = size
+μ-loop t s at chars n size₀ size = size
 
-levels-requires : tie.Need-levels-requires Inv-loop μ-loop
-levels-requires c κs = search needs
+characters-requires : tie.Need-characters-requires Inv-loop μ-loop
+characters-requires c κs = search needs
 
 items-requires : tie.Need-items-requires Inv-loop μ-loop
 items-requires c κs = search needs
@@ -25,7 +25,7 @@ loop-holds : tie.Need-loop-holds Inv-loop μ-loop
 loop-holds c = search seeking-start
 
 look-requires : tie.Need-look-requires Inv-loop μ-loop
-look-requires c κs = let v = c .before .loop .inv in (v .counted, seeking-ahead v (c .loop-test .taken))
+look-requires c κs = let v = c .before .loop .inv in (v .indexed, seeking-ahead v (c .loop-test .taken))
 
 enum-known-near : tie.Need-enum-known-near Inv-loop μ-loop
 enum-known-near c = search needs
@@ -43,10 +43,10 @@ loop-again : tie.Need-loop-again Inv-loop μ-loop
 loop-again c = search seeking-more
 
 sub-item-at : tie.Need-sub-item-at Inv-loop μ-loop
-sub-item-at c = omega (arith, search-some (c .before .loop .inv .counted))
+sub-item-at c = omega (arith, search-some (c .before .loop .inv .indexed))
 
 item-at-requires : tie.Need-item-at-requires Inv-loop μ-loop
-item-at-requires c κs = let w = c .before .loop .inv .counted in (w, omega (arith, search-some w))
+item-at-requires c κs = let w = c .before .loop .inv .indexed in (w, omega (arith, search-some w))
 
 returns-2 : tie.Need-returns-2 Inv-loop μ-loop
 returns-2 c = search seeking-none
@@ -57,7 +57,7 @@ longest-spec =
     (tie.spec
     Inv-loop
     μ-loop
-    levels-requires
+    characters-requires
     items-requires
     ahead-requires
     loop-holds
