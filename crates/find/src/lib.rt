@@ -13,7 +13,7 @@ ghost use Rattle.rules.specs.Text.{every};
 ghost use Rattle.rules.specs.Names.{isCharacter};
 ghost use Rattle.rules.specs.Table.{pad, padded, before, accepted, meaningIn};
 ghost use Rattle.rules.specs.Order.{stepOf};
-ghost use Rattle.find.specs.Answer.{foundAs};
+ghost use Rattle.find.specs.Answer.{foundAs, Quick};
 ghost use Rattle.find.specs.Search.{numbersOf, keyIn, listedKey, Counted, Lists, Least, Shares, Window, Ahead, Looked};
 use layout::items;
 use layout::levels;
@@ -192,8 +192,8 @@ fn ahead(s: &[u32], at: usize) -> usize
     left
 }
 
-// The element that begins at a place of a string of characters.
-pub fn longest(t: &[u32], s: &[u32], at: usize) -> Found
+// The element that begins at a place of a string of characters, searched for.
+pub fn search(t: &[u32], s: &[u32], at: usize) -> Found
     requires { ⌜ accepted (now t) ≡ true ⌝ }
     requires { ⌜ at < length (now s) ⌝ }
     requires { ⌜ every isCharacter (now s) ≡ true ⌝ }
@@ -216,4 +216,30 @@ pub fn longest(t: &[u32], s: &[u32], at: usize) -> Found
         place: last.place,
         size: 1,
     }
+}
+
+// The place of the item that a character is whatever follows it, or 0 where that is not known.
+pub fn quick(t: &[u32], c: u32) -> usize
+    requires { ⌜ accepted (now t) ≡ true ⌝ }
+    requires { ⌜ isCharacter c ≡ true ⌝ }
+    ensures { λ r. ⌜ Quick (meaningIn (now (t .entry)) .items) c r ⌝ }
+{
+    0
+}
+
+// The element that begins at a place of a string of characters.
+pub fn longest(t: &[u32], s: &[u32], at: usize) -> Found
+    requires { ⌜ accepted (now t) ≡ true ⌝ }
+    requires { ⌜ at < length (now s) ⌝ }
+    requires { ⌜ every isCharacter (now s) ≡ true ⌝ }
+    ensures { λ r. ⌜ foundAs r ≡ stepOf (meaningIn (now (t .entry)) .items) (drop at (now (s .entry))) ⌝ }
+{
+    let place = quick(t, s[at]);
+    if 0 < place {
+        return Found {
+            place: place,
+            size: 1,
+        };
+    }
+    search(t, s, at)
 }

@@ -6,6 +6,7 @@ use Prim.Native.Nat.{ℕ, _+_, _*_, _≤_, _<_}
 use lib.ListN.{length, getD, take, drop}
 use Rattle.rules.specs.Meaning as meaning
 use Rattle.rules.specs.Table.{accepted, meaningIn, total}
+use Rattle.rules.specs.Order.{weightsAt}
 use Rattle.layout.specs.declared.Rule.{Rule}
 use Rattle.layout.specs.declared.Run.{Run}
 
@@ -39,3 +40,8 @@ pub record Holds (t : List ℕ) (r : Run) (weights : List ℕ) : Type 0 where
   pub many : r .count ≡ length weights
   pub few : r .count ≤ 8
   pub inside : 0 < r .count → r .from + r .count ≤ length t
+
+-- How many weights the item at a place has at a level.
+pub record Many (t : List ℕ) (place level r : ℕ) : Type 0 where
+  pub is : r ≡ length (weightsAt (meaningIn t .items) level place)
+  pub few : r ≤ 8

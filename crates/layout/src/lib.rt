@@ -5,7 +5,7 @@ ghost use Prim.Native.Nat.{_+_, _≤_, _<_};
 ghost use lib.ListN.{length, getD};
 ghost use Rattle.rules.specs.Table.{accepted, meaningIn};
 ghost use Rattle.rules.specs.Order.{weightsAt};
-ghost use Rattle.layout.specs.Parts.{recordAt, Totals, ruleAs, ruleAt, Within, Holds};
+ghost use Rattle.layout.specs.Parts.{recordAt, Totals, ruleAs, ruleAt, Within, Holds, Many};
 use units::Rank;
 
 // How the entries of a level are walked.
@@ -104,6 +104,15 @@ pub fn weights(t: &[u32], place: usize, level: usize) -> Run
         from: from,
         count: t[at + 6 + level] as usize,
     }
+}
+
+// How many weights the item at a place, from 1, has at a level, from 0.
+pub fn count_at(t: &[u32], place: usize, level: usize) -> usize
+    requires { ⌜ Within (now t) place level ⌝ }
+    ensures { λ r. ⌜ Many (now (t .entry)) place level r ⌝ }
+{
+    let run = weights(t, place, level);
+    run.count
 }
 
 // The weight that stands at a place of the table.
