@@ -1,10 +1,12 @@
 -- What two strings have in common, cut once for both.
 use mathlib.Core.Path.{_≡_, refl, sym, ap, _∙_}
 use mathlib.Core.Bool.{Bool, true, false, _&&_}
-use mathlib.Core.List.{List, [], _∷_, _++_, map, append-nil}
+use mathlib.Core.List.{List, [], _++_, map, append-nil}
 use Prim.Native.Nat.{ℕ, zero, suc, _+_, _-_, _≤_, _<_}
-use native.Mathlib.Nat.{add-zero, add-assoc}
+use native.Mathlib.Nat.{add-zero}
 use native.Mathlib.Omega.{arith}
+use mir.Syntax.{w32, w64}
+use mir.Val.{Fits}
 use borrow.Author.Count.{below-more}
 use borrow.Author.Tests.{eq-eqb, ne-eqb, eqb-true}
 use lib.Dec.{eqb}
@@ -16,9 +18,9 @@ use Rattle.rules.specs.Text.{every}
 use Rattle.rules.specs.Names.{isCharacter}
 use Rattle.rules.specs.Meaning.{Item}
 use Rattle.rules.specs.Table.{accepted, meaningIn}
-use Rattle.rules.specs.Order.{Step, stepOf, elements, weightsAt, entriesFrom}
+use Rattle.rules.specs.Order.{Step, stepOf, elements, weightsAt}
 use Rattle.rules.proofs.TextLaws.{every-at}
-use Rattle.rules.proofs.ElementLaws.{UpTo, step-size}
+use Rattle.rules.proofs.ElementLaws.{step-size}
 use Rattle.rules.proofs.PassedLaws.{seen}
 use Rattle.layout.specs.Parts.{Within, Many}
 use Rattle.layout.proofs.PartLaws.{table-good}
@@ -26,13 +28,10 @@ use Rattle.find.specs.Answer.{foundAs, Quick}
 use Rattle.find.specs.declared.Found.{Found}
 use Rattle.elements.specs.declared.Walk.{Walk}
 use Rattle.elements.specs.declared.Common.{Common}
-use Rattle.elements.specs.declared.Pair.{Pair}
-use Rattle.elements.specs.Cuts.{Ready, Cut, CutOne}
-use Rattle.elements.specs.Firsts.{entriesOn, entriesLeft, Sound}
+use Rattle.elements.specs.Cuts.{Ready, CutOne}
+use Rattle.elements.specs.Firsts.{entriesOn, Sound}
 use Rattle.elements.specs.Commons.{Smaller, Shared, Certain, skippedAfter, levelWith, Level, Further, Both, Together}
 use Rattle.elements.proofs.AlikeLaws.{step-front, seen-element, entries-element}
-use mir.Syntax.{w32, w64}
-use mir.Val.{Fits}
 use Rattle.elements.proofs.CutLaws.{ready-kept, found-within, found-fits, found-first, cut-more}
 use Rattle.elements.proofs.FirstLaws.{left-none}
 
@@ -94,8 +93,14 @@ shared-rest {a} {b} {i} {j} {end} size v h =
         let k : m < end - size = rw long at l in
         let e : i + size + m ≡ i + (size + m) = omega arith in
         let e′ : j + size + m ≡ j + (size + m) = omega arith in
-        rw (getD-take (end - size) (drop (i + size) a) m 0 k, getD-take (end - size) (drop (j + size) b) m 0 k,
-        getD-drop (i + size) a m 0, getD-drop (j + size) b m 0, e, e′)
+        rw (
+          getD-take (end - size) (drop (i + size) a) m 0 k,
+          getD-take (end - size) (drop (j + size) b) m 0 k,
+          getD-drop (i + size) a m 0,
+          getD-drop (j + size) b m 0,
+          e,
+          e′,
+        )
         (v .same (size + m) (omega arith))
 
 -- ## The element that they tell
@@ -204,14 +209,14 @@ module _ {t a b as′ bs : List ℕ} {i j n k skipped agreed : ℕ} {f : Found} 
   level-more =
       let c : CutOne t a (set as′ n (f .place)) i n f = cut-more (v .first-ready) h e (v .first) in
       record {
-    first-ready = ready-kept (set as′ n (f .place)) (v .first-ready) (length-set as′ n (f .place));
-    second-ready = ready-kept (set bs k (f .place)) (v .second-ready) (length-set bs k (f .place));
-    first = c .cut;
-    second = cut-more (v .second-ready) l d (v .second) .cut;
-    first-skipped = omega (arith, skipped-least skipped count, v .first-skipped);
-    second-skipped = omega (arith, skipped-least skipped count, v .second-skipped);
-    small = omega (arith, v .small, w .few, c .some);
-  }
+        first-ready = ready-kept (set as′ n (f .place)) (v .first-ready) (length-set as′ n (f .place));
+        second-ready = ready-kept (set bs k (f .place)) (v .second-ready) (length-set bs k (f .place));
+        first = c .cut;
+        second = cut-more (v .second-ready) l d (v .second) .cut;
+        first-skipped = omega (arith, skipped-least skipped count, v .first-skipped);
+        second-skipped = omega (arith, skipped-least skipped count, v .second-skipped);
+        small = omega (arith, v .small, w .few, c .some);
+      }
 
 -- ## All that they have in common
 
@@ -289,18 +294,18 @@ module _ {t a b as₀ bs₀ as′ bs : List ℕ} {i j n k skipped agreed end siz
           → Going t a b as₀ bs₀ (set as′ (n + many) (f .place)) (set bs (k + many) (f .place)) i j n k skipped agreed end (size + f .size) (many + 1)
           (passed + count) after
       going-more q =
-        let e₁ : i + (size + f .size) ≡ i + size + f .size = omega arith in
-        let e₂ : j + (size + f .size) ≡ j + size + f .size = omega arith in
-        let e₃ : n + (many + 1) ≡ n + many + 1 = omega arith in
-        let e₄ : k + (many + 1) ≡ k + many + 1 = omega arith in
-        record {
-        level = rw (e₁, e₂, e₃, e₄, q) (level-more (v .level) first-inside second-inside first-found second-found w);
-        further = rw (e₁, e₂, q) (further-then (v .further) (further-more (v .level) first-inside second-inside first-found second-found w));
-        shared = v .shared;
-        within = omega (arith, taken-size);
-        first-kept = length-set as′ (n + many) (f .place) ∙ v .first-kept;
-        second-kept = length-set bs (k + many) (f .place) ∙ v .second-kept;
-      }
+          let e₁ : i + (size + f .size) ≡ i + size + f .size = omega arith in
+          let e₂ : j + (size + f .size) ≡ j + size + f .size = omega arith in
+          let e₃ : n + (many + 1) ≡ n + many + 1 = omega arith in
+          let e₄ : k + (many + 1) ≡ k + many + 1 = omega arith in
+          record {
+            level = rw (e₁, e₂, e₃, e₄, q) (level-more (v .level) first-inside second-inside first-found second-found w);
+            further = rw (e₁, e₂, q) (further-then (v .further) (further-more (v .level) first-inside second-inside first-found second-found w));
+            shared = v .shared;
+            within = omega (arith, taken-size);
+            first-kept = length-set as′ (n + many) (f .place) ∙ v .first-kept;
+            second-kept = length-set bs (k + many) (f .place) ∙ v .second-kept;
+          }
 
 -- ## Two walks
 
@@ -329,8 +334,13 @@ module _ {t a b as′ bs : List ℕ} {x y : Walk} {agreed : ℕ} {l : Bool} (e :
     rises = v .further .rises;
     all = λ p. rw (left-none t a p x (omega (arith, abreast x y e q .first)), left-none t a p (onBy x c) (omega arith)) (v .further .all p);
     same = λ p.
-        rw (left-none t a p x (omega (arith, abreast x y e q .first)), left-none t b p y (omega (arith, abreast x y e q .second)),
-        left-none t a p (onBy x c) (omega arith), left-none t b p (onBy y c) (omega arith), ← abreast x y e q .skipped)
+        rw (
+          left-none t a p x (omega (arith, abreast x y e q .first)),
+          left-none t b p y (omega (arith, abreast x y e q .second)),
+          left-none t a p (onBy x c) (omega arith),
+          left-none t b p (onBy y c) (omega arith),
+          ← abreast x y e q .skipped,
+        )
         (v .further .same p);
   }
 

@@ -301,10 +301,7 @@ fn certain(t: &[u32], s: &[u32], at: usize, left: usize) -> Found
     if 4 <= left {
         return find::search(t, s, at);
     }
-    Found {
-        place: 0,
-        size: 0,
-    }
+    Found { place: 0, size: 0 }
 }
 
 // The elements without a weight since the last that had one, after an element with so many weights.
@@ -402,7 +399,19 @@ fn together(
 {
     let level = level_with(x, y);
     if level {
-        let c = both(t, a, b, first, second, x.at, y.at, x.many, y.many, x.skipped, agreed);
+        let c = both(
+            t,
+            a,
+            b,
+            first,
+            second,
+            x.at,
+            y.at,
+            x.many,
+            y.many,
+            x.skipped,
+            agreed,
+        );
         return Pair {
             x: Walk {
                 at: x.at + c.size,

@@ -2,7 +2,6 @@
 use Rattle.elements.proofs.CommonLaws.{Going, going-none, going-end, going-within, going-fits, going-size, going-few, going-more}
 use Prim.Native.Nat.{_-_}
 use borrow.Author.Needs.{needs}
-use native.Mathlib.Omega.{arith}
 use Rattle.elements.proofs.both.Statement.{statement}
 use Rattle.elements.proofs.both.Tie as tie
 

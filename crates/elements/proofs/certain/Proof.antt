@@ -21,7 +21,9 @@ search-requires : tie.Need-search-requires
 search-requires c κs = search (needs, certain-inside)
 
 returns-2 : tie.Need-returns-2
-returns-2 c = search certain-four
+returns-2 c =
+    let s = c .before .before .before .before .before .before .before in
+    certain-four _ _ _ _ (s .pre .0 .0) (s .pre .1 .0) (s .pre .1 .1) (omega (arith, c .before .if2 .taken)) (c .search .ensures)
 
 returns-3 : tie.Need-returns-3
 returns-3 c = search certain-none

@@ -23,12 +23,12 @@ loop-holds : tie.Need-loop-holds Inv-loop μ-loop
 loop-holds c = search comparing-none
 
 together-requires : tie.Need-together-requires Inv-loop μ-loop
-together-requires c κs = 
+together-requires c κs =
     let v = c .before .before .loop .inv in
     (v .first .ready, (v .second .ready, (v .first .sound, (v .second .sound, omega (arith, v .few)))))
 
 next-meeting-requires : tie.Need-next-meeting-requires Inv-loop μ-loop
-next-meeting-requires c κs = 
+next-meeting-requires c κs =
     let s = c .before .before .before .before .before .before .before .before in
     let v = comparing-on (s .before .before .before .loop .inv) (search needs) (search needs) (s .together .ensures) in
     (v .first .ready, (v .second .ready, (v .first .sound, v .second .sound)))
@@ -43,7 +43,7 @@ same-length-2 : tie.Need-same-length-2 Inv-loop μ-loop
 same-length-2 c = search needs
 
 returns : tie.Need-returns Inv-loop μ-loop
-returns c = 
+returns c =
     let m = c .before .before .before .before .before .before in
     let s = m .before .before .before .before .before .before .before .before .before in
     let v = comparing-on (s .before .before .before .loop .inv) (search needs) (search needs) (s .together .ensures) in
@@ -59,7 +59,7 @@ same-length-4 : tie.Need-same-length-4 Inv-loop μ-loop
 same-length-4 c = search needs
 
 returns-2 : tie.Need-returns-2 Inv-loop μ-loop
-returns-2 c = 
+returns-2 c =
     let m = c .before .before .before .before .before .before in
     let s = m .before .before .before .before .before .before .before .before .before in
     let v = comparing-on (s .before .before .before .loop .inv) (search needs) (search needs) (s .together .ensures) in
@@ -75,7 +75,7 @@ same-length-6 : tie.Need-same-length-6 Inv-loop μ-loop
 same-length-6 c = search needs
 
 returns-3 : tie.Need-returns-3 Inv-loop μ-loop
-returns-3 c = 
+returns-3 c =
     let m = c .before .before .before .before .before .before .before in
     let s = m .before .before .before .before .before .before .before .before .before in
     let v = comparing-on (s .before .before .before .loop .inv) (search needs) (search needs) (s .together .ensures) in
@@ -85,20 +85,20 @@ enum-known-met-2 : tie.Need-enum-known-met-2 Inv-loop μ-loop
 enum-known-met-2 c = search needs
 
 add-agreed : tie.Need-add-agreed Inv-loop μ-loop
-add-agreed c = 
+add-agreed c =
     let s = c .before .before .before .before .before .before .before .before .before .before .before .before .before .before .before .before in
     let v = comparing-on (s .before .before .before .loop .inv) (search needs) (search needs) (s .together .ensures) in
     omega (arith, v .few)
 
 loop-less : tie.Need-loop-less Inv-loop μ-loop
-loop-less c = 
+loop-less c =
     let m = c .before .before .before .before .before .before .before in
     let s = m .before .before .before .before .before .before .before .before .before in
     let v = comparing-on (s .before .before .before .loop .inv) (search needs) (search needs) (s .together .ensures) in
     fewer-on _ _ (s .together .ensures) (search (comparing-fewer _ _ (m .next-meeting .result) v (m .next-meeting .ensures)))
 
 loop-again : tie.Need-loop-again Inv-loop μ-loop
-loop-again c = 
+loop-again c =
     let m = c .before .before .before .before .before .before .before in
     let s = m .before .before .before .before .before .before .before .before .before in
     let v = comparing-on (s .before .before .before .loop .inv) (search needs) (search needs) (s .together .ensures) in

@@ -1,6 +1,5 @@
 -- `elements::together` meets its contract: walks that stand level go on by what both strings have in common.
 use Rattle.elements.proofs.CommonLaws.{together-level, together-on, together-stay}
-use native.Mathlib.Omega.{arith}
 use borrow.Author.Needs.{needs}
 use Rattle.elements.proofs.together.Statement.{statement}
 use Rattle.elements.proofs.together.Tie as tie
