@@ -6,7 +6,8 @@ use mathlib.Core.List.{List, [], _∷_}
 use Prim.Native.Nat.{ℕ, suc, pred, _+_, _≤_, _<_}
 use native.Mathlib.Omega.{arith}
 use native.Mathlib.Decide.{decLt}
-use lib.ListN.{length, getD}
+use lib.ListN.{length, getD, drop}
+use lib.Seq.{drop-cons}
 use lib.Dec.{eqb}
 use borrow.Author.Tests.{eqb-true, eq-eqb}
 use Rattle.lists.proofs.Bools.{and-left, and-intro}
@@ -15,7 +16,7 @@ use Rattle.rules.specs.Names.{isCharacter}
 use Rattle.rules.specs.Meaning.{Item, Meaning}
 use Rattle.rules.specs.Table.{pad, padded, before, bucket, listing, meaningIn}
 use Rattle.rules.specs.Order.{noItem, stepOf}
-use Rattle.rules.proofs.TextLaws.{every-head, every-tail, within-low, within-high}
+use Rattle.rules.proofs.TextLaws.{every-at, every-head, every-tail, within-low, within-high}
 use Rattle.rules.proofs.MeaningLaws.{Good, item-parts}
 use Rattle.rules.proofs.SortLaws.{before-cases}
 use Rattle.rules.proofs.ElementLaws.{charsAt, step-is}
@@ -126,3 +127,13 @@ module _ {t : List ℕ} {chars items : ℕ} (w : Indexed t chars items) (c : ℕ
 
 pub quick-none : (items : List Item) (c : ℕ) → Quick items c 0
 quick-none items c = record { is = λ some. absurd (omega arith); inside = omega arith }
+
+-- ## Where it stands in a string
+
+module _ (s : List ℕ) (at : ℕ) (h : at < length s) where
+  pub quick-character : every isCharacter s ≡ true → isCharacter (getD s at 0) ≡ true
+  quick-character g = every-at isCharacter s at 0 g h
+
+  pub quick-stands : {is : List Item} {place : ℕ} → Quick is (getD s at 0) place → 0 < place
+      → record { place = place; size = 1 } ≡ stepOf is (drop at s)
+  quick-stands {is} q k = sym (q .is k (drop (suc at) s)) ∙ ap (stepOf is) (sym (drop-cons s at 0 h))

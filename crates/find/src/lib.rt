@@ -177,8 +177,8 @@ fn ahead(s: &[u32], at: usize) -> usize
     left
 }
 
-// The element that begins at a place of a string of characters.
-pub fn longest(t: &[u32], s: &[u32], at: usize) -> Found
+// The element that begins at a place of a string of characters, searched for.
+pub fn search(t: &[u32], s: &[u32], at: usize) -> Found
     requires { ⌜ accepted (now t) ≡ true ⌝ }
     requires { ⌜ at < length (now s) ⌝ }
     requires { ⌜ every isCharacter (now s) ≡ true ⌝ }
@@ -220,4 +220,21 @@ pub fn quick(t: &[u32], c: u32) -> usize
         }
     }
     0
+}
+
+// The element that begins at a place of a string of characters.
+pub fn longest(t: &[u32], s: &[u32], at: usize) -> Found
+    requires { ⌜ accepted (now t) ≡ true ⌝ }
+    requires { ⌜ at < length (now s) ⌝ }
+    requires { ⌜ every isCharacter (now s) ≡ true ⌝ }
+    ensures { λ r. ⌜ foundAs r ≡ stepOf (meaningIn (now (t .entry)) .items) (drop at (now (s .entry))) ⌝ }
+{
+    let place = quick(t, s[at]);
+    if 0 < place {
+        return Found {
+            place: place,
+            size: 1,
+        };
+    }
+    search(t, s, at)
 }
