@@ -1,6 +1,6 @@
 -- What begins alike is alike, of the definitions alone: four characters have one element, and an element gives two walks that stand level the
 -- same entries.
-use mathlib.Core.Path.{_≡_, refl, _∙_}
+use mathlib.Core.Path.{_≡_, refl, ap, _∙_}
 use mathlib.Core.Bool.{Bool, true, _&&_}
 use mathlib.Core.List.{List, [], _∷_, _++_}
 use Prim.Native.Nat.{ℕ, suc, _+_, _≤_}
@@ -17,7 +17,8 @@ use Rattle.rules.proofs.MeaningLaws.{item-parts}
 use Rattle.rules.proofs.SignLaws.{orders-entry}
 use Rattle.rules.proofs.EntryLaws.{entries-length}
 use Rattle.rules.proofs.PassedLaws.{seen, seen-passed}
-use Rattle.elements.specs.Commons.{skippedAfter}
+use Rattle.entries.specs.Walk.{skippedAfter}
+use Rattle.entries.proofs.BothLaws.{own, own-length, own-before, seen-alike}
 
 -- ## Elements
 
@@ -45,27 +46,16 @@ step-front l is (c ∷ s) rest g h = longest-front l 1 is (c ∷ s) rest (record
 
 -- ## Entries
 
-seen-self : (e : Entry) (xs ys : List Entry) (n : ℕ) → seen (e ∷ xs) (e ∷ ys) n ≡ seen xs ys (suc n)
-seen-self e xs ys n = seen-passed e e xs ys n (orders-entry .self e)
-
-seen-more : (ws : List ℕ) (xs ys : List Entry) (n : ℕ) → seen (more ws xs) (more ws ys) n ≡ seen xs ys (n + length ws)
-unfolding more
-seen-more [] xs ys n = rw add-zero
-seen-more (w ∷ ws) xs ys n =
-    let e : suc n + length ws ≡ n + suc (length ws) = omega arith in
-    seen-self (record { count = 0; weight = w }) (more ws xs) (more ws ys) n ∙ rw (← e) (seen-more ws xs ys (suc n))
-
 -- the same element in front of both, as many being skipped: its entries agree
 pub seen-element : (position : Bool) (n : ℕ) (ws : List ℕ) (xs ys : List (List ℕ)) (agreed : ℕ)
     → seen (entriesFrom position n (ws ∷ xs)) (entriesFrom position n (ws ∷ ys)) agreed
     ≡ seen (entriesFrom position (skippedAfter n (length ws)) xs) (entriesFrom position (skippedAfter n (length ws)) ys) (agreed + length ws)
-unfolding entriesFrom
-seen-element position n [] xs ys agreed = rw (add-zero, add-one n)
-seen-element position n (w ∷ ws) xs ys agreed =
-    let e : suc agreed + length ws ≡ agreed + suc (length ws) = omega arith in
-    let first : Entry = record { count = if position then n else 0; weight = w } in
-    seen-self first (more ws (entriesFrom position 0 xs)) (more ws (entriesFrom position 0 ys)) agreed
-    ∙ rw (← e) (seen-more ws (entriesFrom position 0 xs) (entriesFrom position 0 ys) (suc agreed))
+seen-element position n ws xs ys agreed =
+    ap (λ (es : List Entry). seen es (entriesFrom position n (ws ∷ ys)) agreed) (own-before position n ws xs)
+    ∙ ap (λ (es : List Entry). seen (own position n ws ++ entriesFrom position (skippedAfter n (length ws)) xs) es agreed) (own-before position n ws ys)
+    ∙ seen-alike (own position n ws) (entriesFrom position (skippedAfter n (length ws)) xs) (entriesFrom position (skippedAfter n (length ws)) ys) agreed
+    ∙ ap (λ (k : ℕ). seen (entriesFrom position (skippedAfter n (length ws)) xs) (entriesFrom position (skippedAfter n (length ws)) ys) (agreed + k))
+    (own-length position n ws)
 
 -- however many are skipped, an element has an entry for each weight
 pub entries-element : (position : Bool) (n m : ℕ) (ws : List ℕ) (xs : List (List ℕ))

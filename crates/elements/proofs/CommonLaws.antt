@@ -2,7 +2,7 @@
 use mathlib.Core.Path.{_≡_, refl, sym, ap, _∙_}
 use mathlib.Core.Bool.{Bool, true, false, _&&_}
 use mathlib.Core.List.{List, [], _++_, map, append-nil}
-use Prim.Native.Nat.{ℕ, zero, suc, _+_, _-_, _≤_, _<_}
+use Prim.Native.Nat.{ℕ, zero, suc, min, _+_, _-_, _≤_, _<_}
 use native.Mathlib.Nat.{add-zero}
 use native.Mathlib.Omega.{arith}
 use mir.Syntax.{w32, w64}
@@ -12,7 +12,7 @@ use borrow.Author.Tests.{eq-eqb, ne-eqb, eqb-true}
 use lib.Dec.{eqb}
 use lib.ListN.{length, getD, take, drop, set, length-set, length-drop, take-append-drop}
 use lib.Seq.{length-take-le, getD-take, getD-drop, ext-getD}
-use Rattle.lists.proofs.Bools.{and-left, and-right}
+use Rattle.lists.proofs.Bools.{and-left, and-right, cond-both}
 use Rattle.lists.proofs.Runs.{run-first}
 use Rattle.rules.specs.Text.{every}
 use Rattle.rules.specs.Names.{isCharacter}
@@ -26,11 +26,12 @@ use Rattle.layout.specs.Parts.{Within, Many}
 use Rattle.layout.proofs.PartLaws.{table-good}
 use Rattle.find.specs.Answer.{foundAs, Quick}
 use Rattle.find.specs.declared.Found.{Found}
+use Rattle.entries.specs.Walk.{skippedAfter}
 use Rattle.elements.specs.declared.Walk.{Walk}
 use Rattle.elements.specs.declared.Common.{Common}
 use Rattle.elements.specs.Cuts.{Ready, CutOne}
 use Rattle.elements.specs.Firsts.{entriesOn, Sound}
-use Rattle.elements.specs.Commons.{Smaller, Shared, Certain, skippedAfter, levelWith, Level, Further, Both, Together}
+use Rattle.elements.specs.Commons.{Shared, Certain, levelWith, Level, Further, Both, Together}
 use Rattle.elements.proofs.AlikeLaws.{step-front, seen-element, entries-element}
 use Rattle.elements.proofs.CutLaws.{ready-kept, found-within, found-fits, found-first, cut-more}
 use Rattle.elements.proofs.FirstLaws.{left-none}
@@ -41,12 +42,12 @@ use Rattle.elements.proofs.FirstLaws.{left-none}
 pub record Matching (a : List ℕ) (i : ℕ) (b : List ℕ) (j end n : ℕ) : Type 0 where
   pub first : i ≤ length a
   pub second : j ≤ length b
-  pub least : Smaller (length a - i) (length b - j) end
+  pub least : end ≡ min (length a - i) (length b - j)
   pub within : n ≤ end
   pub same : (m : ℕ) → m < n → getD a (i + m) 0 ≡ getD b (j + m) 0
 
 module _ {a : List ℕ} {i : ℕ} {b : List ℕ} {j end : ℕ} where
-  pub matching-none : i ≤ length a → j ≤ length b → Smaller (length a - i) (length b - j) end → Matching a i b j end 0
+  pub matching-none : i ≤ length a → j ≤ length b → end ≡ min (length a - i) (length b - j) → Matching a i b j end 0
   matching-none h k s = record { first = h; second = k; least = s; within = omega arith; same = λ m l. absurd (omega arith) }
 
   module _ {n : ℕ} (v : Matching a i b j end n) where
@@ -61,18 +62,18 @@ module _ {a : List ℕ} {i : ℕ} {b : List ℕ} {j end : ℕ} where
 
     pub matching-some : (getD a (i + n) 0 ≡ getD b (j + n) 0 → ⊥) → Shared a i b j n
     matching-some f = record {
-      first = omega (arith, v .within, v .first, v .least .first);
-      second = omega (arith, v .within, v .second, v .least .second);
+      first = omega (arith, v .within, v .first, v .least);
+      second = omega (arith, v .within, v .second, v .least);
       same = v .same;
       stop = λ h k. f;
     }
 
     pub matching-all : end ≤ n → Shared a i b j n
     matching-all h = record {
-      first = omega (arith, v .within, v .first, v .least .first);
-      second = omega (arith, v .within, v .second, v .least .second);
+      first = omega (arith, v .within, v .first, v .least);
+      second = omega (arith, v .within, v .second, v .least);
       same = v .same;
-      stop = λ l m. let o = v .least .one (omega (arith, v .within)) in absurd (omega (arith, v .within));
+      stop = λ l m. absurd (omega (arith, v .least, v .within, v .first, v .second));
     }
 
 -- what is left of them
@@ -131,16 +132,8 @@ certain-none is s = record { is = λ z. absurd (omega arith) }
 
 -- ## The elements without a weight
 
-pub skipped-more : (n count : ℕ) → count ≡ 0 → n + 1 ≡ skippedAfter n count
-skipped-more n count e = rw e
-
-pub skipped-none : (n count : ℕ) → (count ≡ 0 → ⊥) → 0 ≡ skippedAfter n count
-skipped-none n zero e = absurd (e refl)
-skipped-none n (suc count) e = refl
-
 skipped-least : (n count : ℕ) → skippedAfter n count ≤ n + 1
-skipped-least n zero = omega arith
-skipped-least n (suc count) = omega arith
+skipped-least n count = cond-both (λ (k : ℕ). k ≤ n + 1) (eqb count 0) (omega arith) (omega arith)
 
 -- ## Walks that stand level
 

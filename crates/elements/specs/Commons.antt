@@ -18,12 +18,6 @@ use Rattle.elements.specs.Firsts.{entriesOn, entriesLeft, Sound}
 
 -- ## Characters and elements in common
 
--- The smaller of two numbers.
-pub record Smaller (m n r : ℕ) : Type 0 where
-  pub first : r ≤ m
-  pub second : r ≤ n
-  pub one : r < m → n ≤ r
-
 -- So many characters from two places on are the same, and the next are not, where both strings have one.
 pub record Shared (a : List ℕ) (i : ℕ) (b : List ℕ) (j r : ℕ) : Type 0 where
   pub first : i + r ≤ length a
@@ -34,11 +28,6 @@ pub record Shared (a : List ℕ) (i : ℕ) (b : List ℕ) (j r : ℕ) : Type 0 w
 -- The element that begins each string that begins with s; of size 0 it says nothing.
 pub record Certain (items : List Item) (s : List ℕ) (r : Found) : Type 0 where
   pub is : 0 < r .size → (rest : List ℕ) → foundAs r ≡ stepOf items (s ++ rest)
-
--- the elements without a weight since the last that had one, after an element with so many weights, n having stood before it
-abbrev pub skippedAfter : ℕ → ℕ → ℕ
-skippedAfter n zero = n + 1
-skippedAfter n (suc count) = 0
 
 -- ## Two walks
 

@@ -9,7 +9,7 @@ ghost use Rattle.rules.specs.Table.{accepted, meaningIn};
 ghost use Rattle.rules.specs.Directory.{firstOf};
 ghost use Rattle.elements.specs.Cuts.{Ready, Cut, CutOne, Split};
 ghost use Rattle.elements.specs.Firsts.{fresh, Sound, entriesOn, entriesLeft, Gives, leadingAs, firstEntries, meeting, Meets, FirstCompared};
-ghost use Rattle.elements.specs.Commons.{Smaller, Shared, Certain, skippedAfter, levelWith, Level, Both, Together};
+ghost use Rattle.elements.specs.Commons.{Shared, Certain, levelWith, Level, Both, Together};
 use entries::Entry;
 use find::Found;
 use units::Rank;
@@ -257,22 +257,12 @@ fn next_meeting(
     meet(p, q)
 }
 
-// The smaller of two numbers.
-fn smaller(m: usize, n: usize) -> usize
-    ensures { λ r. ⌜ Smaller m n r ⌝ }
-{
-    if m < n {
-        return m;
-    }
-    n
-}
-
 // How many characters two strings have in common from two places on.
 fn shared(a: &[u32], i: usize, b: &[u32], j: usize) -> usize
     requires { ⌜ (i ≤ length (now a)) × (j ≤ length (now b)) ⌝ }
     ensures { λ r. ⌜ Shared (now (a .entry)) i (now (b .entry)) j r ⌝ }
 {
-    let end = smaller(a.len() - i, b.len() - j);
+    let end = entries::smaller(a.len() - i, b.len() - j);
     let mut n: usize = 0;
     while n < end {
         if a[i + n] == b[j + n] {
@@ -302,17 +292,6 @@ fn certain(t: &[u32], s: &[u32], at: usize, left: usize) -> Found
         return find::search(t, s, at);
     }
     Found { place: 0, size: 0 }
-}
-
-// The elements without a weight since the last that had one, after an element with so many weights.
-fn skipped_after(skipped: usize, count: usize) -> usize
-    requires { ⌜ skipped ≤ 4096 ⌝ }
-    ensures { λ r. ⌜ r ≡ skippedAfter skipped count ⌝ }
-{
-    if count == 0 {
-        return skipped + 1;
-    }
-    0
 }
 
 // Cuts what two strings have in common from two places on, n and k elements being cut before them, the last `skipped` of both without a
@@ -354,7 +333,7 @@ fn both(
         first[n + many] = place as u32;
         second[k + many] = place as u32;
         passed += count;
-        blank = skipped_after(blank, count);
+        blank = entries::skipped_after(blank, count);
         size += taken;
         many += 1;
     }
