@@ -1,13 +1,13 @@
+pub mod FaultLaws
 pub mod WithinLaws
+pub mod EndLaws
 pub mod CharLaws
 pub mod BeforeLaws
-pub mod OneRecordLaws
-pub mod AllRecordsLaws
+pub mod WalkLaws
 pub mod HeadLaws
 pub mod WholeLaws
 pub mod ItemLaws
-pub mod ItemsLaws
-pub mod ListedLaws
+pub mod PartLaws
 pub mod CheckLaws
 pub mod ShapeLaws
 pub mod AnswerLaws

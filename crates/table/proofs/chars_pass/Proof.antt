@@ -1,42 +1,63 @@
--- `table::chars_pass` meets its contract. The loop's invariant: the numbers before i are characters, so that those from i on decide. The measure is how many are left.
+-- `table::chars_pass` meets its contract. The loop's invariant: there are no faults exactly if the items before k passed. The measure is how many are left.
 use borrow.Author.Needs.{needs}
 use Prim.Native.Nat.{_-_}
-use Rattle.table.proofs.CharLaws.{Chars, chars-none, chars-pad, chars-more, chars-no, chars-all}
+use Rattle.table.proofs.CharLaws.{Chars, chars-none, chars-more, chars-all}
 use Rattle.table.proofs.chars_pass.Statement.{statement}
 use Rattle.table.proofs.chars_pass.Tie as tie
 
 abbrev Inv-loop : tie.InvT-loop
-Inv-loop t at i₀ end i = Chars t at end i
+Inv-loop t from items k₀ faults₀ k faults = Chars t from items k faults
 
 abbrev μ-loop : tie.MeasureT-loop
-μ-loop t at i₀ end i = end - i
-
-add-end : tie.Need-add-end Inv-loop μ-loop
-add-end c = search needs
+μ-loop t from items k₀ faults₀ k faults = items - k
 
 loop-holds : tie.Need-loop-holds Inv-loop μ-loop
 loop-holds c = search chars-none
 
-mul-c : tie.Need-mul-c Inv-loop μ-loop
-mul-c c = search needs
+mul-at : tie.Need-mul-at Inv-loop μ-loop
+mul-at c = search needs
 
-shared-slice-read-c : tie.Need-shared-slice-read-c Inv-loop μ-loop
-shared-slice-read-c c = search needs
+add-at : tie.Need-add-at Inv-loop μ-loop
+add-at c = search needs
 
-sub-all-within : tie.Need-sub-all-within Inv-loop μ-loop
-sub-all-within c = search needs
+mul-chars-fault : tie.Need-mul-chars-fault Inv-loop μ-loop
+mul-chars-fault c = search needs
 
-all-within-requires : tie.Need-all-within-requires Inv-loop μ-loop
-all-within-requires c κs = search needs
+shared-slice-read-chars-fault : tie.Need-shared-slice-read-chars-fault Inv-loop μ-loop
+shared-slice-read-chars-fault c = search needs
 
-returns : tie.Need-returns Inv-loop μ-loop
-returns c = search chars-pad
+add-chars-fault : tie.Need-add-chars-fault Inv-loop μ-loop
+add-chars-fault c = search needs
 
-is-character-requires : tie.Need-is-character-requires Inv-loop μ-loop
-is-character-requires c κs = search needs
+mul-chars-fault-2 : tie.Need-mul-chars-fault-2 Inv-loop μ-loop
+mul-chars-fault-2 c = search needs
 
-add-i : tie.Need-add-i Inv-loop μ-loop
-add-i c = search needs
+shared-slice-read-chars-fault-2 : tie.Need-shared-slice-read-chars-fault-2 Inv-loop μ-loop
+shared-slice-read-chars-fault-2 c = search needs
+
+add-chars-fault-2 : tie.Need-add-chars-fault-2 Inv-loop μ-loop
+add-chars-fault-2 c = search needs
+
+mul-chars-fault-3 : tie.Need-mul-chars-fault-3 Inv-loop μ-loop
+mul-chars-fault-3 c = search needs
+
+shared-slice-read-chars-fault-3 : tie.Need-shared-slice-read-chars-fault-3 Inv-loop μ-loop
+shared-slice-read-chars-fault-3 c = search needs
+
+add-chars-fault-3 : tie.Need-add-chars-fault-3 Inv-loop μ-loop
+add-chars-fault-3 c = search needs
+
+mul-chars-fault-4 : tie.Need-mul-chars-fault-4 Inv-loop μ-loop
+mul-chars-fault-4 c = search needs
+
+shared-slice-read-chars-fault-4 : tie.Need-shared-slice-read-chars-fault-4 Inv-loop μ-loop
+shared-slice-read-chars-fault-4 c = search needs
+
+chars-fault-requires : tie.Need-chars-fault-requires Inv-loop μ-loop
+chars-fault-requires c κs = search needs
+
+add-k : tie.Need-add-k Inv-loop μ-loop
+add-k c = search needs
 
 loop-less : tie.Need-loop-less Inv-loop μ-loop
 loop-less c = search needs
@@ -44,11 +65,8 @@ loop-less c = search needs
 loop-again : tie.Need-loop-again Inv-loop μ-loop
 loop-again c = search chars-more
 
-returns-2 : tie.Need-returns-2 Inv-loop μ-loop
-returns-2 c = search chars-no
-
-returns-3 : tie.Need-returns-3 Inv-loop μ-loop
-returns-3 c = search chars-all
+returns : tie.Need-returns Inv-loop μ-loop
+returns c = search chars-all
 
 pub chars-pass-spec : {M : Type 1} → statement M
 chars-pass-spec =
@@ -56,16 +74,22 @@ chars-pass-spec =
     (tie.spec
     Inv-loop
     μ-loop
-    add-end
     loop-holds
-    mul-c
-    shared-slice-read-c
-    sub-all-within
-    all-within-requires
-    returns
-    is-character-requires
-    add-i
+    mul-at
+    add-at
+    mul-chars-fault
+    shared-slice-read-chars-fault
+    add-chars-fault
+    mul-chars-fault-2
+    shared-slice-read-chars-fault-2
+    add-chars-fault-2
+    mul-chars-fault-3
+    shared-slice-read-chars-fault-3
+    add-chars-fault-3
+    mul-chars-fault-4
+    shared-slice-read-chars-fault-4
+    chars-fault-requires
+    add-k
     loop-less
     loop-again
-    returns-2
-    returns-3)
+    returns)
