@@ -183,7 +183,16 @@ fn wide(x: u32) -> usize
 
 // How many starts are told once the item at p is listed, as number k, after the one at `last`, with which `told` are told. 0 if it may not follow
 // that one, or a start is wrong.
-fn told_after(t: &[u32], items: u32, buckets: u32, chars: usize, k: u32, last: usize, told: usize, p: usize) -> usize
+fn told_after(
+    t: &[u32],
+    items: u32,
+    buckets: u32,
+    chars: usize,
+    k: u32,
+    last: usize,
+    told: usize,
+    p: usize,
+) -> usize
     requires { ⌜ (1 ≤ items) × (items ≤ 32768) × (buckets ≡ mask items) × (chars + 6 * items ≤ length (now t)) × (1 ≤ p) × (p ≤ items) ⌝ }
     requires { ⌜ (last ≤ items) × (told ≡ toldWith items (drop chars (now t)) last) ⌝ }
     ensures { λ r. ⌜ Next items (drop chars (now (t .entry))) (drop (chars + 5 * items) (now (t .entry))) k last p r ⌝ }

@@ -59,7 +59,7 @@ weights-part-requires : tie.Need-weights-part-requires
 weights-part-requires c κs = search needs
 
 add-end : tie.Need-add-end
-add-end c = 
+add-end c =
     let t = c .before .before .before .before .before .before .before .before .before .before .before .before .before .before .before .before .args .t .now in
     end-fits (getD t 0 0) (getD t 1 0) (c .weights-part .ensures) (search needs) (search needs) (c .before .before .before .before .before .before .before .before .before .before .before .shared-slice-known4 .given 2)
 
