@@ -1,7 +1,6 @@
 // The check of a table: straight passes over its parts, before any operation reads them. docs/TABLE.md has the layout.
 ghost use mathlib.Core.Path.{_≡_};
 ghost use mathlib.Core.Bool.{_&&_, _||_, not};
-ghost use mathlib.Core.List.{[], _∷_};
 ghost use Prim.Native.Nat.{_+_, _-_, _*_, _/_, _≤_, _<_};
 ghost use lib.ListN.{length, getD, take, drop};
 ghost use lib.Dec.{eqb};
@@ -86,33 +85,74 @@ fn ends_pass(t: &[u32], end: usize, weights: u32) -> bool
     false
 }
 
-// 1 for a number that is neither a character nor padding, and for padding before what is none; else 0.
-fn strange(c: u32, next: u32) -> u32
-    ensures { λ r. ⌜ r ≡ fault (isCharacter c || eqb c pad && eqb next pad) ⌝ }
+// 1 for a number from low to high, else 0.
+fn inside(x: u32, low: u32, high: u32) -> u32
+    ensures { λ r. ⌜ r ≡ fault (not (within low high x)) ⌝ }
 {
-    if c == 0x110000 {
-        if next == 0x110000 {
-            return 0;
-        }
-        return 1;
-    }
-    if 0x110000 < c {
-        return 1;
-    }
-    if c < 0xD800 {
+    if x < low {
         return 0;
     }
-    if 0xDFFF < c {
+    if high < x {
         return 0;
     }
     1
 }
 
-// 0 exactly for four numbers that are characters, then padding.
-fn chars_fault(a: u32, b: u32, c: u32, d: u32) -> u32
-    ensures { λ r. ⌜ eqb r 0 ≡ charsPass (a ∷ b ∷ c ∷ d ∷ []) ⌝ }
+// 0 exactly for a character or padding.
+fn strange(c: u32) -> u32
+    ensures { λ r. ⌜ eqb r 0 ≡ (isCharacter c || eqb c pad) ⌝ }
 {
-    strange(a, b) | strange(b, c) | strange(c, d) | strange(d, 0x110000)
+    inside(c, 0xD800, 0xDFFF) | outside(c, 0, 0x110000)
+}
+
+// Whether three numbers are padding.
+fn padding(b: u32, c: u32, d: u32) -> bool
+    ensures { λ r. ⌜ r ≡ (eqb b pad && eqb c pad && eqb d pad) ⌝ }
+{
+    if b == 0x110000 {
+        if c == 0x110000 {
+            return d == 0x110000;
+        }
+        return false;
+    }
+    false
+}
+
+// Whether the four numbers from a place on are characters, then padding.
+fn four_pass(t: &[u32], at: usize) -> bool
+    requires { ⌜ at + 4 ≤ length (now t) ⌝ }
+    ensures { λ r. ⌜ r ≡ charsPass (take 4 (drop at (now (t .entry)))) ⌝ }
+{
+    let mut i = at;
+    let end = at + 4;
+    while i < end {
+        let c = t[i];
+        if c == 0x110000 {
+            return all_within(t, i, end - i, 0x110000, 0x110000);
+        }
+        if units::is_character(units::CodePoint(c)) {
+            i += 1;
+        } else {
+            return false;
+        }
+    }
+    true
+}
+
+// 0 exactly if the four numbers from a place on are characters, then padding. Nearly every item has one character or none.
+fn item_fault(t: &[u32], at: usize) -> u32
+    requires { ⌜ at + 4 ≤ length (now t) ⌝ }
+    ensures { λ r. ⌜ eqb r 0 ≡ charsPass (take 4 (drop at (now (t .entry)))) ⌝ }
+{
+    let alone = padding(t[at + 1], t[at + 2], t[at + 3]);
+    if alone {
+        return strange(t[at]);
+    }
+    let good = four_pass(t, at);
+    if good {
+        return 0;
+    }
+    1
 }
 
 // Whether each item, four numbers from a place on, has characters, then padding.
@@ -123,8 +163,7 @@ fn chars_pass(t: &[u32], from: usize, items: usize) -> bool
     let mut k: usize = 0;
     let mut faults: u32 = 0;
     while k < items {
-        let at = from + 4 * k;
-        faults = faults | chars_fault(t[at], t[at + 1], t[at + 2], t[at + 3]);
+        faults = faults | item_fault(t, from + 4 * k);
         k += 1;
     }
     faults == 0

@@ -14,47 +14,14 @@ abbrev μ-loop : tie.MeasureT-loop
 loop-holds : tie.Need-loop-holds Inv-loop μ-loop
 loop-holds c = search chars-none
 
-mul-at : tie.Need-mul-at Inv-loop μ-loop
-mul-at c = search needs
+mul-item-fault : tie.Need-mul-item-fault Inv-loop μ-loop
+mul-item-fault c = search needs
 
-add-at : tie.Need-add-at Inv-loop μ-loop
-add-at c = search needs
+add-item-fault : tie.Need-add-item-fault Inv-loop μ-loop
+add-item-fault c = search needs
 
-mul-chars-fault : tie.Need-mul-chars-fault Inv-loop μ-loop
-mul-chars-fault c = search needs
-
-shared-slice-read-chars-fault : tie.Need-shared-slice-read-chars-fault Inv-loop μ-loop
-shared-slice-read-chars-fault c = search needs
-
-add-chars-fault : tie.Need-add-chars-fault Inv-loop μ-loop
-add-chars-fault c = search needs
-
-mul-chars-fault-2 : tie.Need-mul-chars-fault-2 Inv-loop μ-loop
-mul-chars-fault-2 c = search needs
-
-shared-slice-read-chars-fault-2 : tie.Need-shared-slice-read-chars-fault-2 Inv-loop μ-loop
-shared-slice-read-chars-fault-2 c = search needs
-
-add-chars-fault-2 : tie.Need-add-chars-fault-2 Inv-loop μ-loop
-add-chars-fault-2 c = search needs
-
-mul-chars-fault-3 : tie.Need-mul-chars-fault-3 Inv-loop μ-loop
-mul-chars-fault-3 c = search needs
-
-shared-slice-read-chars-fault-3 : tie.Need-shared-slice-read-chars-fault-3 Inv-loop μ-loop
-shared-slice-read-chars-fault-3 c = search needs
-
-add-chars-fault-3 : tie.Need-add-chars-fault-3 Inv-loop μ-loop
-add-chars-fault-3 c = search needs
-
-mul-chars-fault-4 : tie.Need-mul-chars-fault-4 Inv-loop μ-loop
-mul-chars-fault-4 c = search needs
-
-shared-slice-read-chars-fault-4 : tie.Need-shared-slice-read-chars-fault-4 Inv-loop μ-loop
-shared-slice-read-chars-fault-4 c = search needs
-
-chars-fault-requires : tie.Need-chars-fault-requires Inv-loop μ-loop
-chars-fault-requires c κs = search needs
+item-fault-requires : tie.Need-item-fault-requires Inv-loop μ-loop
+item-fault-requires c κs = search needs
 
 add-k : tie.Need-add-k Inv-loop μ-loop
 add-k c = search needs
@@ -75,20 +42,9 @@ chars-pass-spec =
     Inv-loop
     μ-loop
     loop-holds
-    mul-at
-    add-at
-    mul-chars-fault
-    shared-slice-read-chars-fault
-    add-chars-fault
-    mul-chars-fault-2
-    shared-slice-read-chars-fault-2
-    add-chars-fault-2
-    mul-chars-fault-3
-    shared-slice-read-chars-fault-3
-    add-chars-fault-3
-    mul-chars-fault-4
-    shared-slice-read-chars-fault-4
-    chars-fault-requires
+    mul-item-fault
+    add-item-fault
+    item-fault-requires
     add-k
     loop-less
     loop-again
