@@ -3,6 +3,7 @@ pub mod WithinLaws
 pub mod EndLaws
 pub mod CharLaws
 pub mod BeforeLaws
+pub mod PairLaws
 pub mod WalkLaws
 pub mod HeadLaws
 pub mod WholeLaws

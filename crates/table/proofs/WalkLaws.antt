@@ -18,34 +18,6 @@ use Rattle.layout.specs.Starts.{bucketFor, fourAt, bucketIn, startAt, startAll,
 use Rattle.table.specs.Checks.{risesIn, listingIn}
 use Rattle.table.specs.Walk.{follows, risesOn, walks, toldWith, goesOn, Bucket, Next}
 
--- ## starts_are
-
-pub record Starting (ss : List ℕ) (b end k i : ℕ) : Type 0 where
-  pub same : startAll ss k b (end - b) ≡ startAll ss k i (end - i)
-
-pub starting-none : (ss : List ℕ) (b end k : ℕ) → Starting ss b end k b
-starting-none ss b end k = record { same = refl }
-
-module _ {ss : List ℕ} {b end k i : ℕ} (v : Starting ss b end k i) where
-  pub starting-more : i < end → {s : ℕ} → s ≡ startAt ss i → s ≡ k → Starting ss b end k (i + 1)
-  unfolding startAll
-  starting-more h e q =
-      let n : end - i ≡ suc (end - (i + 1)) = omega arith in
-      let j : i + 1 ≡ suc i = omega arith in
-      record { same = v .same ∙ rw (n, j, eq-eqb (startAt ss i) k (sym e ∙ q)) }
-
-  pub starting-no : i < end → {s : ℕ} → s ≡ startAt ss i → (s ≡ k → ⊥) → false ≡ startAll ss k b (end - b)
-  unfolding startAll
-  starting-no h e q =
-      let n : end - i ≡ suc (end - (i + 1)) = omega arith in
-      sym (v .same ∙ rw (n, ne-eqb (startAt ss i) k (λ z. q (e ∙ z))))
-
-  pub starting-all : end ≤ i → true ≡ startAll ss k b (end - b)
-  unfolding startAll
-  starting-all h =
-      let n : end - i ≡ 0 = omega arith in
-      sym (v .same ∙ rw n)
-
 -- ## bucket_at
 
 four-drop : (t : List ℕ) (chars p : ℕ) → fourAt (drop chars t) p ≡ take 4 (drop (chars + 4 * (p - 1)) t)
@@ -99,8 +71,8 @@ module _ (n : ℕ) (cs : List ℕ) (last p : ℕ) where
         rw (ne-eqb last 0 z, le-ltb (bucketIn n cs last) (bucketIn n cs p) (omega arith), eq-eqb (bucketIn n cs last) (bucketIn n cs p) e)
 
   -- where a start is told, an item stands before
-  pub told-some : {told : ℕ} → told ≡ toldWith n cs last → {q : ℕ} → q < told → 1 ≤ last
-  told-some e h = by (eqb last 0) (λ t. absurd (omega (arith, first-told (eqb-true last 0 t)))) (λ t. omega (arith, eqb-false last 0 t))
+  pub told-some : {told : ℕ} → told ≡ toldWith n cs last → {q : ℕ} → (told ≡ q → ⊥) → q ≤ told → 1 ≤ last
+  told-some e o h = by (eqb last 0) (λ t. absurd (omega (arith, o, first-told (eqb-true last 0 t)))) (λ t. omega (arith, eqb-false last 0 t))
 
   -- the place after `last`, of a bucket that is not told yet
   behind : toldWith n cs last ≤ bucketIn n cs p → follows n cs last p ≡ true
@@ -125,15 +97,38 @@ module _ (t : List ℕ) (n chars : ℕ) (ss : List ℕ) (k last p told q : ℕ) 
     unfolding goesOn
     goes = rw (behind n (drop chars t) last p (omega (arith, tell, at .is)), suc-p, ← tell) (sym right)
 
+    on : r ≡ true → Next n (drop chars t) ss k last p (q + 1)
+    on e = record { is = rw (goes, e, with-p); few = omega (arith, at .few) }
+
+    off : r ≡ false → Next n (drop chars t) ss k last p 0
+    off e = stays (goes ∙ e)
+
+  -- of a bucket further behind
+  module _ {r : Bool} (right : r ≡ startAll ss k told (q + 1 - told)) (later : told < q) where
     pub told-later : r ≡ true → Next n (drop chars t) ss k last p (q + 1)
-    told-later e = record { is = rw (goes, e, with-p); few = omega (arith, at .few) }
+    told-later e = on right (omega arith) e
 
     pub told-wrong : r ≡ false → Next n (drop chars t) ss k last p 0
-    told-wrong e = stays (goes ∙ e)
+    told-wrong e = off right (omega arith) e
 
-  module _ (not-later : q < told) where
+  -- of the bucket behind the last one's: one start is told
+  module _ (next : told ≡ q) {s : ℕ} (start : s ≡ startAt ss q) where
+    one-start : eqb s k ≡ startAll ss k told (q + 1 - told)
+    unfolding startAll
+    one-start =
+        let z : q + 1 - told ≡ 1 = omega arith in
+        rw (z, next, start) (sym (and-true (eqb (startAt ss q) k)))
+
+    pub told-next : s ≡ k → Next n (drop chars t) ss k last p (q + 1)
+    told-next e = on one-start (omega arith) (eq-eqb s k e)
+
+    pub told-off : (s ≡ k → ⊥) → Next n (drop chars t) ss k last p 0
+    told-off e = off one-start (omega arith) (ne-eqb s k e)
+
+  -- of the last one's bucket, or one before it
+  module _ (other : told ≡ q → ⊥) (not-later : q ≤ told) where
     some : last ≡ 0 → ⊥
-    some e = omega (arith, told-some n (drop chars t) last p tell not-later)
+    some e = omega (arith, told-some n (drop chars t) last p tell other not-later)
 
     last-told : told ≡ suc (bucketIn n (drop chars t) last)
     last-told = tell ∙ some-told n (drop chars t) last p some
@@ -146,7 +141,7 @@ module _ (t : List ℕ) (n chars : ℕ) (ss : List ℕ) (k last p told q : ℕ) 
       goes-same : goesOn n (drop chars t) ss k last p ≡ r
       unfolding goesOn startAll
       goes-same =
-          let z : q + 1 - told ≡ 0 = omega arith in
+          let z : q + 1 - told ≡ 0 = omega (arith, other) in
           rw (
             same-follows n (drop chars t) last p some (omega (arith, last-told, at .is)),
             suc-p,

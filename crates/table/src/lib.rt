@@ -1,7 +1,7 @@
 // The check of a table: straight passes over its parts, before any operation reads them. docs/TABLE.md has the layout.
 ghost use mathlib.Core.Path.{_≡_};
 ghost use mathlib.Core.Bool.{_&&_, _||_, not};
-ghost use Prim.Native.Nat.{_+_, _-_, _*_, _/_, _≤_, _<_};
+ghost use Prim.Native.Nat.{_+_, _-_, _*_, _/_, _%_, _≤_, _<_};
 ghost use lib.ListN.{length, getD, take, drop};
 ghost use lib.Dec.{eqb};
 ghost use Rattle.rules.specs.Text.{within, every};
@@ -189,21 +189,35 @@ fn before_at(t: &[u32], a: usize, b: usize) -> bool
     false // all four are the same
 }
 
-// Whether the buckets from b on, up to `end`, start at k.
-fn starts_are(t: &[u32], from: usize, b: usize, end: usize, k: u32) -> bool
-    requires { ⌜ from + (end + 1) / 2 ≤ length (now t) ⌝ }
+// Whether the buckets from b on, which is even, up to `end`, start at k: two at a time, and what is left.
+fn pairs_are(t: &[u32], from: usize, b: usize, end: usize, k: u32) -> bool
+    requires { ⌜ (b % 2 ≡ 0) × (b ≤ end) × (from + (end + 1) / 2 ≤ length (now t)) × (k < 65536) ⌝ }
     ensures { λ r. ⌜ r ≡ startAll (drop from (now (t .entry))) k b (end - b) ⌝ }
 {
-    let mut i = b;
-    while i < end {
-        let s = layout::start_of(t, from, i);
-        if s == k {
-            i += 1;
-        } else {
-            return false;
+    let both = k + 65536 * k;
+    let same = all_within(t, from + b / 2, (end - b) / 2, both, both);
+    if same {
+        if end % 2 == 0 {
+            return true;
         }
+        return layout::start_of(t, from, end - 1) == k;
     }
-    true
+    false
+}
+
+// Whether the buckets from b on, up to `end`, start at k.
+fn starts_are(t: &[u32], from: usize, b: usize, end: usize, k: u32) -> bool
+    requires { ⌜ (b < end) × (from + (end + 1) / 2 ≤ length (now t)) × (k < 65536) ⌝ }
+    ensures { λ r. ⌜ r ≡ startAll (drop from (now (t .entry))) k b (end - b) ⌝ }
+{
+    if b % 2 == 0 {
+        return pairs_are(t, from, b, end, k);
+    }
+    let s = layout::start_of(t, from, b);
+    if s == k {
+        return pairs_are(t, from, b + 1, end, k);
+    }
+    false
 }
 
 // The bucket of the item at a place, from 1, where the characters stand from `chars` on.
@@ -233,12 +247,19 @@ fn told_after(
     p: usize,
 ) -> usize
     requires { ⌜ (1 ≤ items) × (items ≤ 32768) × (buckets ≡ mask items) × (chars + 6 * items ≤ length (now t)) × (1 ≤ p) × (p ≤ items) ⌝ }
-    requires { ⌜ (last ≤ items) × (told ≡ toldWith items (drop chars (now t)) last) ⌝ }
+    requires { ⌜ (k < 65536) × (last ≤ items) × (told ≡ toldWith items (drop chars (now t)) last) ⌝ }
     ensures { λ r. ⌜ Next items (drop chars (now (t .entry))) (drop (chars + 5 * items) (now (t .entry))) k last p r ⌝ }
 {
     let q = bucket_at(t, items, buckets, chars, p) as usize;
-    if told <= q {
-        let starts = chars + 5 * (items as usize);
+    let starts = chars + 5 * (items as usize);
+    if told == q {
+        let s = layout::start_of(t, starts, q);
+        if s == k {
+            return q + 1;
+        }
+        return 0; // its start is wrong
+    }
+    if told < q {
         let right = starts_are(t, starts, told, q + 1, k);
         if right {
             return q + 1;

@@ -1,48 +1,38 @@
--- `table::starts_are` meets its contract. The loop's invariant: the buckets before i start at k, so that those from i on decide. The measure is how many are left.
+-- `table::starts_are` meets its contract: from an even bucket on by pairs, from an odd one on behind it.
 use borrow.Author.Needs.{needs}
-use Prim.Native.Nat.{_-_}
-use lib.ListN.{drop}
-use Rattle.table.proofs.WalkLaws.{Starting, starting-none, starting-more, starting-no, starting-all}
+use Rattle.table.proofs.PairLaws.{starts-more, starts-no}
 use Rattle.table.proofs.starts_are.Statement.{statement}
 use Rattle.table.proofs.starts_are.Tie as tie
 
-abbrev Inv-loop : tie.InvT-loop
-Inv-loop t from b end k i₀ i = Starting (drop from t) b end k i
+pairs-are-requires : tie.Need-pairs-are-requires
+pairs-are-requires c κs = search needs
 
-abbrev μ-loop : tie.MeasureT-loop
-μ-loop t from b end k i₀ i = end - i
+returns : tie.Need-returns
+returns c = search needs
 
-loop-holds : tie.Need-loop-holds Inv-loop μ-loop
-loop-holds c = search starting-none
-
-start-of-requires : tie.Need-start-of-requires Inv-loop μ-loop
+start-of-requires : tie.Need-start-of-requires
 start-of-requires c κs = search needs
 
-add-i : tie.Need-add-i Inv-loop μ-loop
-add-i c = search needs
+add-pairs-are : tie.Need-add-pairs-are
+add-pairs-are c = search needs
 
-loop-less : tie.Need-loop-less Inv-loop μ-loop
-loop-less c = search needs
+pairs-are-requires-2 : tie.Need-pairs-are-requires-2
+pairs-are-requires-2 c κs = search needs
 
-loop-again : tie.Need-loop-again Inv-loop μ-loop
-loop-again c = search starting-more
+returns-2 : tie.Need-returns-2
+returns-2 c = search starts-more
 
-returns : tie.Need-returns Inv-loop μ-loop
-returns c = search starting-no
-
-returns-2 : tie.Need-returns-2 Inv-loop μ-loop
-returns-2 c = search starting-all
+returns-3 : tie.Need-returns-3
+returns-3 c = search starts-no
 
 pub starts-are-spec : {M : Type 1} → statement M
 starts-are-spec =
     tie.close
     (tie.spec
-    Inv-loop
-    μ-loop
-    loop-holds
-    start-of-requires
-    add-i
-    loop-less
-    loop-again
+    pairs-are-requires
     returns
-    returns-2)
+    start-of-requires
+    add-pairs-are
+    pairs-are-requires-2
+    returns-2
+    returns-3)
