@@ -273,8 +273,8 @@ module _ {g : Signs} {src w : List ℕ} {levels : ℕ} {area₀ : List ℕ} {slo
           small = omega (arith, h .few, line-few g src w levels f v (both .0));
         }
 
-    pub writing-slot : place < 2 ^ 64 → slot + levels < 2 ^ 64
-    writing-slot s = omega (arith, writing-room .ends)
+    pub writing-slot : base < 2 ^ 64 → slot + levels < 2 ^ 64
+    writing-slot s = omega (arith, writing-room .ends, writing-room .chars)
 
     pub writing-place : base < 2 ^ 64 → place + 4 < 2 ^ 64
     writing-place s = omega (arith, writing-room .chars)
