@@ -17,9 +17,10 @@ use Rattle.units.specs.declared.Sign.{Sign}
 use Rattle.units.specs.declared.Sign.the-variants.{Less, Equal, Greater}
 use Rattle.entries.specs.declared.Entry.{Entry}
 use Rattle.entries.specs.declared.Cursor.{Cursor}
+use Rattle.entries.specs.declared.Walks.{Walks}
 use Rattle.entries.specs.declared.Ahead.{Ahead}
 use Rattle.entries.specs.declared.Ahead.the-variants.{One, End}
-use Rattle.entries.specs.Walk.{Level, Sound, fresh, entryAs, entriesLeft, First, Gives, Compared}
+use Rattle.entries.specs.Walk.{Level, fresh, entryAs, entriesLeft, First, Gives, Walking, Onward, Compared}
 use Rattle.entries.proofs.WalkLaws.{fresh-entries, fresh-sound}
 
 -- ## Two entries
@@ -53,84 +54,85 @@ module _ (x y : Entry) where
 
 -- ## Two levels
 
--- n entries were passed as equal, and what the two walks have still to come decides
-pub record Comparing (t a b : List ℕ) (level : ℕ) (rule : Rule) (x y : Cursor) (n : ℕ) : Type 0 where
-  pub first : Sound t a x
-  pub second : Sound t b y
-  pub few : n + length (entriesLeft t a level rule x) ≤ 32768
-  pub same : seen (entriesLeft t a level rule x) (entriesLeft t b level rule y) n
+-- the entries passed agreed, and what the two walks have still to come decides
+pub record Comparing (t a b : List ℕ) (level : ℕ) (rule : Rule) (w : Walks) : Type 0 where
+  pub stand : Walking t a b level rule w
+  pub same : seen (entriesLeft t a level rule (w .x)) (entriesLeft t b level rule (w .y)) (w .agreed)
       ≡ seen (levelEntries (meaningIn t .items) rule level a) (levelEntries (meaningIn t .items) rule level b) 0
 
 pub comparing-none : {t a b : List ℕ} {level : ℕ} (rule : Rule) {x y : Cursor} → Level t a level → Level t b level → x ≡ fresh → y ≡ fresh
-    → Comparing t a b level rule x y 0
+    → Comparing t a b level rule (record { x = x; y = y; agreed = 0 })
 comparing-none {t} {a} {b} {level} rule v w p q =
     let l = level-length (length (meaningIn t .rules)) (meaningIn t .items) (table-good t (v .checked) .items) rule level a in
     rw (p, q)
     (record {
-      first = fresh-sound t a level rule;
-      second = fresh-sound t b level rule;
-      few = rw (fresh-entries t a level rule) (omega (arith, v .few));
+      stand = record {
+        first = fresh-sound t a level rule;
+        second = fresh-sound t b level rule;
+        few = rw (fresh-entries t a level rule) (omega (arith, v .few));
+      };
       same = rw (fresh-entries t a level rule, fresh-entries t b level rule);
     })
 
--- an answer with a sign of one's own
-told : {t a b : List ℕ} {level : ℕ} {rule : Rule} {x y : Cursor} {n : ℕ} → Comparing t a b level rule x y n → (s : Sign)
-    → record { sign = signOf s; agreed = n } ≡ seen (entriesLeft t a level rule x) (entriesLeft t b level rule y) n
-    → Compared t a b level rule (record { sign = s; agreed = n })
-told v s e = record { is = e ∙ v .same; small = omega (arith, v .few) }
+-- an answer with a sign of one's own, the walks having gone on
+told : {t a b : List ℕ} {level : ℕ} {rule : Rule} {w r : Walks} → Comparing t a b level rule w → Onward t a b level rule w r → (s : Sign)
+    → record { sign = signOf s; agreed = r .agreed } ≡ seen (entriesLeft t a level rule (r .x)) (entriesLeft t b level rule (r .y)) (r .agreed)
+    → Compared t a b level rule (record { sign = s; agreed = r .agreed })
+told v o s e = record { is = e ∙ o .same ∙ v .same; small = omega (arith, o .stand .few) }
 
-module _ {t a b : List ℕ} {level : ℕ} {rule : Rule} {x y : Cursor} {n : ℕ} {p q : Ahead} (v : Comparing t a b level rule x y n)
-    (g : Gives t a level rule (entriesLeft t a level rule x) p) (h : Gives t b level rule (entriesLeft t b level rule y) q) where
-  pub both-end : p ≡ End → q ≡ End → Compared t a b level rule (record { sign = Equal; agreed = n })
+module _ {t a b : List ℕ} {level : ℕ} {rule : Rule} {x y : Cursor} {n : ℕ} {r : Walks} {p q : Ahead}
+    (v : Comparing t a b level rule (record { x = x; y = y; agreed = n })) (o : Onward t a b level rule (record { x = x; y = y; agreed = n }) r)
+    (g : Gives t a level rule (entriesLeft t a level rule (r .x)) p) (h : Gives t b level rule (entriesLeft t b level rule (r .y)) q) where
+  pub both-end : p ≡ End → q ≡ End → Compared t a b level rule (record { sign = Equal; agreed = r .agreed })
   both-end i j =
-      let d : entriesLeft t a level rule x ≡ [] = subst (Gives t a level rule (entriesLeft t a level rule x)) i g in
-      let f : entriesLeft t b level rule y ≡ [] = subst (Gives t b level rule (entriesLeft t b level rule y)) j h in
-      told v Equal (rw (d, f) (sym (seen-ends n)))
+      let d : entriesLeft t a level rule (r .x) ≡ [] = subst (Gives t a level rule (entriesLeft t a level rule (r .x))) i g in
+      let f : entriesLeft t b level rule (r .y) ≡ [] = subst (Gives t b level rule (entriesLeft t b level rule (r .y))) j h in
+      told v o Equal (rw (d, f) (sym (seen-ends (r .agreed))))
 
-  pub first-ends : {e : Entry} {c : Cursor} → p ≡ End → q ≡ One e c → Compared t a b level rule (record { sign = Less; agreed = n })
+  pub first-ends : {e : Entry} {c : Cursor} → p ≡ End → q ≡ One e c → Compared t a b level rule (record { sign = Less; agreed = r .agreed })
   first-ends {e} {c} i j =
-      let d : entriesLeft t a level rule x ≡ [] = subst (Gives t a level rule (entriesLeft t a level rule x)) i g in
-      let f : First t b level rule (entriesLeft t b level rule y) e c = subst (Gives t b level rule (entriesLeft t b level rule y)) j h in
-      told v Less (rw (d, f .is) (sym (seen-ends-first (entryAs e) (entriesLeft t b level rule c) n)))
+      let d : entriesLeft t a level rule (r .x) ≡ [] = subst (Gives t a level rule (entriesLeft t a level rule (r .x))) i g in
+      let f : First t b level rule (entriesLeft t b level rule (r .y)) e c = subst (Gives t b level rule (entriesLeft t b level rule (r .y))) j h in
+      told v o Less (rw (d, f .is) (sym (seen-ends-first (entryAs e) (entriesLeft t b level rule c) (r .agreed))))
 
-  pub second-ends : {e : Entry} {c : Cursor} → p ≡ One e c → q ≡ End → Compared t a b level rule (record { sign = Greater; agreed = n })
+  pub second-ends : {e : Entry} {c : Cursor} → p ≡ One e c → q ≡ End → Compared t a b level rule (record { sign = Greater; agreed = r .agreed })
   second-ends {e} {c} i j =
-      let d : First t a level rule (entriesLeft t a level rule x) e c = subst (Gives t a level rule (entriesLeft t a level rule x)) i g in
-      let f : entriesLeft t b level rule y ≡ [] = subst (Gives t b level rule (entriesLeft t b level rule y)) j h in
-      told v Greater (rw (d .is, f) (sym (seen-ends-second (entryAs e) (entriesLeft t a level rule c) n)))
+      let d : First t a level rule (entriesLeft t a level rule (r .x)) e c = subst (Gives t a level rule (entriesLeft t a level rule (r .x))) i g in
+      let f : entriesLeft t b level rule (r .y) ≡ [] = subst (Gives t b level rule (entriesLeft t b level rule (r .y))) j h in
+      told v o Greater (rw (d .is, f) (sym (seen-ends-second (entryAs e) (entriesLeft t a level rule c) (r .agreed))))
 
   module _ {e f : Entry} {c d : Cursor} (i : p ≡ One e c) (j : q ≡ One f d) where
-    before : First t a level rule (entriesLeft t a level rule x) e c
-    before = subst (Gives t a level rule (entriesLeft t a level rule x)) i g
+    before : First t a level rule (entriesLeft t a level rule (r .x)) e c
+    before = subst (Gives t a level rule (entriesLeft t a level rule (r .x))) i g
 
-    behind : First t b level rule (entriesLeft t b level rule y) f d
-    behind = subst (Gives t b level rule (entriesLeft t b level rule y)) j h
+    behind : First t b level rule (entriesLeft t b level rule (r .y)) f d
+    behind = subst (Gives t b level rule (entriesLeft t b level rule (r .y))) j h
 
-    pub differ-less : {s : Sign} → signOf s ≡ signEntry (entryAs e) (entryAs f) → s ≡ Less → Compared t a b level rule (record { sign = Less; agreed = n })
+    pub differ-less : {s : Sign} → signOf s ≡ signEntry (entryAs e) (entryAs f) → s ≡ Less → Compared t a b level rule (record { sign = Less; agreed = r .agreed })
     differ-less k z =
-        told v Less
+        told v o Less
         (rw (before .is, behind .is)
-        (sym (seen-less (entryAs e) (entryAs f) (entriesLeft t a level rule c) (entriesLeft t b level rule d) n (sym k ∙ ap signOf z))))
+        (sym (seen-less (entryAs e) (entryAs f) (entriesLeft t a level rule c) (entriesLeft t b level rule d) (r .agreed) (sym k ∙ ap signOf z))))
 
-    pub differ-greater : {s : Sign} → signOf s ≡ signEntry (entryAs e) (entryAs f) → s ≡ Greater → Compared t a b level rule (record { sign = Greater; agreed = n })
+    pub differ-greater : {s : Sign} → signOf s ≡ signEntry (entryAs e) (entryAs f) → s ≡ Greater → Compared t a b level rule (record { sign = Greater; agreed = r .agreed })
     differ-greater k z =
-        told v Greater
+        told v o Greater
         (rw (before .is, behind .is)
-        (sym (seen-greater (entryAs e) (entryAs f) (entriesLeft t a level rule c) (entriesLeft t b level rule d) n (sym k ∙ ap signOf z))))
+        (sym (seen-greater (entryAs e) (entryAs f) (entriesLeft t a level rule c) (entriesLeft t b level rule d) (r .agreed) (sym k ∙ ap signOf z))))
 
-    pub agree-more : {s : Sign} → signOf s ≡ signEntry (entryAs e) (entryAs f) → s ≡ Equal → Comparing t a b level rule c d (n + 1)
+    pub agree-more : {s : Sign} → signOf s ≡ signEntry (entryAs e) (entryAs f) → s ≡ Equal
+        → Comparing t a b level rule (record { x = c; y = d; agreed = r .agreed + 1 })
     agree-more k z =
-        let m : length (entriesLeft t a level rule x) ≡ suc (length (entriesLeft t a level rule c)) = ap length (before .is) in
+        let m : length (entriesLeft t a level rule (r .x)) ≡ suc (length (entriesLeft t a level rule c)) = ap length (before .is) in
         record {
-          first = before .sound;
-          second = behind .sound;
-          few = omega (arith, v .few, m);
+          stand = record { first = before .sound; second = behind .sound; few = omega (arith, o .stand .few, m) };
           same =
-              rw (add-one n)
-              (sym (seen-passed (entryAs e) (entryAs f) (entriesLeft t a level rule c) (entriesLeft t b level rule d) n (sym k ∙ ap signOf z))
-              ∙ (rw (before .is, behind .is) at (v .same)));
+              rw (add-one (r .agreed))
+              (sym (seen-passed (entryAs e) (entryAs f) (entriesLeft t a level rule c) (entriesLeft t b level rule d) (r .agreed) (sym k ∙ ap signOf z))
+              ∙ (rw (before .is, behind .is) at (o .same))
+              ∙ v .same);
         }
 
     -- an entry taken leaves fewer
     pub agree-fewer : length (entriesLeft t a level rule c) < length (entriesLeft t a level rule x)
-    agree-fewer = omega (arith, ap length (before .is))
+    agree-fewer = omega (arith, ap length (before .is), o .no-more)

@@ -12,8 +12,7 @@ use Rattle.rules.specs.Meaning.{Rule, Item, countAll}
 use Rattle.rules.specs.Table.{meaningIn}
 use Rattle.rules.specs.Order.{weightsAt, walked, levelEntries}
 use Rattle.rules.proofs.EntryLaws.{entries-length}
-use Rattle.layout.specs.Parts.{Within, Holds}
-use Rattle.layout.specs.declared.Run.{Run}
+use Rattle.layout.specs.Parts.{Within, Many}
 use Rattle.entries.specs.Walk.{Level, Counts}
 use Rattle.entries.proofs.WalkLaws.{directed-forward, element-within}
 
@@ -49,8 +48,7 @@ pub place-within : {t places : List ℕ} {level : ℕ} (i : ℕ) → Level t pla
 place-within {places = places} i v h = element-within false i v h (directed-forward places i refl)
 
 module _ {t places : List ℕ} {level n i : ℕ} (v : Counting t places level n i) where
-  pub counting-more : {r : Run} → i < length places → Holds t r (weightsAt (meaningIn t .items) level (getD places i 0))
-      → Counting t places level (n + r .count) (i + 1)
+  pub counting-more : {r : ℕ} → i < length places → Many t (getD places i 0) level r → Counting t places level (n + r) (i + 1)
   unfolding countAll
   counting-more {r} h w =
       let f : ℕ → List ℕ = weightsAt (meaningIn t .items) level in
@@ -58,7 +56,7 @@ module _ {t places : List ℕ} {level n i : ℕ} (v : Counting t places level n 
       record {
         to = omega arith;
         few = omega (arith, v .few, w .few);
-        same = rw (add-one i) (omega (arith, v .same, d, w .many));
+        same = rw (add-one i) (omega (arith, v .same, d, w .is));
       }
 
   pub counting-all : length places ≤ i → Counts t places level n

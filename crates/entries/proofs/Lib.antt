@@ -1,3 +1,4 @@
 pub mod WalkLaws
+pub mod BothLaws
 pub mod CompareLaws
 pub mod CountLaws

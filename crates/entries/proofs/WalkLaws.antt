@@ -53,12 +53,12 @@ walked-directed r f ps = go (r .backward)
 -- ## Element by element
 
 -- the weights of the element that is i-th in the direction walked
-abbrev weightsOn : List ℕ → List ℕ → ℕ → Rule → ℕ → List ℕ
+abbrev pub weightsOn : List ℕ → List ℕ → ℕ → Rule → ℕ → List ℕ
 weightsOn t places level rule i = weightsAt (meaningIn t .items) level (getD (directed (rule .backward) places) i 0)
 
 module _ (t places : List ℕ) (level : ℕ) (rule : Rule) where
   -- past the last element there is nothing
-  on-none : (i n : ℕ) → length places ≤ i → entriesOn t places level rule i n ≡ []
+  pub on-none : (i n : ℕ) → length places ≤ i → entriesOn t places level rule i n ≡ []
   unfolding entriesOn entriesFrom
   on-none i n h =
       let f : ℕ → List ℕ = weightsAt (meaningIn t .items) level in
@@ -66,7 +66,7 @@ module _ (t places : List ℕ) (level : ℕ) (rule : Rule) where
       rw (walked-directed rule f places, drop-of-length-le (map f (directed (rule .backward) places)) l)
 
   -- one element
-  on-element : (i n : ℕ) → i < length places
+  pub on-element : (i n : ℕ) → i < length places
       → entriesOn t places level rule i n
       ≡ entriesFrom (rule .position) n
       (weightsOn t places level rule i ∷ drop (suc i) (walked rule (map (weightsAt (meaningIn t .items) level) places)))
@@ -77,20 +77,20 @@ module _ (t places : List ℕ) (level : ℕ) (rule : Rule) where
       rw (walked-directed rule f places, drop-map-cons f qs i 0 (rw (directed-length (rule .backward) places) h))
 
   -- an element without a weight is counted
-  on-skip : (i n : ℕ) → i < length places → weightsOn t places level rule i ≡ []
+  pub on-skip : (i n : ℕ) → i < length places → weightsOn t places level rule i ≡ []
       → entriesOn t places level rule i n ≡ entriesOn t places level rule (i + 1) (n + 1)
   unfolding entriesOn entriesFrom
   on-skip i n h e = on-element i n h ∙ rw (e, add-one i, add-one n)
 
   -- an element with weights gives an entry for each
-  on-take : (i n w : ℕ) (ws : List ℕ) → i < length places → weightsOn t places level rule i ≡ w ∷ ws
+  pub on-take : (i n w : ℕ) (ws : List ℕ) → i < length places → weightsOn t places level rule i ≡ w ∷ ws
       → entriesOn t places level rule i n
       ≡ record { count = cond (rule .position) n 0; weight = w } ∷ more ws (entriesOn t places level rule (i + 1) 0)
   unfolding entriesOn entriesFrom
   on-take i n w ws h e = on-element i n h ∙ rw (e, add-one i)
 
   -- the whole level
-  on-all : entriesOn t places level rule 0 0 ≡ levelEntries (meaningIn t .items) rule level places
+  pub on-all : entriesOn t places level rule 0 0 ≡ levelEntries (meaningIn t .items) rule level places
   unfolding entriesOn levelEntries
   on-all = refl
 
@@ -106,7 +106,7 @@ module _ (t places : List ℕ) (level : ℕ) (rule : Rule) where
   fresh-sound = record { passed = omega arith; skipped = omega arith; inside = λ h. absurd (omega arith) }
 
   -- with no weight left of the element, it has those of the elements not passed
-  left-none : (c : Cursor) → c .left ≤ 0 → entriesLeft t places level rule c ≡ entriesOn t places level rule (c .passed) (c .skipped)
+  pub left-none : (c : Cursor) → c .left ≤ 0 → entriesLeft t places level rule c ≡ entriesOn t places level rule (c .passed) (c .skipped)
   unfolding entriesLeft more
   left-none c h = let e : c .left ≡ 0 = omega arith in rw e
 

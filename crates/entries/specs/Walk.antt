@@ -1,9 +1,10 @@
 -- What a walk over a level's entries has still to come, and what its operations give.
 use mathlib.Core.Path.{_≡_}
-use mathlib.Core.Bool.{Bool, true}
+use mathlib.Core.Bool.{Bool, true, _&&_}
 use mathlib.Core.List.{List, [], _∷_, map, reverse}
 use Prim.Native.Nat.{ℕ, _+_, _*_, _≤_, _<_}
 use lib.ListN.{length, take, drop}
+use lib.Dec.{eqb}
 use Rattle.lists.proofs.Lists.{All}
 use Rattle.rules.specs.Text.{if_then_else_}
 use Rattle.rules.specs.Meaning.{Rule, countAll}
@@ -16,6 +17,7 @@ use Rattle.rules.proofs.PassedLaws.{seen}
 use Rattle.units.specs.Numbers.{signOf}
 use Rattle.entries.specs.declared.Entry.{Entry}
 use Rattle.entries.specs.declared.Cursor.{Cursor}
+use Rattle.entries.specs.declared.Walks.{Walks}
 use Rattle.entries.specs.declared.Seen.{Seen}
 use Rattle.entries.specs.declared.Ahead.{Ahead}
 use Rattle.entries.specs.declared.Ahead.the-variants.{One, End}
@@ -64,6 +66,35 @@ pub record First (t places : List ℕ) (level : ℕ) (rule : Rule) (es : List or
 abbrev pub Gives : List ℕ → List ℕ → ℕ → Rule → List order.Entry → Ahead → Type 0
 Gives t places level rule es (One e c) = First t places level rule es e c
 Gives t places level rule es End = es ≡ []
+
+-- whether two walks stand between elements, with as many elements without a weight behind them
+unfoldable pub levelWith : Cursor → Cursor → Bool
+levelWith x y = eqb (x .left) 0 && (eqb (y .left) 0 && eqb (x .skipped) (y .skipped))
+
+-- two walks that stand so, i and j elements passed
+abbrev pub atElements : ℕ → ℕ → ℕ → ℕ → Walks
+atElements i j skipped agreed = record {
+  x = record { passed = i; from = 0; left = 0; skipped = skipped };
+  y = record { passed = j; from = 0; left = 0; skipped = skipped };
+  agreed = agreed;
+}
+
+-- the elements without a weight behind one that has so many weights, n having stood before it
+abbrev pub skippedAfter : ℕ → ℕ → ℕ
+skippedAfter n count = if eqb count 0 then n + 1 else 0
+
+-- Where two walks over a level can stand.
+pub record Walking (t a b : List ℕ) (level : ℕ) (rule : Rule) (w : Walks) : Type 0 where
+  pub first : Sound t a (w .x)
+  pub second : Sound t b (w .y)
+  pub few : w .agreed + length (entriesLeft t a level rule (w .x)) ≤ 32768
+
+-- Two walks that go on from w to r: what they have still to come decides alike.
+pub record Onward (t a b : List ℕ) (level : ℕ) (rule : Rule) (w r : Walks) : Type 0 where
+  pub stand : Walking t a b level rule r
+  pub no-more : length (entriesLeft t a level rule (r .x)) ≤ length (entriesLeft t a level rule (w .x))
+  pub same : seen (entriesLeft t a level rule (r .x)) (entriesLeft t b level rule (r .y)) (r .agreed)
+      ≡ seen (entriesLeft t a level rule (w .x)) (entriesLeft t b level rule (w .y)) (w .agreed)
 
 -- a comparison as the run over the paper's entries has it
 abbrev pub seenAs : Seen → passed.Seen

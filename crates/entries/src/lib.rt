@@ -1,12 +1,12 @@
 // The entries of a level, one after the other in the direction of its rule, and the comparison of two such lists.
 ghost use mathlib.Core.Path.{_≡_};
-ghost use mathlib.Core.Bool.{cond};
-ghost use Prim.Native.Nat.{_≤_, _<_};
+ghost use mathlib.Core.Bool.{cond, true};
+ghost use Prim.Native.Nat.{min, _≤_, _<_};
 ghost use lib.ListN.{length, getD};
 ghost use Rattle.rules.specs.Order.{signEntry};
 ghost use Rattle.units.specs.Numbers.{signOf};
 ghost use Rattle.layout.specs.Parts.{ruleAs};
-ghost use Rattle.entries.specs.Walk.{directed, Level, Sound, fresh, entryAs, entriesOn, entriesLeft, Gives, Compared, Counts};
+ghost use Rattle.entries.specs.Walk.{directed, Level, Sound, fresh, entryAs, entriesOn, entriesLeft, Gives, levelWith, atElements, skippedAfter, Walking, Onward, Compared, Counts};
 use layout::Rule;
 use units::Rank;
 use units::Sign;
@@ -32,6 +32,13 @@ pub enum Ahead {
     End,
 }
 
+// Two walks over a level, and how many entries both have passed as equal.
+struct Walks {
+    pub x: Cursor,
+    pub y: Cursor,
+    pub agreed: usize,
+}
+
 // How two lists of entries compare, and how many entries they begin with alike.
 pub struct Seen {
     pub sign: Sign,
@@ -51,7 +58,7 @@ pub fn start() -> Cursor
 }
 
 // The place of the element that is i-th in the direction walked, from 0.
-fn place_at(places: &[u32], backward: bool, i: usize) -> usize
+pub fn place_at(places: &[u32], backward: bool, i: usize) -> usize
     requires { ⌜ i < length (now places) ⌝ }
     ensures { λ r. ⌜ r ≡ getD (directed backward (now (places .entry))) i 0 ⌝ }
 {
@@ -161,6 +168,104 @@ pub fn order_of(x: Entry, y: Entry) -> Sign
     Sign::Equal
 }
 
+// Whether two walks stand between elements, with as many elements without a weight behind them.
+fn level_with(x: Cursor, y: Cursor) -> bool
+    ensures { λ r. ⌜ r ≡ levelWith x y ⌝ }
+{
+    if x.left == 0 {
+        if y.left == 0 {
+            return x.skipped == y.skipped;
+        }
+    }
+    false
+}
+
+// Two walks that stand level, i and j elements passed, the last `skipped` of them without a weight.
+fn between(i: usize, j: usize, skipped: usize, agreed: usize) -> Walks
+    ensures { λ r. ⌜ r ≡ atElements i j skipped agreed ⌝ }
+{
+    Walks {
+        x: Cursor {
+            passed: i,
+            from: 0,
+            left: 0,
+            skipped: skipped,
+        },
+        y: Cursor {
+            passed: j,
+            from: 0,
+            left: 0,
+            skipped: skipped,
+        },
+        agreed: agreed,
+    }
+}
+
+// The smaller of two numbers.
+fn smaller(m: usize, n: usize) -> usize
+    ensures { λ r. ⌜ r ≡ min m n ⌝ }
+{
+    if m < n {
+        return m;
+    }
+    n
+}
+
+// How many elements without a weight stand behind one that has so many weights, n having stood before it.
+fn skipped_after(n: usize, count: usize) -> usize
+    requires { ⌜ n ≤ 4096 ⌝ }
+    ensures { λ r. ⌜ r ≡ skippedAfter n count ⌝ }
+{
+    if count == 0 {
+        return n + 1;
+    }
+    0
+}
+
+// Two walks that stand level, behind the elements that both go on with: those give both the same entries, which need not be read.
+fn both(t: &[u32], a: &[u32], b: &[u32], level: usize, rule: Rule, w: Walks) -> Walks
+    requires { ⌜ Level (now t) (now a) level ⌝ }
+    requires { ⌜ Level (now t) (now b) level ⌝ }
+    requires { ⌜ Walking (now t) (now a) (now b) level (ruleAs rule) w ⌝ }
+    requires { ⌜ levelWith (w .x) (w .y) ≡ true ⌝ }
+    ensures { λ r. ⌜ Onward (now (t .entry)) (now (a .entry)) (now (b .entry)) level (ruleAs rule) w r ⌝ }
+{
+    let x = w.x;
+    let y = w.y;
+    let mut i = x.passed;
+    let mut j = y.passed;
+    let mut skipped = x.skipped;
+    let mut agreed = w.agreed;
+    let end = i + smaller(a.len() - i, b.len() - j);
+    while i < end {
+        let place = place_at(a, rule.backward, i);
+        let other = place_at(b, rule.backward, j);
+        if place != other {
+            return between(i, j, skipped, agreed);
+        }
+        let count = layout::count_at(t, place, level);
+        agreed += count;
+        skipped = skipped_after(skipped, count);
+        i += 1;
+        j += 1;
+    }
+    between(i, j, skipped, agreed)
+}
+
+// Two walks, behind the elements that both go on with if they stand level.
+fn onward(t: &[u32], a: &[u32], b: &[u32], level: usize, rule: Rule, w: Walks) -> Walks
+    requires { ⌜ Level (now t) (now a) level ⌝ }
+    requires { ⌜ Level (now t) (now b) level ⌝ }
+    requires { ⌜ Walking (now t) (now a) (now b) level (ruleAs rule) w ⌝ }
+    ensures { λ r. ⌜ Onward (now (t .entry)) (now (a .entry)) (now (b .entry)) level (ruleAs rule) w r ⌝ }
+{
+    let even = level_with(w.x, w.y);
+    if even {
+        return both(t, a, b, level, rule, w);
+    }
+    w
+}
+
 // How the entries of a level compare that two strings' elements have: the first difference decides.
 pub fn compare_level(t: &[u32], a: &[u32], b: &[u32], level: usize, rule: Rule) -> Seen
     requires { ⌜ Level (now t) (now a) level ⌝ }
@@ -171,8 +276,21 @@ pub fn compare_level(t: &[u32], a: &[u32], b: &[u32], level: usize, rule: Rule) 
     let mut y = start();
     let mut agreed: usize = 0;
     loop {
-        let p = next(t, a, level, rule, x);
-        let q = next(t, b, level, rule, y);
+        let w = onward(
+            t,
+            a,
+            b,
+            level,
+            rule,
+            Walks {
+                x: x,
+                y: y,
+                agreed: agreed,
+            },
+        );
+        agreed = w.agreed;
+        let p = next(t, a, level, rule, w.x);
+        let q = next(t, b, level, rule, w.y);
         match p {
             Ahead::End => match q {
                 Ahead::End => {
@@ -231,8 +349,7 @@ pub fn count_level(t: &[u32], places: &[u32], level: usize) -> usize
     let mut i: usize = 0;
     while i < places.len() {
         let place = places[i] as usize;
-        let run = layout::weights(t, place, level);
-        n += run.count;
+        n += layout::count_at(t, place, level);
         i += 1;
     }
     n

@@ -1,4 +1,5 @@
 pub mod PutLaws
+pub mod ElementLaws
 pub mod LevelLaws
 pub mod LevelsLaws
 pub mod CodesLaws

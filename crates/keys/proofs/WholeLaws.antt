@@ -66,13 +66,13 @@ module _ {t s places : List ℕ} (v : Spelled t s places) where
 -- ## Cutting it
 
 -- the area has a number for each character
-pub area-ready : {t s : List ℕ} (places : List ℕ) → accepted t ≡ true → goodString s ≡ true → 4096 ≤ length places → Ready t s places
+pub area-ready : {t s : List ℕ} (places : List ℕ) → accepted t ≡ true → goodString s ≡ true → length s ≤ length places → Ready t s places
 unfolding goodString
 area-ready {s = s} places a g h = record {
   checked = a;
   characters = and-right (leb (length s) 4096) (every isCharacter s) g;
   short = goodString-length s g;
-  room = omega (arith, goodString-length s g);
+  room = h;
 }
 
 module _ {t s places cut : List ℕ} {n : ℕ} (v : Ready t s places) (w : Split t s cut n) where
@@ -102,9 +102,9 @@ module _ (t s room : List ℕ) {a : Bool} (e : a ≡ accepted t) where
   key-bad h f k = rw (← e, h, ← f, k)
 
 module _ {t s places : List ℕ} (v : Spelled t s places) (room : List ℕ) {n : ℕ} (e : n ≡ levelsWide t places 0 + 3 * length s) where
-  pub key-short : length room < n → keyedAs (Refused NoRoom) room ≡ keyCall t s room
+  pub key-unroomed : length room < n → keyedAs (Refused NoRoom) room ≡ keyCall t s room
   unfolding keyCall keyFor writtenAs
-  key-short h =
+  key-unroomed h =
       let l : length room < length (keyOf (meaningIn t) s) = omega (arith, key-wide v e) in
       rw (v .checked, v .good, lt-ltb (length room) (length (keyOf (meaningIn t) s)) l)
 

@@ -3,19 +3,20 @@ ghost use mathlib.Core.Path.{_≡_};
 ghost use mathlib.Core.Bool.{true};
 ghost use mathlib.Core.List.{[]};
 ghost use Prim.Native.Nat.{_+_, _*_, _≤_};
-ghost use lib.ListN.{length};
+ghost use lib.ListN.{length, take, drop};
+ghost use Rattle.lists.proofs.Runs.{run};
 ghost use Rattle.rules.specs.Table.{accepted, meaningIn};
 ghost use Rattle.rules.specs.Order.{two, three, codesKey, goodString, keyOf};
 ghost use Rattle.rules.specs.Calls.{keyCall};
-ghost use Rattle.entries.specs.Walk.{Level, entryAs};
+ghost use Rattle.entries.specs.Walk.{Level};
 ghost use Rattle.elements.specs.Cuts.{Ready};
 ghost use Rattle.layout.specs.Parts.{ruleAs};
 ghost use Rattle.keys.specs.Answers.{keyedAs};
-ghost use Rattle.keys.specs.Writing.{Listed, Spelled, entryBytes, levelBytes, levelsBytes, LevelWide, levelsWide, TwoFit, ThreeFit, EntryFits, Puts};
-use entries::Ahead;
-use entries::Entry;
+ghost use Rattle.keys.specs.Writing.{Listed, Spelled, entryBytes, laterBytes, elementBytes, levelBytes, levelsBytes, Weights, CountsAt, Counts, levelsWide, TwoFit, ThreeFit, EntryFits, LaterFit, ElementFits, Puts};
 use layout::Rule;
+use layout::Run;
 use units::CodePoint;
+use units::Rank;
 use units::Refusal;
 
 // How many bytes were written, or why none was.
@@ -47,16 +48,60 @@ fn put_three(room: &mut [u8], at: usize, c: CodePoint) -> usize
 }
 
 // An entry's bytes: with position its count + 1, then its weight; the place behind them.
-fn put_entry(room: &mut [u8], at: usize, position: bool, e: Entry) -> usize
-    requires { ⌜ EntryFits (now room) at position e ⌝ }
-    ensures { λ r. ⌜ Puts (now (room .entry)) at (entryBytes position (entryAs e)) (now (room .exit)) r ⌝ }
+fn put_entry(room: &mut [u8], at: usize, position: bool, count: u32, rank: Rank) -> usize
+    requires { ⌜ EntryFits (now room) at position count (rank .0) ⌝ }
+    ensures { λ r. ⌜ Puts (now (room .entry)) at (entryBytes position count (rank .0)) (now (room .exit)) r ⌝ }
 {
-    let rank = e.rank.0;
+    let weight = rank.0;
     if position {
-        let next = put_two(room, at, e.count as u32 + 1);
-        return put_two(room, next, rank);
+        let next = put_two(room, at, count + 1);
+        return put_two(room, next, weight);
     }
-    put_two(room, at, rank)
+    put_two(room, at, weight)
+}
+
+// The weights that stand in a table from one place up to another, as an element's second and later ones; the place behind them.
+fn put_later(
+    t: &[u32],
+    from: usize,
+    end: usize,
+    position: bool,
+    room: &mut [u8],
+    at: usize,
+) -> usize
+    requires { ⌜ LaterFit (now t) from end (now room) at position ⌝ }
+    ensures { λ r. ⌜ Puts (now (room .entry)) at (laterBytes position (run (now (t .entry)) from end)) (now (room .exit)) r ⌝ }
+{
+    let mut i = from;
+    let mut next = at;
+    while i < end {
+        let rank = layout::weight(t, i);
+        next = put_entry(room, next, position, 0, rank);
+        i += 1;
+    }
+    next
+}
+
+// The weights of an element that has one, `skipped` elements without a weight having stood before it; the place behind them.
+fn put_element(
+    t: &[u32],
+    run: Run,
+    position: bool,
+    skipped: u32,
+    room: &mut [u8],
+    at: usize,
+) -> usize
+    requires { ⌜ ElementFits (now t) run (now room) at position skipped ⌝ }
+    ensures { λ r. ⌜ Puts (now (room .entry)) at (elementBytes position skipped (take (run .count) (drop (run .from) (now (t .entry))))) (now (room .exit)) r ⌝ }
+{
+    let from = run.from;
+    let many = run.count;
+    let first = layout::weight(t, from);
+    let next = put_entry(room, at, position, skipped, first);
+    if many == 1 {
+        return next;
+    }
+    put_later(t, from + 1, from + many, position, room, next)
 }
 
 // The entries of a level, and 00 00 behind them; the place behind those.
@@ -72,20 +117,22 @@ fn write_level(
     requires { ⌜ at + length (levelBytes (now t) (now places) level (ruleAs rule)) ≤ length (now room) ⌝ }
     ensures { λ r. ⌜ Puts (now (room .entry)) at (levelBytes (now (t .entry)) (now (places .entry)) level (ruleAs rule)) (now (room .exit)) r ⌝ }
 {
-    let mut c = entries::start();
+    let mut i: usize = 0;
+    let mut skipped: u32 = 0;
     let mut next = at;
-    loop {
-        let ahead = entries::next(t, places, level, rule, c);
-        match ahead {
-            Ahead::End => {
-                return put_two(room, next, 0);
-            }
-            Ahead::One(e, after) => {
-                next = put_entry(room, next, rule.position, e);
-                c = after;
-            }
+    while i < places.len() {
+        let place = entries::place_at(places, rule.backward, i);
+        let run = layout::weights(t, place, level);
+        if run.count == 0 {
+            skipped += 1;
+            i += 1;
+        } else {
+            next = put_element(t, run, rule.position, skipped, room, next);
+            skipped = 0;
+            i += 1;
         }
     }
+    put_two(room, next, 0)
 }
 
 // The bytes of all levels, written to the front of the room; the place behind them.
@@ -121,16 +168,46 @@ fn write_codes(s: &[u32], room: &mut [u8], at: usize) -> usize
     next
 }
 
-// How many bytes a level takes.
-fn level_width(t: &[u32], places: &[u32], level: usize, rule: Rule) -> usize
-    requires { ⌜ Level (now t) (now places) level ⌝ }
-    ensures { λ r. ⌜ LevelWide (now (t .entry)) (now (places .entry)) level (ruleAs rule) r ⌝ }
+// How many weights the items at these places have, at all levels together.
+fn weights_of(t: &[u32], places: &[u32]) -> usize
+    requires { ⌜ Listed (now t) (now places) ⌝ }
+    ensures { λ r. ⌜ Weights (now (t .entry)) (now (places .entry)) r ⌝ }
 {
-    let n = entries::count_level(t, places, level);
-    if rule.position {
-        return 4 * n + 2;
+    let mut n: usize = 0;
+    let mut i: usize = 0;
+    while i < places.len() {
+        let place = places[i] as usize;
+        n += layout::count_all(t, place);
+        i += 1;
     }
-    2 * n + 2
+    n
+}
+
+// How many weights are preceded by a count at a level.
+fn counts_at(t: &[u32], places: &[u32], level: usize, rule: Rule) -> usize
+    requires { ⌜ Level (now t) (now places) level ⌝ }
+    ensures { λ r. ⌜ CountsAt (now (t .entry)) (now (places .entry)) level (ruleAs rule) r ⌝ }
+{
+    if rule.position {
+        return entries::count_level(t, places, level);
+    }
+    0
+}
+
+// How many weights are preceded by a count at all levels together.
+fn counts_of(t: &[u32], places: &[u32]) -> usize
+    requires { ⌜ Listed (now t) (now places) ⌝ }
+    ensures { λ r. ⌜ Counts (now (t .entry)) (now (places .entry)) r ⌝ }
+{
+    let many = layout::levels(t);
+    let mut n: usize = 0;
+    let mut level = 0;
+    while level < many {
+        let rule = layout::rule_of(t, level);
+        n += counts_at(t, places, level, rule);
+        level += 1;
+    }
+    n
 }
 
 // How many bytes the key takes of a string with n characters.
@@ -139,15 +216,10 @@ fn key_width(t: &[u32], places: &[u32], n: usize) -> usize
     requires { ⌜ n ≤ 4096 ⌝ }
     ensures { λ r. ⌜ r ≡ levelsWide (now (t .entry)) (now (places .entry)) 0 + 3 * n ⌝ }
 {
+    let weights = weights_of(t, places);
+    let counts = counts_of(t, places);
     let many = layout::levels(t);
-    let mut level = 0;
-    let mut width = 3 * n;
-    while level < many {
-        let rule = layout::rule_of(t, level);
-        width += level_width(t, places, level, rule);
-        level += 1;
-    }
-    width
+    2 * (weights + counts + many) + 3 * n
 }
 
 // The key of a string, written to the front of the room, which has place for it; how many bytes it takes.
@@ -182,13 +254,34 @@ fn key_uncut(t: &[u32], s: &[u32], places: &mut [u32], room: &mut [u8]) -> Keyed
     key_cut(t, s, &places[..n], room)
 }
 
-// The same with an area of its own.
-fn key_checked(t: &[u32], s: &[u32], room: &mut [u8]) -> Keyed
+// The same of a short string, with a small area of its own.
+fn key_short(t: &[u32], s: &[u32], room: &mut [u8]) -> Keyed
+    requires { ⌜ (accepted (now t) ≡ true) × (goodString (now s) ≡ true) ⌝ }
+    requires { ⌜ length (now s) ≤ 128 ⌝ }
+    ensures { λ r. ⌜ keyedAs r (now (room .exit)) ≡ keyCall (now (t .entry)) (now (s .entry)) (now (room .entry)) ⌝ }
+{
+    let mut places = [0u32; 128];
+    key_uncut(t, s, &mut places, room)
+}
+
+// The same with an area for the longest string.
+fn key_long(t: &[u32], s: &[u32], room: &mut [u8]) -> Keyed
     requires { ⌜ (accepted (now t) ≡ true) × (goodString (now s) ≡ true) ⌝ }
     ensures { λ r. ⌜ keyedAs r (now (room .exit)) ≡ keyCall (now (t .entry)) (now (s .entry)) (now (room .entry)) ⌝ }
 {
     let mut places = [0u32; 4096];
     key_uncut(t, s, &mut places, room)
+}
+
+// The key of a good string under an accepted table.
+fn key_checked(t: &[u32], s: &[u32], room: &mut [u8]) -> Keyed
+    requires { ⌜ (accepted (now t) ≡ true) × (goodString (now s) ≡ true) ⌝ }
+    ensures { λ r. ⌜ keyedAs r (now (room .exit)) ≡ keyCall (now (t .entry)) (now (s .entry)) (now (room .entry)) ⌝ }
+{
+    if s.len() <= 128 {
+        return key_short(t, s, room);
+    }
+    key_long(t, s, room)
 }
 
 // The key of a string under a table, written to the front of the room lent: how many bytes it takes, or why there is none; then

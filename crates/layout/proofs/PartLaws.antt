@@ -19,7 +19,7 @@ use Rattle.rules.proofs.MeaningLaws.{item-parts, Good, good-parts}
 use Rattle.rules.proofs.StorableLaws.{AllStored, meaning-stored, rule-back, rules-drop}
 use Rattle.rules.proofs.SizeLaws.{lists-length, ends-length, stored-size, flatten-length}
 use Rattle.rules.proofs.TableLaws.{accepted-stored, lists-flat, parts-drop}
-use Rattle.layout.specs.Parts.{endsAt, rulesPart, weightsPart, ruleAt, Within, Holds, Many, ManyAll}
+use Rattle.layout.specs.Parts.{endsAt, rulesPart, weightsPart, ruleAt, Within, Before, Holds, Many, ManyAll}
 use Rattle.layout.proofs.LayoutLaws.{endsAt-is, endsAt-bound, endsAt-room, endsAt-least, endsAt-suc}
 
 -- ## Running sums
@@ -95,13 +95,19 @@ count-next [] k h = absurd (omega arith)
 count-next (i ∷ is) zero h = omega arith
 count-next (i ∷ is) (suc k) h = omega (arith, count-next is k (omega arith))
 
-stored-levels : (l : ℕ) (is : List Item) (k : ℕ) → k < length is → every (goodItem l) is ≡ true
-    → (length (getD is k noItem .weights) ≡ l) × (countAll (getD is k noItem .weights) ≤ 8 * l)
+-- an item has as many lists of weights as the table has levels
+pub stored-levels : (l : ℕ) (is : List Item) (k : ℕ) → k < length is → every (goodItem l) is ≡ true → length (getD is k noItem .weights) ≡ l
 stored-levels l [] k b h = absurd (omega arith)
-stored-levels l (i ∷ is) zero b h =
-    let g = item-parts l i (every-head (goodItem l) i is h) in
-    (g .levels, omega (arith, g .levels, countAll-bound (i .weights) (g .weights)))
+stored-levels l (i ∷ is) zero b h = item-parts l i (every-head (goodItem l) i is h) .levels
 stored-levels l (i ∷ is) (suc k) b h = stored-levels l is k (omega arith) (every-tail (goodItem l) i is h)
+
+-- and at most eight weights in each
+stored-count : (l : ℕ) (is : List Item) (k : ℕ) → k < length is → every (goodItem l) is ≡ true → countAll (getD is k noItem .weights) ≤ 8 * l
+stored-count l [] k b h = absurd (omega arith)
+stored-count l (i ∷ is) zero b h =
+    let g = item-parts l i (every-head (goodItem l) i is h) in
+    omega (arith, g .levels, countAll-bound (i .weights) (g .weights))
+stored-count l (i ∷ is) (suc k) b h = stored-count l is k (omega arith) (every-tail (goodItem l) i is h)
 
 -- so many numbers can be taken only where they stand
 run-inside : (n from : ℕ) (t : List ℕ) → length (take n (drop from t)) ≡ n → 0 < n → from + n ≤ length t
@@ -189,7 +195,7 @@ module _ (t : List ℕ) (h : accepted t ≡ true) where
       let s = stored-size (meaningIn t) (restOf t) good-in in
       omega (arith, endsAt-is l n, native.Mathlib.Nat.mul-add n 6 l)
 
-  pub table-rule : (level : ℕ) → level < length (meaningIn t .rules)
+  table-rule : (level : ℕ) → level < length (meaningIn t .rules)
       → getD t (rulesPart (length (meaningIn t .rules)) (length (meaningIn t .items)) + level) 0 ≡ ruleNumber (ruleAt t level)
   table-rule level k =
       let at : ℕ = rulesPart (length (meaningIn t .rules)) (length (meaningIn t .items)) in
@@ -254,3 +260,123 @@ table-sizes t h le ne =
       near = endsAt-bound (length (meaningIn t .rules)) (length (meaningIn t .items)) a b;
     })
 
+-- the number of a level's rule, as the code reads it
+pub rule-read : (t : List ℕ) (level l n r : ℕ) → accepted t ≡ true → level < length (meaningIn t .rules) → l ≡ length (meaningIn t .rules)
+    → n ≡ length (meaningIn t .items) → r ≡ rulesPart l n → getD t (r + level) 0 ≡ ruleNumber (ruleAt t level)
+rule-read t level l n r h k le ne e = rw (e, le, ne) (table-rule t h level k)
+
+module _ (t : List ℕ) (place : ℕ) (w : Within t place 0) where
+  few : Good (meaningIn t)
+  few = table-good t (w .checked)
+
+  -- the ends of the item at the place are in the area, and so is the number before them
+  pub ends-inside : (level : ℕ) → level ≤ length (meaningIn t .rules)
+      → pred place * length (meaningIn t .rules) + level ≤ length (meaningIn t .items) * length (meaningIn t .rules)
+  ends-inside level h =
+      let l : ℕ = length (meaningIn t .rules) in
+      let n : ℕ = length (meaningIn t .items) in
+      let b : suc (pred place) ≤ n = omega (arith, w .from-one, w .in-items) in
+      omega (arith, suc-mul (pred place) l, mul-le-mul-right {m = suc (pred place)} {n = n} l b)
+
+  module _ (level at : ℕ) (h : level ≤ length (meaningIn t .rules)) (e : at ≡ endsAt (length (meaningIn t .rules)) (pred place) + level) where
+    at-is : at ≡ 16 + (pred place * length (meaningIn t .rules) + level)
+    at-is = omega (arith, e, endsAt-is (length (meaningIn t .rules)) (pred place))
+
+    pub before-inside : (1 ≤ at) × (at - 1 < length t) × (at ≤ 262160)
+    before-inside =
+        let l : ℕ = length (meaningIn t .rules) in
+        let n : ℕ = length (meaningIn t .items) in
+        let b = ends-inside level h in
+        let long = table-long t (w .checked) in
+        let near = endsAt-bound l n (few .few-levels) (few .few-items) in
+        (omega (arith, at-is), omega (arith, at-is, endsAt-is l n), omega (arith, at-is, endsAt-is l n))
+
+    pub before-is : getD t (at - 1) 0 ≡ getD (0 ∷ ends (meaningIn t .items)) (pred place * length (meaningIn t .rules) + level) 0
+    before-is =
+        let x : ℕ = pred place * length (meaningIn t .rules) + level in
+        let z : at - 1 ≡ 15 + x = omega (arith, at-is) in
+        rw z (table-end t (w .checked) x (ends-inside level h))
+
+  -- the same as the code has it
+  pub read-at : (level l r : ℕ) → level ≤ length (meaningIn t .rules) → l ≡ length (meaningIn t .rules) → r ≡ endsAt l (place - 1)
+      → r + level ≡ endsAt (length (meaningIn t .rules)) (pred place) + level
+  read-at level l r h le e = rw (e, le, sub-one place)
+
+  -- behind all of its levels: its own weights more
+  before-all : (b r : ℕ) → Before t place 0 b → Before t place (length (meaningIn t .rules)) r
+      → r ≡ b + countAll (getD (meaningIn t .items) (pred place) noItem .weights)
+  unfolding ends
+  before-all b r h k =
+      let l : ℕ = length (meaningIn t .rules) in
+      let is : List Item = meaningIn t .items in
+      let s = meaning-stored (meaningIn t) (good-in t (w .checked)) in
+      let inside : pred place < length is = omega (arith, w .from-one, w .in-items) in
+      let z : pred place * l + 0 ≡ pred place * l = omega arith in
+      let y : pred place * l + l ≡ suc (pred place) * l = sym (suc-mul (pred place) l ∙ omega arith) in
+      let one : b ≡ 0 + weightCount (take (pred place) is) = (rw z at (h .is)) ∙ sums-before l 0 is (pred place) s (omega arith) in
+      let two : r ≡ 0 + weightCount (take (suc (pred place)) is) = (rw y at (k .is)) ∙ sums-before l 0 is (suc (pred place)) s inside in
+      omega (arith, one, two, count-next is (pred place) inside)
+
+  pub many-all : (b r : ℕ) → Before t place 0 b → Before t place (length (meaningIn t .rules)) r → (b ≤ r) × ManyAll t place (r - b)
+  many-all b r h k =
+      let e = before-all b r h k in
+      let inside : pred place < length (meaningIn t .items) = omega (arith, w .from-one, w .in-items) in
+      let c = stored-count (length (meaningIn t .rules)) (meaningIn t .items) (pred place) inside (few .items) in
+      (omega arith, record { is = omega (arith, e); few = omega (arith, e, c, few .few-levels) })
+
+module _ (t : List ℕ) (place level : ℕ) (w : Within t place level) where
+  pub within-first : Within t place 0
+  within-first = record { checked = w .checked; from-one = w .from-one; in-items = w .in-items; in-levels = omega (arith, w .in-levels) }
+
+  few-are : length (weightsAt (meaningIn t .items) level place) ≤ 8
+  few-are = good-count (weightsAt (meaningIn t .items) level place) (weightsAt-good (length (meaningIn t .rules)) (meaningIn t .items) (table-good t (w .checked) .items) level place)
+
+  place-in : pred place < length (meaningIn t .items)
+  place-in = omega (arith, w .from-one, w .in-items)
+
+  level-in : pred place * length (meaningIn t .rules) + level < length (weightLists (meaningIn t .items))
+  level-in =
+      let s = meaning-stored (meaningIn t) (good-in t (w .checked)) in
+      let e = ends-inside t place within-first (suc level) (w .in-levels) in
+      omega (arith, lists-length (length (meaningIn t .rules)) (meaningIn t .items) s)
+
+  lists-are : getD (weightLists (meaningIn t .items)) (pred place * length (meaningIn t .rules) + level) [] ≡ weightsAt (meaningIn t .items) level place
+  unfolding weightsAt
+  lists-are =
+      lists-at (length (meaningIn t .rules)) (meaningIn t .items) (pred place) level (meaning-stored (meaningIn t) (good-in t (w .checked))) place-in (w .in-levels)
+
+  module _ (b r : ℕ) (h : Before t place level b) (k : Before t place (level + 1) r) where
+    -- behind the level: its weights more
+    before-next : r ≡ b + length (weightsAt (meaningIn t .items) level place)
+    unfolding ends
+    before-next =
+        let x : ℕ = pred place * length (meaningIn t .rules) + level in
+        let z : pred place * length (meaningIn t .rules) + (level + 1) ≡ suc x = omega arith in
+        let e : r ≡ getD (sums 0 (counts (weightLists (meaningIn t .items)))) x 0 = rw z at (k .is) in
+        e ∙ sums-step 0 (weightLists (meaningIn t .items)) x level-in
+        ∙ rw (← h .is, lists-are)
+
+    pub many-at : (b ≤ r) × Many t place level (r - b)
+    many-at = (omega (arith, before-next), record { is = omega (arith, before-next); few = omega (arith, before-next, few-are) })
+
+    module _ (base : ℕ) (e : base ≡ weightsPart (length (meaningIn t .rules)) (length (meaningIn t .items))) where
+      run-is : take (r - b) (drop (base + b) t) ≡ weightsAt (meaningIn t .items) level place
+      unfolding ends
+      run-is =
+          let is : List Item = meaningIn t .items in
+          let x : ℕ = pred place * length (meaningIn t .rules) + level in
+          let ws : List (List ℕ) = weightLists is in
+          let c : ℕ = getD (0 ∷ sums 0 (counts ws)) x 0 in
+          let z : c - 0 ≡ b = omega (arith, h .is) in
+          let n : getD (sums 0 (counts ws)) x 0 - c ≡ r - b = omega (arith, h .is, before-next, sums-step 0 ws x level-in, ap length lists-are) in
+          let held = list-held ws (restOf t) 0 x level-in in
+          ap (take (r - b)) (sym (drop-drop b base t) ∙ ap (drop b) (ap (λ (p : ℕ). drop p t) e ∙ table-weights t (w .checked) ∙ lists-flat is (restOf t)))
+          ∙ (rw (z, n) at held) ∙ lists-are
+
+      pub weights-held : Holds t (record { from = base + b; count = r - b }) (weightsAt (meaningIn t .items) level place)
+      weights-held = record {
+        is = run-is;
+        many = many-at .1 .is;
+        few = many-at .1 .few;
+        inside = run-inside (r - b) (base + b) t (ap length run-is ∙ sym (many-at .1 .is));
+      }

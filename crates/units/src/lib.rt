@@ -1,5 +1,6 @@
 // The units of the product: what must not be mixed up, and what answers are made of. A number of the paper for each is in specs/.
 ghost use mathlib.Core.Path.{_≡_};
+ghost use mathlib.Core.Bool.{cond};
 ghost use Rattle.rules.specs.Names.{isCharacter};
 ghost use Rattle.rules.specs.Order.{goodString};
 ghost use Rattle.units.specs.Numbers.{numberOf};
@@ -69,6 +70,17 @@ pub fn is_character(c: CodePoint) -> bool
     0xDFFF < n
 }
 
+// 1 for a code that is no character's, else 0: what a string has of them is a sum.
+fn strange(n: u32) -> u32
+    ensures { λ r. ⌜ r ≡ cond (isCharacter n) 0 1 ⌝ }
+{
+    let character = is_character(CodePoint(n));
+    if character {
+        return 0;
+    }
+    1
+}
+
 // Whether a string is not too long, and each of its numbers is a character.
 pub fn good_string(s: &[u32]) -> bool
     ensures { λ r. ⌜ r ≡ goodString (now (s .entry)) ⌝ }
@@ -77,16 +89,12 @@ pub fn good_string(s: &[u32]) -> bool
         return false;
     }
     let mut i = 0;
+    let mut bad: u32 = 0;
     while i < s.len() {
-        let n = s[i];
-        let character = is_character(CodePoint(n));
-        if character {
-            i += 1;
-        } else {
-            return false;
-        }
+        bad += strange(s[i]);
+        i += 1;
     }
-    true
+    bad == 0
 }
 
 // A refusal's number on the paper.

@@ -4,11 +4,12 @@ use lib.ListN.{length}
 use Rattle.layout.specs.Parts.{ruleAs}
 use Rattle.entries.specs.Walk.{entriesLeft}
 use borrow.Author.Needs.{needs}
+use native.Mathlib.Omega.{arith}
 use Rattle.entries.proofs.compare_level.Statement.{statement}
 use Rattle.entries.proofs.compare_level.Tie as tie
 
 abbrev Inv-loop : tie.InvT-loop
-Inv-loop t a b level rule x₀ y₀ agreed₀ x y agreed = Comparing t a b level (ruleAs rule) x y agreed
+Inv-loop t a b level rule x₀ y₀ agreed₀ x y agreed = Comparing t a b level (ruleAs rule) (record { x = x; y = y; agreed = agreed })
 
 abbrev μ-loop : tie.MeasureT-loop
 μ-loop t a b level rule x₀ y₀ agreed₀ x y agreed = length (entriesLeft t a level (ruleAs rule) x)
@@ -21,6 +22,9 @@ start-requires-2 c κs = search needs
 
 loop-holds : tie.Need-loop-holds Inv-loop μ-loop
 loop-holds c = search comparing-none
+
+onward-requires : tie.Need-onward-requires Inv-loop μ-loop
+onward-requires c κs = search needs
 
 next-requires : tie.Need-next-requires Inv-loop μ-loop
 next-requires c κs = search needs
@@ -74,7 +78,7 @@ enum-told-7 : tie.Need-enum-told-7 Inv-loop μ-loop
 enum-told-7 c = search needs
 
 add-agreed : tie.Need-add-agreed Inv-loop μ-loop
-add-agreed c = search needs
+add-agreed c = omega (arith, c .before .before .before .before .before .before .before .before .before .before .before .onward .ensures .stand .few)
 
 loop-less : tie.Need-loop-less Inv-loop μ-loop
 loop-less c = search agree-fewer
@@ -91,6 +95,7 @@ compare-level-spec =
     start-requires
     start-requires-2
     loop-holds
+    onward-requires
     next-requires
     next-requires-2
     enum-told

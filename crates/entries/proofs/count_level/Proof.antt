@@ -25,8 +25,8 @@ shared-slice-read-place c = search needs
 cast-place : tie.Need-cast-place Inv-loop μ-loop
 cast-place c = omega (arith, c .shared-slice-known3 .given (c .before .before .loop .i))
 
-weights-requires : tie.Need-weights-requires Inv-loop μ-loop
-weights-requires c κs = search place-within
+count-at-requires : tie.Need-count-at-requires Inv-loop μ-loop
+count-at-requires c κs = search place-within
 
 add-n : tie.Need-add-n Inv-loop μ-loop
 add-n c = search needs
@@ -53,7 +53,7 @@ count-level-spec =
     mul-place
     shared-slice-read-place
     cast-place
-    weights-requires
+    count-at-requires
     add-n
     add-i
     loop-less

@@ -1,15 +1,10 @@
--- `keys::key_checked` meets its contract: an area of 4096 numbers has one for each character.
-use native.Mathlib.Omega.{arith}
+-- `keys::key_checked` meets its contract: both areas give the same key.
 use borrow.Author.Needs.{needs}
-use Rattle.keys.proofs.WholeLaws.{area-ready}
 use Rattle.keys.proofs.key_checked.Statement.{statement}
 use Rattle.keys.proofs.key_checked.Tie as tie
 
-slice-aggregate-key-uncut : tie.Need-slice-aggregate-key-uncut
-slice-aggregate-key-uncut c = search needs
-
-key-uncut-requires : tie.Need-key-uncut-requires
-key-uncut-requires c κs = let p = c .before .before .before .before .before .pre in area-ready _ (p .0) (p .1) (omega arith)
+key-short-requires : tie.Need-key-short-requires
+key-short-requires c κs = search needs
 
 same-length : tie.Need-same-length
 same-length c = search needs
@@ -17,6 +12,16 @@ same-length c = search needs
 returns : tie.Need-returns
 returns c = search needs
 
+key-long-requires : tie.Need-key-long-requires
+key-long-requires c κs = search needs
+
+same-length-2 : tie.Need-same-length-2
+same-length-2 c = search needs
+
+returns-2 : tie.Need-returns-2
+returns-2 c = search needs
+
 pub key-checked-spec : {M : Type 1} → statement M
 key-checked-spec =
-    tie.close (tie.spec slice-aggregate-key-uncut key-uncut-requires same-length returns)
+    tie.close
+    (tie.spec key-short-requires same-length returns key-long-requires same-length-2 returns-2)

@@ -1,6 +1,6 @@
 -- `keys::key_cut` meets its contract: what was counted is the key's length, so that the test decides the refusal, and nothing is written before it.
 use borrow.Author.Needs.{needs}
-use Rattle.keys.proofs.WholeLaws.{spelled-listed, spelled-few, key-short, key-room, key-written}
+use Rattle.keys.proofs.WholeLaws.{spelled-listed, spelled-few, key-unroomed, key-room, key-written}
 use Rattle.keys.proofs.key_cut.Statement.{statement}
 use Rattle.keys.proofs.key_cut.Tie as tie
 
@@ -8,7 +8,7 @@ key-width-requires : tie.Need-key-width-requires
 key-width-requires c κs = search (spelled-listed, spelled-few)
 
 returns : tie.Need-returns
-returns c = search key-short
+returns c = search key-unroomed
 
 write-key-requires : tie.Need-write-key-requires
 write-key-requires c κs = search (needs, key-room)

@@ -1,11 +1,8 @@
 -- `keys::put_entry` meets its contract: with position four bytes, else the two of the weight.
 use borrow.Author.Needs.{needs}
-use Rattle.keys.proofs.LevelLaws.{count-inside, rank-fits, entry-positioned, rank-fits-alone, entry-plain}
+use Rattle.keys.proofs.ElementLaws.{count-inside, weight-fits, entry-positioned, weight-fits-alone, entry-plain}
 use Rattle.keys.proofs.put_entry.Statement.{statement}
 use Rattle.keys.proofs.put_entry.Tie as tie
-
-cast-put-two : tie.Need-cast-put-two
-cast-put-two c = search needs
 
 add-put-two : tie.Need-add-put-two
 add-put-two c = search needs
@@ -14,7 +11,7 @@ put-two-requires : tie.Need-put-two-requires
 put-two-requires c κs = record { small = search needs; inside = search count-inside }
 
 put-two-requires-2 : tie.Need-put-two-requires-2
-put-two-requires-2 c κs = search rank-fits
+put-two-requires-2 c κs = search weight-fits
 
 same-length : tie.Need-same-length
 same-length c = search needs
@@ -23,7 +20,7 @@ returns : tie.Need-returns
 returns c = search entry-positioned
 
 put-two-requires-3 : tie.Need-put-two-requires-3
-put-two-requires-3 c κs = search rank-fits-alone
+put-two-requires-3 c κs = search weight-fits-alone
 
 same-length-2 : tie.Need-same-length-2
 same-length-2 c = search needs
@@ -35,7 +32,6 @@ pub put-entry-spec : {M : Type 1} → statement M
 put-entry-spec =
     tie.close
     (tie.spec
-    cast-put-two
     add-put-two
     put-two-requires
     put-two-requires-2

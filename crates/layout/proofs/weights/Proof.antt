@@ -1,60 +1,65 @@
+-- `layout::weights` meets its contract: an item's weights at a level stand from the end before them to their own.
+use Rattle.layout.proofs.PartLaws.{table-good, table-sizes, within-first, many-at, weights-held}
+use Prim.Native.Nat.{_+_}
 use native.Mathlib.Omega.{arith}
 use borrow.Author.Needs.{needs}
+use Rattle.layout.proofs.LayoutLaws.{weightsPart-bound}
 use Rattle.layout.proofs.weights.Statement.{statement}
 use Rattle.layout.proofs.weights.Tie as tie
-use Rattle.layout.proofs.weights.Reads as reads
-use Rattle.layout.proofs.weights.Lts as lts
-use Rattle.layout.proofs.items.Reads as items-reads
-use Rattle.layout.proofs.levels.Reads as levels-reads
-use Rattle.layout.proofs.weights_before.Reads as weights-before-reads
-use Rattle.layout.proofs.weights_part.Reads as weights-part-reads
 
--- src/lib.rt:113:9
 levels-requires : tie.Need-levels-requires
 levels-requires c κs = search needs
 
--- src/lib.rt:114:9
 items-requires : tie.Need-items-requires
 items-requires c κs = search needs
 
--- src/lib.rt:115:9
 weights-part-requires : tie.Need-weights-part-requires
-weights-part-requires c κs = search needs
+weights-part-requires c κs =
+    let s = c .before .before .before in
+    let z = table-sizes (s .args .t .now) (s .pre .checked) (c .before .levels .ensures) (c .items .ensures) in
+    (z .few-levels, z .few-items)
 
--- src/lib.rt:116:9
 weights-before-requires : tie.Need-weights-before-requires
-weights-before-requires c κs = search needs
+weights-before-requires c κs =
+    let s = c .before .before .before .before in
+    let a = s .args in
+    (within-first (a .t .now) (a .place) (a .level) (s .pre), omega (arith, s .pre .in-levels))
 
--- src/lib.rt:117:39
 add-weights-before : tie.Need-add-weights-before
-add-weights-before c = search needs
+add-weights-before c =
+    let s = c .before .before .before .before .before in
+    omega (arith, s .pre .in-levels, table-good (s .args .t .now) (s .pre .checked) .few-levels)
 
--- src/lib.rt:117:9
 weights-before-requires-2 : tie.Need-weights-before-requires-2
-weights-before-requires-2 c κs = search needs
+weights-before-requires-2 c κs =
+    let s = c .before .before .before .before .before in
+    let a = s .args in
+    (within-first (a .t .now) (a .place) (a .level) (s .pre), omega (arith, s .pre .in-levels))
 
--- src/lib.rt:119:15
 add-t9 : tie.Need-add-t9
-add-t9 c = search needs
+add-t9 c =
+    let s = c .before .before .before .before .before .before in
+    let l = c .before .before .before .before .levels in
+    let n = c .before .before .before .items in
+    let z = table-sizes (s .args .t .now) (s .pre .checked) (l .ensures) (n .ensures) in
+    omega (arith, c .before .before .weights-part .ensures, weightsPart-bound (l .result) (n .result) (z .few-levels) (z .few-items), c .before .weights-before .ensures .small)
 
--- src/lib.rt:120:16
 sub-t10 : tie.Need-sub-t10
-sub-t10 c = search needs
+sub-t10 c =
+    let s = c .before .before .before .before .before .before in
+    let a = s .args in
+    many-at (a .t .now) (a .place) (a .level) (s .pre) (c .before .weights-before .result) (c .weights-before2 .result) (c .before .weights-before .ensures) (c .weights-before2 .ensures) .0
 
--- src/lib.rt:109:1
 returns : tie.Need-returns
-returns c = search needs
+returns c =
+    let s = c .before .before .before .before .before .before in
+    let a = s .args in
+    let l = c .before .before .before .before .levels in
+    let n = c .before .before .before .items in
+    weights-held (a .t .now) (a .place) (a .level) (s .pre) (c .before .weights-before .result) (c .weights-before2 .result) (c .before .weights-before .ensures)
+    (c .weights-before2 .ensures) (c .before .before .weights-part .result) (rw (l .ensures, n .ensures) at (c .before .before .weights-part .ensures))
 
 pub weights-spec : {M : Type 1} → statement M
 weights-spec =
     tie.close
-    (tie.spec
-    levels-requires
-    items-requires
-    weights-part-requires
-    weights-before-requires
-    add-weights-before
-    weights-before-requires-2
-    add-t9
-    sub-t10
-    returns)
+    (tie.spec levels-requires items-requires weights-part-requires weights-before-requires add-weights-before weights-before-requires-2 add-t9 sub-t10 returns)

@@ -1,58 +1,65 @@
+-- `layout::weights_before` meets its contract: the number before the ends of an item and level is the end before them, the first a spare 0.
+use Rattle.layout.proofs.PartLaws.{table-good, before-inside, before-is, read-at}
+use Prim.Native.Nat.{_+_, _-_}
 use native.Mathlib.Omega.{arith}
 use borrow.Author.Needs.{needs}
 use Rattle.layout.proofs.weights_before.Statement.{statement}
 use Rattle.layout.proofs.weights_before.Tie as tie
-use Rattle.layout.proofs.weights_before.Reads as reads
-use Rattle.layout.proofs.weights_before.Lts as lts
-use Rattle.layout.proofs.ends_at.Reads as ends-at-reads
-use Rattle.layout.proofs.levels.Reads as levels-reads
 
--- src/lib.rt:103:9
 levels-requires : tie.Need-levels-requires
 levels-requires c κs = search needs
 
--- src/lib.rt:104:25
 sub-ends-at : tie.Need-sub-ends-at
 sub-ends-at c = search needs
 
--- src/lib.rt:104:14
 ends-at-requires : tie.Need-ends-at-requires
-ends-at-requires c κs = search needs
+ends-at-requires c κs =
+    let s = c .before .before in
+    let g = table-good (s .args .t .now) (s .pre .0 .checked) in
+    (omega (arith, c .levels .ensures, g .few-levels), omega (arith, s .pre .0 .in-items, g .few-items))
 
--- src/lib.rt:104:14
 add-at : tie.Need-add-at
-add-at c = search needs
+add-at c =
+    let s = c .before .before .before in
+    let a = s .args in
+    let e = read-at (a .t .now) (a .place) (s .pre .0) (a .level) (c .before .levels .result) (c .ends-at .result) (s .pre .1) (c .before .levels .ensures) (c .ends-at .ensures) in
+    omega (arith, before-inside (a .t .now) (a .place) (s .pre .0) (a .level) _ (s .pre .1) e .2)
 
--- src/lib.rt:105:7
 sub-result : tie.Need-sub-result
-sub-result c = search needs
+sub-result c =
+    let s = c .before .before .before in
+    let a = s .args in
+    let e = read-at (a .t .now) (a .place) (s .pre .0) (a .level) (c .before .levels .result) (c .ends-at .result) (s .pre .1) (c .before .levels .ensures) (c .ends-at .ensures) in
+    before-inside (a .t .now) (a .place) (s .pre .0) (a .level) _ (s .pre .1) e .0
 
--- src/lib.rt:105:5
 mul-result : tie.Need-mul-result
-mul-result c = search needs
+mul-result c =
+    let s = c .before .before .before in
+    let a = s .args in
+    let e = read-at (a .t .now) (a .place) (s .pre .0) (a .level) (c .before .levels .result) (c .ends-at .result) (s .pre .1) (c .before .levels .ensures) (c .ends-at .ensures) in
+    omega (arith, before-inside (a .t .now) (a .place) (s .pre .0) (a .level) _ (s .pre .1) e .2)
 
--- src/lib.rt:105:5
 shared-slice-read-result : tie.Need-shared-slice-read-result
-shared-slice-read-result c = search needs
+shared-slice-read-result c =
+    let s = c .before .before .before .before in
+    let a = s .args in
+    let e = read-at (a .t .now) (a .place) (s .pre .0) (a .level) (c .before .before .levels .result) (c .before .ends-at .result) (s .pre .1) (c .before .before .levels .ensures) (c .before .ends-at .ensures) in
+    before-inside (a .t .now) (a .place) (s .pre .0) (a .level) _ (s .pre .1) e .1
 
--- src/lib.rt:105:5
 cast-result : tie.Need-cast-result
-cast-result c = search needs
+cast-result c = omega (arith, c .shared-slice-known2 .given (c .before .ends-at .result + c .before .before .before .before .args .level - 1))
 
--- src/lib.rt:98:1
 returns : tie.Need-returns
-returns c = search needs
+returns c =
+    let s = c .before .before .before .before in
+    let a = s .args in
+    let r = c .before .ends-at in
+    let l = c .before .before .levels in
+    let e = read-at (a .t .now) (a .place) (s .pre .0) (a .level) (l .result) (r .result) (s .pre .1) (l .ensures) (r .ensures) in
+    let small = c .shared-slice-known2 .given (r .result + a .level - 1) in
+    record { is = before-is (a .t .now) (a .place) (s .pre .0) (a .level) (r .result + a .level) (s .pre .1) e; small = omega arith }
 
 pub weights-before-spec : {M : Type 1} → statement M
 weights-before-spec =
     tie.close
-    (tie.spec
-    levels-requires
-    sub-ends-at
-    ends-at-requires
-    add-at
-    sub-result
-    mul-result
-    shared-slice-read-result
-    cast-result
-    returns)
+    (tie.spec levels-requires sub-ends-at ends-at-requires add-at sub-result mul-result shared-slice-read-result cast-result returns)
