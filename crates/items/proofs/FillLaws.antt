@@ -119,7 +119,7 @@ unfolding sums
 sums-length at [] = refl
 sums-length at (n ∷ ns) = ap suc (sums-length (at + n) ns)
 
-counts-length : (at : ℕ) (ws : List (List ℕ)) → length (sums at (counts ws)) ≡ length ws
+pub counts-length : (at : ℕ) (ws : List (List ℕ)) → length (sums at (counts ws)) ≡ length ws
 counts-length at ws = sums-length at (counts ws) ∙ length-map ws length
 
 -- behind some of them, they go on from all of these
@@ -134,7 +134,7 @@ sums-append at (w ∷ ws) vs =
 -- ## One item first, then the others
 
 -- three runs, one before the other, each of which goes on behind its first part
-three-rows : (area : List ℕ) (slot : ℕ) (a b : List ℕ) (from : ℕ) (p q : List ℕ) (next : ℕ) (x y : List ℕ) → slot + length a + length b ≤ from
+pub three-rows : (area : List ℕ) (slot : ℕ) (a b : List ℕ) (from : ℕ) (p q : List ℕ) (next : ℕ) (x y : List ℕ) → slot + length a + length b ≤ from
     → from + length p + length q ≤ next
     → sets (sets (sets (sets (sets (sets area from p) slot a) next x) (from + length p) q) (slot + length a) b) (next + length x) y
     ≡ sets (sets (sets area from (p ++ q)) slot (a ++ b)) next (x ++ y)
