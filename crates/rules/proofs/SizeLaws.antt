@@ -21,7 +21,7 @@ weights-length [] rest = omega arith
 weights-length (i ∷ is) rest =
     omega (arith, length-append (flatten (i .weights)) (weightNumbers is rest), flatten-length (i .weights), weights-length is rest)
 
-sums-length : (at : ℕ) (ns : List ℕ) → length (sums at ns) ≡ length ns
+pub sums-length : (at : ℕ) (ns : List ℕ) → length (sums at ns) ≡ length ns
 unfolding sums
 sums-length at [] = refl
 sums-length at (n ∷ ns) = ap suc (sums-length (at + n) ns)

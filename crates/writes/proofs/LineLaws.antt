@@ -8,6 +8,7 @@ use lib.ListN.{length, set, length-set, length-map}
 use lib.Seq.{sets, length-sets}
 use Rattle.lists.proofs.Lists.{sets-append}
 use Rattle.rules.specs.State.{Subject}
+use Rattle.rules.proofs.SizeLaws.{sums-length}
 use Rattle.rules.specs.Meaning.{countAll}
 use Rattle.rules.specs.Table.{sums, counts}
 use Rattle.rules.specs.Tokens.{Token}
@@ -16,12 +17,11 @@ use Rattle.lines.specs.declared.Signs.{Signs}
 use Rattle.subjects.specs.Keys.{keyAt}
 use Rattle.store.specs.Store.{Decl, Holds, Sound}
 use Rattle.ranks.specs.declared.Part.{Part}
-use Rattle.ranks.specs.declared.Part.the-variants as part
 use Rattle.ranks.specs.declared.Cursor.{Cursor}
 use Rattle.ranks.specs.declared.Turn.{Turn}
 use Rattle.ranks.specs.Ranks.{rankIn, ranksBy, levelRanks}
-use Rattle.ranks.specs.Reading.{partRanks, PartFits, weightsLeft, Ahead, TurnIs, Starts, ranksAt}
-use Rattle.writes.specs.Writing.{RanksPut, quoteSize, partSize, LevelPut, LineRoom, LinePut}
+use Rattle.ranks.specs.Reading.{partRanks, weightsLeft, Ahead, TurnIs, Starts, ranksAt}
+use Rattle.writes.specs.Writing.{RanksPut, partSize, LevelPut, LineRoom, LinePut}
 use Rattle.writes.proofs.StoreLaws.{sets-swap}
 use Rattle.writes.proofs.PartLaws.{partRanks-length}
 
@@ -34,11 +34,13 @@ module _ (g : Signs) (src : List ℕ) {w : List ℕ} (own : ℕ) (x : Part) {are
       let f : Subject → ℕ = rankIn w (s .ds) in
       k .puts (s .n) (s .ds) (s .holds) .to ∙ ap (λ (n : ℕ). at + n) (partRanks-length g src own x f)
 
-  pub level-from : (base : ℕ) → base ≤ at → base ≤ next
-  level-from base h = omega (arith, level-to)
+  -- where the weights end, counted from a place between base and their first
+  module _ (place : ℕ) where
+    pub level-from : place ≤ at → place ≤ next
+    level-from h = omega (arith, level-to)
 
-  pub level-small : (base : ℕ) → at + partSize g src x < base + 4294967296 → next - base < 4294967296
-  level-small base h = omega (arith, level-to)
+    pub level-small : {base : ℕ} → at + partSize g src x < base + 4294967296 → base ≤ place → next - place < 4294967296
+    level-small h b = omega (arith, level-to)
 
   pub level-long : length after ≡ length area
   level-long =
@@ -80,9 +82,7 @@ levelRanks-length f own (suc l) (w ∷ ws) = ap suc (levelRanks-length f own l w
 
 -- as many ends as levels
 ends-length : (at : ℕ) (rs : List (List ℕ)) → length (sums at (counts rs)) ≡ length rs
-unfolding sums
-ends-length at [] = refl
-ends-length at (r ∷ rs) = ap suc (ends-length (at + length r) rs)
+ends-length at rs = sums-length at (counts rs) ∙ length-map rs length
 
 -- ## Level by level
 
@@ -102,7 +102,8 @@ fill-step now slot base next r rs h b =
     ∙ sym (sets-append (sets now slot es) next r (flatten rs))
 
 -- The weights of the last `left` levels are still to be written.
-pub record Filling (g : Signs) (src w : List ℕ) (place levels own : ℕ) (area : List ℕ) (slots base at : ℕ) (now : List ℕ) (c : Cursor) (left slot next : ℕ) : Type 0 where
+pub record Filling (g : Signs) (src w : List ℕ) (place levels own : ℕ) (area : List ℕ) (slots base at : ℕ) (now : List ℕ) (c : Cursor)
+    (left slot next : ℕ) : Type 0 where
   pub same : (n : ℕ) (ds : List Decl) → Holds (keyAt g src) (length src) w n ds
       → sets (sets now slot (sums (next - base) (counts (levelRanks (rankIn w ds) own left (weightsLeft g src c))))) next
       (flatten (levelRanks (rankIn w ds) own left (weightsLeft g src c)))

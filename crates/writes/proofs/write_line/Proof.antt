@@ -5,7 +5,8 @@ use Rattle.writes.proofs.write_line.Statement.{statement}
 use Rattle.writes.proofs.write_line.Tie as tie
 
 abbrev Inv-loop : tie.InvT-loop
-Inv-loop src g work place levels own area₀ slots base at c₀ left₀ slot₀ next₀ area c left slot next = Filling g src work place levels (own .0) area₀ slots base at area c left slot next
+Inv-loop src g work place levels own area₀ slots base at c₀ left₀ slot₀ next₀ area c left slot next =
+    Filling g src work place levels (own .0) area₀ slots base at area c left slot next
 
 abbrev μ-loop : tie.MeasureT-loop
 μ-loop src g work place levels own area₀ slots base at c₀ left₀ slot₀ next₀ area c left slot next = left
