@@ -24,7 +24,7 @@ write-items-requires : tie.Need-write-items-requires
 write-items-requires c κs = search build-lines
 
 supply-requires : tie.Need-supply-requires
-supply-requires c κs = search (build-suppliable _ _ _ _ _ _ _ _ (c .before .before .before .before .before .before .before .before .before .before .before .before .before .before .before .before .pre))
+supply-requires c κs = search (build-suppliable _ _ _ _ _ _ _ _ (c .before .before .before .before .before .before .before .before .before .before .before .before .before .before .before .before .before .pre))
 
 same-length : tie.Need-same-length
 same-length c = search needs
