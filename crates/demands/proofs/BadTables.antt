@@ -1,24 +1,25 @@
 -- Demand 1: "A table with no level or a weight of zero is refused": by every operation on tables, with 11, and nothing is written.
 use mathlib.Core.Path.{_≡_, refl, sym, ap, _∙_}
 use mathlib.Core.Bool.{true, false}
-use mathlib.Core.List.{List, [], _∷_, map, flatten}
-use Prim.Native.Nat.{ℕ, _≤_}
+use mathlib.Core.List.{List, [], _∷_, _++_, map, flatten}
+use Prim.Native.Nat.{ℕ, _*_, _≤_}
 use native.Mathlib.Omega.{arith}
 use lib.ListN.{length, take}
 use lib.Dec.{eqb}
-use lib.Seq.{take-append-seam}
+use lib.Seq.{take-append-seam, drop-at}
 use borrow.Author.Tests.{ne-eqb}
 use Rattle.lists.proofs.Bools.{by, clash, or-false-intro}
 use Rattle.rules.specs.Text.{within, every, oneOf}
 use Rattle.rules.specs.Meaning.{Item, Meaning, goodWeights, goodItem, weightCount, good}
-use Rattle.rules.specs.Table.{itemNumbers, weightNumbers, permutation, storedForm, meaningIn, accepted}
+use Rattle.rules.specs.Table.{ruleNumber, ends, charNumbers, listing, starts, weightNumbers, storedForm, meaningIn, accepted}
 use Rattle.rules.specs.Directory.{directoryOf}
 use Rattle.rules.specs.Calls.{checkCall, stepCall, compareCall, keyFor, keyCall, writtenAs, directedAs, directoryCall}
 use Rattle.rules.proofs.TextLaws.{every-head, every-tail, every-both, within-low}
 use Rattle.rules.proofs.MeaningLaws.{item-parts, good-parts, goodItems-weights}
-use Rattle.rules.proofs.SizeLaws.{weights-length}
+use Rattle.rules.proofs.SizeLaws.{weights-length, ends-length}
 use Rattle.rules.proofs.WidthLaws.{good-range}
-use Rattle.rules.proofs.TableLaws.{rules-drop, records-drop, meaning-stored, weights-append, accepted-stored}
+use Rattle.rules.proofs.StorableLaws.{rules-drop, meaning-stored, weights-append}
+use Rattle.rules.proofs.TableLaws.{parts-drop, accepted-stored}
 use Rattle.units.specs.declared.Refusal.the-variants.{NotAccepted}
 use Rattle.table.specs.declared.Verdict.{Verdict}
 use Rattle.table.specs.declared.Verdict.the-variants as verdict
@@ -83,12 +84,14 @@ numbers-front is rest =
 stored-weights : (m : Meaning) (rest : List ℕ) → good m ≡ true → weightsStated (storedForm m rest) ≡ weightNumbers (m .items) []
 unfolding weightsStated storedForm
 stored-weights m rest h =
-    let tail : List ℕ = itemNumbers 0 (permutation (m .items)) (m .items) (weightNumbers (m .items) rest) in
+    let is : List Item = m .items in
+    let rs : List ℕ = map ruleNumber (m .rules) ++ weightNumbers is rest in
     rw (
-      rules-drop (m .rules) tail,
-      records-drop (length (m .rules)) (m .items) 0 (permutation (m .items)) (weightNumbers (m .items) rest) (meaning-stored m h),
+      drop-at (ends is) (charNumbers is (listing is ++ starts is ++ rs)) (length is * length (m .rules)) (ends-length (length (m .rules)) is (meaning-stored m h)),
+      parts-drop is rs,
+      rules-drop (m .rules) (weightNumbers is rest),
     )
-    (numbers-front (m .items) rest)
+    (numbers-front is rest)
 
 -- every weight that it states is from 1 to 32,768
 pub accepted-weights : (t : List ℕ) → accepted t ≡ true → every (within 1 32768) (weightsStated t) ≡ true
@@ -122,7 +125,7 @@ range-no-zero (w ∷ ws) h =
     let low = within-low 1 32768 w (every-head (within 1 32768) w ws h) in
     or-false-intro (ne-eqb 0 w (omega arith)) (range-no-zero ws (every-tail (within 1 32768) w ws h))
 
--- the same of the weights that the records name, wherever they stand
+-- the same of the weights that the ends name, wherever they stand
 meaning-weights : (t : List ℕ) → accepted t ≡ true → every (every (every (within 1 32768))) (map (λ (i : Item). i .weights) (meaningIn t .items)) ≡ true
 meaning-weights t h = let g = accepted-stored t h .0 in goodItems-weights (length (meaningIn t .rules)) (meaningIn t .items) (good-parts (meaningIn t) g .items)
 

@@ -84,7 +84,7 @@ levelsStated t = getD t 0 0
 
 -- the weights that it states, in their order
 unfoldable pub weightsStated : List ℕ → List ℕ
-weightsStated t = take (getD t 2 0) (drop (getD t 1 0 * (6 + getD t 0 0)) (drop (getD t 0 0) (drop 16 t)))
+weightsStated t = take (getD t 2 0) (drop (getD t 0 0) (drop (6 * getD t 1 0) (drop (getD t 1 0 * getD t 0 0) (drop 16 t))))
 
 -- ## Refusals in an order
 

@@ -100,7 +100,7 @@ module _ (t s : List ℕ) (position : Bool) where
   fresh-entries = refl
 
   -- with no weight left of the element, it has those of the string from its place on
-  left-none : (c : Walk) → c .left ≤ 0 → entriesLeft t s position c ≡ entriesOn t s position (c .at) (c .skipped)
+  pub left-none : (c : Walk) → c .left ≤ 0 → entriesLeft t s position c ≡ entriesOn t s position (c .at) (c .skipped)
   unfolding entriesLeft more
   left-none c h = let e : c .left ≡ 0 = omega arith in rw e
 

@@ -1,3 +1,5 @@
 pub mod CutLaws
+pub mod AlikeLaws
+pub mod CommonLaws
 pub mod FirstLaws
 pub mod CompareLaws

@@ -2,7 +2,7 @@
 use mathlib.Core.Path.{_≡_}
 use mathlib.Core.Bool.{Bool, false}
 use mathlib.Core.List.{List, [], _∷_, map}
-use Prim.Native.Nat.{ℕ, _+_, _≤_, _<_}
+use Prim.Native.Nat.{ℕ, suc, _+_, _≤_, _<_}
 use lib.ListN.{length, take, drop}
 use Rattle.rules.specs.Table.{meaningIn}
 use Rattle.rules.specs.Order as order
@@ -81,6 +81,20 @@ meeting (End k) (End l) = Over k l
 meeting (End k) (One f d) = Meeting.Before
 meeting (One e c) (End l) = Meeting.After
 meeting (One e c) (One f d) = metBy (signEntry (entryAs e) (entryAs f)) c d
+
+-- Two walks go on: the entries that were to come begin with two that are equal.
+pub record Goes (t a b as′ bs : List ℕ) (position : Bool) (es fs : List order.Entry) (c d : Walk) : Type 0 where
+  pub first : Sound t a as′ c
+  pub second : Sound t b bs d
+  pub fewer : length es ≡ suc (length (entriesLeft t a position c))
+  pub same : (n : ℕ) → seen es fs n ≡ seen (entriesLeft t a position c) (entriesLeft t b position d) (suc n)
+
+-- what is decided where these entries are still to come
+abbrev pub Meets : (t a b as′ bs : List ℕ) → Bool → List order.Entry → List order.Entry → Meeting → Type 0
+Meets t a b as′ bs position es fs Meeting.Before = (n : ℕ) → record { sign = order.less; agreed = n } ≡ seen es fs n
+Meets t a b as′ bs position es fs Meeting.After = (n : ℕ) → record { sign = order.greater; agreed = n } ≡ seen es fs n
+Meets t a b as′ bs position es fs (Over k l) = (Ended t a as′ es k) × (Ended t b bs fs l)
+Meets t a b as′ bs position es fs (On c d) = Goes t a b as′ bs position es fs c d
 
 -- The run over the two first levels ends with this sign, so many entries having agreed.
 pub record Ends (t a b : List ℕ) (position : Bool) (sign : order.Sign) (agreed : ℕ) : Type 0 where

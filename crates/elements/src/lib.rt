@@ -1,11 +1,15 @@
 // The elements of a string: cut all at once, or only as far as the first level takes it.
 ghost use mathlib.Core.Path.{_≡_};
-ghost use mathlib.Core.Bool.{false};
-ghost use Prim.Native.Nat.{_≤_, _<_};
-ghost use lib.ListN.{length};
+ghost use mathlib.Core.Bool.{true, false};
+ghost use Prim.Native.Nat.{_+_, _≤_, _<_};
+ghost use lib.ListN.{length, take, drop};
+ghost use Rattle.rules.specs.Text.{every};
+ghost use Rattle.rules.specs.Names.{isCharacter};
+ghost use Rattle.rules.specs.Table.{accepted, meaningIn};
 ghost use Rattle.rules.specs.Directory.{firstOf};
 ghost use Rattle.elements.specs.Cuts.{Ready, Cut, CutOne, Split};
-ghost use Rattle.elements.specs.Firsts.{fresh, Sound, entriesOn, entriesLeft, Gives, leadingAs, firstEntries, meeting, FirstCompared};
+ghost use Rattle.elements.specs.Firsts.{fresh, Sound, entriesOn, entriesLeft, Gives, leadingAs, firstEntries, meeting, Meets, FirstCompared};
+ghost use Rattle.elements.specs.Commons.{Shared, Certain, levelWith, Level, Both, Together};
 use entries::Entry;
 use find::Found;
 use units::Rank;
@@ -37,6 +41,22 @@ enum Meeting {
     Over(usize, usize),
     // nothing: the two are alike, and the walks go on
     On(Walk, Walk),
+}
+
+// What two strings have in common from two places on: so many characters, cut into so many elements; behind them, how many entries have
+// agreed, and the elements without a weight since the last that had one.
+struct Common {
+    pub size: usize,
+    pub many: usize,
+    pub agreed: usize,
+    pub skipped: usize,
+}
+
+// Two walks, and how many entries have agreed.
+struct Pair {
+    pub x: Walk,
+    pub y: Walk,
+    pub agreed: usize,
 }
 
 // Two strings whose first levels are alike: how many entries agree, and how many elements each string has.
@@ -215,6 +235,187 @@ fn meet(p: Ahead, q: Ahead) -> Meeting
     }
 }
 
+// What the next entries of two walks decide.
+fn next_meeting(
+    t: &[u32],
+    a: &[u32],
+    b: &[u32],
+    first: &mut [u32],
+    second: &mut [u32],
+    position: bool,
+    x: Walk,
+    y: Walk,
+) -> Meeting
+    requires { ⌜ Ready (now t) (now a) (now first) ⌝ }
+    requires { ⌜ Ready (now t) (now b) (now second) ⌝ }
+    requires { ⌜ Sound (now t) (now a) (now first) x ⌝ }
+    requires { ⌜ Sound (now t) (now b) (now second) y ⌝ }
+    ensures { λ r. ⌜ Meets (now (t .entry)) (now (a .entry)) (now (b .entry)) (now (first .exit)) (now (second .exit)) position (entriesLeft (now (t .entry)) (now (a .entry)) position x) (entriesLeft (now (t .entry)) (now (b .entry)) position y) r ⌝ }
+{
+    let p = next_first(t, a, first, position, x);
+    let q = next_first(t, b, second, position, y);
+    meet(p, q)
+}
+
+// How many characters two strings have in common from two places on.
+fn shared(a: &[u32], i: usize, b: &[u32], j: usize) -> usize
+    requires { ⌜ (i ≤ length (now a)) × (j ≤ length (now b)) ⌝ }
+    ensures { λ r. ⌜ Shared (now (a .entry)) i (now (b .entry)) j r ⌝ }
+{
+    let end = entries::smaller(a.len() - i, b.len() - j);
+    let mut n: usize = 0;
+    while n < end {
+        if a[i + n] == b[j + n] {
+            n += 1;
+        } else {
+            return n;
+        }
+    }
+    n
+}
+
+// The element that begins each string that begins with `left` characters from a place on, where they tell; else one of size 0. No item has
+// more than four characters.
+fn certain(t: &[u32], s: &[u32], at: usize, left: usize) -> Found
+    requires { ⌜ (accepted (now t) ≡ true) × (every isCharacter (now s) ≡ true) ⌝ }
+    requires { ⌜ (0 < left) × (at + left ≤ length (now s)) ⌝ }
+    ensures { λ r. ⌜ Certain (meaningIn (now (t .entry)) .items) (take left (drop at (now (s .entry)))) r ⌝ }
+{
+    let place = find::quick(t, s[at]);
+    if 0 < place {
+        return Found {
+            place: place,
+            size: 1,
+        };
+    }
+    if 4 <= left {
+        return find::search(t, s, at);
+    }
+    Found { place: 0, size: 0 }
+}
+
+// Cuts what two strings have in common from two places on, n and k elements being cut before them, the last `skipped` of both without a
+// weight: each element is found once, and its entries agree.
+fn both(
+    t: &[u32],
+    a: &[u32],
+    b: &[u32],
+    first: &mut [u32],
+    second: &mut [u32],
+    i: usize,
+    j: usize,
+    n: usize,
+    k: usize,
+    skipped: usize,
+    agreed: usize,
+) -> Common
+    requires { ⌜ Level (now t) (now a) (now b) (now first) (now second) i j n k skipped agreed ⌝ }
+    ensures { λ r. ⌜ Both (now (t .entry)) (now (a .entry)) (now (b .entry)) (now (first .exit)) (now (second .exit)) i j n k skipped agreed r ⌝ }
+{
+    let end = shared(a, i, b, j);
+    let mut size: usize = 0;
+    let mut many: usize = 0;
+    let mut passed = agreed;
+    let mut blank = skipped;
+    while size < end {
+        let found = certain(t, a, i + size, end - size);
+        let taken = found.size;
+        if taken == 0 {
+            return Common {
+                size: size,
+                many: many,
+                agreed: passed,
+                skipped: blank,
+            };
+        }
+        let place = found.place;
+        let count = layout::count_at(t, place, 0);
+        first[n + many] = place as u32;
+        second[k + many] = place as u32;
+        passed += count;
+        blank = entries::skipped_after(blank, count);
+        size += taken;
+        many += 1;
+    }
+    Common {
+        size: size,
+        many: many,
+        agreed: passed,
+        skipped: blank,
+    }
+}
+
+// Whether two walks stand between elements, with as many elements without a weight behind them.
+fn level_with(x: Walk, y: Walk) -> bool
+    ensures { λ r. ⌜ r ≡ levelWith x y ⌝ }
+{
+    if x.left == 0 {
+        if y.left == 0 {
+            return x.skipped == y.skipped;
+        }
+        return false;
+    }
+    false
+}
+
+// Two walks that stand level go on over what both strings have in common; others stay where they are.
+fn together(
+    t: &[u32],
+    a: &[u32],
+    b: &[u32],
+    first: &mut [u32],
+    second: &mut [u32],
+    x: Walk,
+    y: Walk,
+    agreed: usize,
+) -> Pair
+    requires { ⌜ Ready (now t) (now a) (now first) ⌝ }
+    requires { ⌜ Ready (now t) (now b) (now second) ⌝ }
+    requires { ⌜ Sound (now t) (now a) (now first) x ⌝ }
+    requires { ⌜ Sound (now t) (now b) (now second) y ⌝ }
+    requires { ⌜ agreed ≤ 32768 ⌝ }
+    ensures { λ r. ⌜ Together (now (t .entry)) (now (a .entry)) (now (b .entry)) (now (first .exit)) (now (second .exit)) x y agreed r ⌝ }
+{
+    let level = level_with(x, y);
+    if level {
+        let c = both(
+            t,
+            a,
+            b,
+            first,
+            second,
+            x.at,
+            y.at,
+            x.many,
+            y.many,
+            x.skipped,
+            agreed,
+        );
+        return Pair {
+            x: Walk {
+                at: x.at + c.size,
+                many: x.many + c.many,
+                from: 0,
+                left: 0,
+                skipped: c.skipped,
+            },
+            y: Walk {
+                at: y.at + c.size,
+                many: y.many + c.many,
+                from: 0,
+                left: 0,
+                skipped: c.skipped,
+            },
+            agreed: c.agreed,
+        };
+    }
+    Pair {
+        x: x,
+        y: y,
+        agreed: agreed,
+    }
+}
+
 // How the entries of the first level compare, walked forward: the first difference decides, and no string is cut further than to it.
 pub fn compare_first(
     t: &[u32],
@@ -232,15 +433,17 @@ pub fn compare_first(
     let mut y = start();
     let mut agreed: usize = 0;
     loop {
-        let p = next_first(t, a, first, position, x);
-        let q = next_first(t, b, second, position, y);
-        let met = meet(p, q);
+        let pair = together(t, a, b, first, second, x, y, agreed);
+        let c = pair.x;
+        let d = pair.y;
+        let passed = pair.agreed;
+        let met = next_meeting(t, a, b, first, second, position, c, d);
         match met {
-            Meeting::Before => return First::Before(agreed),
-            Meeting::After => return First::After(agreed),
+            Meeting::Before => return First::Before(passed),
+            Meeting::After => return First::After(passed),
             Meeting::Over(n, m) => {
                 return First::Same(Alike {
-                    agreed: agreed,
+                    agreed: passed,
                     first: n,
                     second: m,
                 });
@@ -248,7 +451,7 @@ pub fn compare_first(
             Meeting::On(after, behind) => {
                 x = after;
                 y = behind;
-                agreed += 1;
+                agreed = passed + 1;
             }
         }
     }

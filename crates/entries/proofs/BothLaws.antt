@@ -65,10 +65,10 @@ seen-alike (e ∷ es) xs ys n =
 -- ## One element
 
 -- the entries of an element that has these weights, n elements without a weight having stood before it
-abbrev own : Bool → ℕ → List ℕ → List Entry
+abbrev pub own : Bool → ℕ → List ℕ → List Entry
 own position n ws = entriesFrom position n (ws ∷ [])
 
-own-length : (p : Bool) (n : ℕ) (ws : List ℕ) → length (own p n ws) ≡ length ws
+pub own-length : (p : Bool) (n : ℕ) (ws : List ℕ) → length (own p n ws) ≡ length ws
 unfolding countAll
 own-length p n ws = entries-length p n (ws ∷ []) ∙ add-zero (length ws)
 
@@ -77,7 +77,7 @@ unfolding more
 more-append [] es = refl
 more-append (w ∷ ws) es = ap (λ (fs : List Entry). record { count = 0; weight = w } ∷ fs) (more-append ws es)
 
-own-before : (p : Bool) (n : ℕ) (ws : List ℕ) (ls : List (List ℕ))
+pub own-before : (p : Bool) (n : ℕ) (ws : List ℕ) (ls : List (List ℕ))
     → entriesFrom p n (ws ∷ ls) ≡ own p n ws ++ entriesFrom p (skippedAfter n (length ws)) ls
 unfolding entriesFrom
 own-before p n [] ls = rw (add-one n)

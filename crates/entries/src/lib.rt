@@ -202,7 +202,7 @@ fn between(i: usize, j: usize, skipped: usize, agreed: usize) -> Walks
 }
 
 // The smaller of two numbers.
-fn smaller(m: usize, n: usize) -> usize
+pub fn smaller(m: usize, n: usize) -> usize
     ensures { λ r. ⌜ r ≡ min m n ⌝ }
 {
     if m < n {
@@ -212,7 +212,7 @@ fn smaller(m: usize, n: usize) -> usize
 }
 
 // How many elements without a weight stand behind one that has so many weights, n having stood before it.
-fn skipped_after(n: usize, count: usize) -> usize
+pub fn skipped_after(n: usize, count: usize) -> usize
     requires { ⌜ n ≤ 4096 ⌝ }
     ensures { λ r. ⌜ r ≡ skippedAfter n count ⌝ }
 {

@@ -1,22 +1,23 @@
 -- The order of four numbers beside the beginnings of a string: of two beginnings the longer comes first, and what comes between two of
 -- them begins with the shorter. Padding is above every character.
-use mathlib.Core.Path.{_≡_, refl, sym, _∙_}
+use mathlib.Core.Path.{_≡_, refl, sym, ap, _∙_}
 use mathlib.Core.Bool.{true, false, not}
 use mathlib.Core.List.{List, [], _∷_}
 use Prim.Native.Nat.{ℕ, zero, suc, _≤_, _<_}
 use native.Mathlib.Omega.{arith}
 use lib.ListN.{length, getD, take}
 use lib.Seq.{take-nil}
+use lib.Bits.{bitAnd}
 use lib.Dec.{ltb, leb, eqb}
 use borrow.Author.Tests.{leb-true, le-ltb, ltb-true, ltb-false, eq-eqb, eqb-true, ne-eqb}
 use Rattle.lists.proofs.Bools.{and-left, and-right, and-intro, by, clash}
 use Rattle.rules.specs.Text.{within, every, begins}
 use Rattle.rules.specs.Names.{isCharacter}
-use Rattle.rules.specs.Table.{pad, padded, before}
+use Rattle.rules.specs.Table.{pad, padded, before, mask, bucket}
 use Rattle.rules.proofs.TextLaws.{every-head, every-tail}
-use Rattle.rules.proofs.PermutationLaws.{before-less, before-irrefl}
+use Rattle.rules.proofs.SortLaws.{before-less, before-irrefl}
 
-character-small : (c : ℕ) → isCharacter c ≡ true → c < pad
+pub character-small : (c : ℕ) → isCharacter c ≡ true → c < pad
 character-small c h =
     let k = leb-true c 0x10FFFF (and-left (leb c 0x10FFFF) (not (within 0xD800 0xDFFF c)) h) in
     omega arith
@@ -34,13 +35,13 @@ pub before-greater : (x y : ℕ) (xs ys : List ℕ) → y < x → before (x ∷ 
 unfolding before
 before-greater x y xs ys h = rw (le-ltb x y (omega arith), ne-eqb x y (λ e. omega arith))
 
-before-head : (x y : ℕ) (xs ys : List ℕ) → before (x ∷ xs) (y ∷ ys) ≡ true → x ≤ y
+pub before-head : (x y : ℕ) (xs ys : List ℕ) → before (x ∷ xs) (y ∷ ys) ≡ true → x ≤ y
 before-head x y xs ys h =
     by (ltb y x)
     (λ t. clash h (before-greater x y xs ys (ltb-true y x t)))
     (λ t. ltb-false y x t)
 
-not-before-head : (x y : ℕ) (xs ys : List ℕ) → before (x ∷ xs) (y ∷ ys) ≡ false → y ≤ x
+pub not-before-head : (x y : ℕ) (xs ys : List ℕ) → before (x ∷ xs) (y ∷ ys) ≡ false → y ≤ x
 not-before-head x y xs ys h =
     by (ltb x y)
     (λ t. clash (before-less x y xs ys (ltb-true x y t)) h)
@@ -174,3 +175,17 @@ begins-take (c ∷ cs) (d ∷ s) h =
     let e = eqb-true c d (and-left (eqb c d) (begins cs s) h) in
     let r = begins-take cs s (and-right (eqb c d) (begins cs s) h) in
     cc
+
+-- ## Buckets
+
+-- what begins as s does stands in the bucket of s
+pub agree-bucket : (i : ℕ) (cs s : List ℕ) (n m : ℕ) → every isCharacter s ≡ true → Agree cs s n → 1 ≤ n → n ≤ length s → 1 ≤ m
+    → bucket i cs ≡ bucket i (padded (take m s) [])
+unfolding bucket
+agree-bucket i cs [] n m h a b l k = absurd (omega arith)
+agree-bucket i cs (d ∷ s) n zero h a b l k = absurd (omega arith)
+agree-bucket i [] (d ∷ s) n (suc m) h a b l k =
+    let e : pad ≡ d = a 0 (omega arith) in
+    let c = character-small d (every-head isCharacter d s h) in
+    absurd (omega arith)
+agree-bucket i (c ∷ cs) (d ∷ s) n (suc m) h a b l k = ap (λ (x : ℕ). bitAnd x (mask i)) (a 0 (omega arith))

@@ -1,4 +1,4 @@
--- Keys: the comparison of the four numbers in a record with a key, the key of a string's beginning, and how much a record shares with a string.
+-- Keys: the comparison of an item's four numbers with a key, the key of a string's beginning, and how much an item shares with a string.
 use mathlib.Core.Path.{_≡_, sym, _∙_}
 use mathlib.Core.Bool.{true, false, and-false, or-false}
 use mathlib.Core.List.{List, [], _∷_}
@@ -11,7 +11,7 @@ use lib.Dec.{ltb, eqb}
 use borrow.Author.Count.{below-more}
 use Rattle.lists.proofs.Places.{getD-default}
 use Rattle.rules.specs.Table.{pad, before}
-use Rattle.rules.proofs.PermutationLaws.{before-less}
+use Rattle.rules.proofs.SortLaws.{before-less}
 use Rattle.find.specs.declared.Key.{Key}
 use Rattle.find.specs.Search.{numbersOf, keyIn, Shares}
 use Rattle.find.proofs.BeginningLaws.{before-greater, before-tail}

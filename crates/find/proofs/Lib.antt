@@ -3,3 +3,4 @@ pub mod ListedLaws
 pub mod KeyLaws
 pub mod SearchLaws
 pub mod LookLaws
+pub mod QuickLaws

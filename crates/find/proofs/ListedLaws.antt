@@ -1,29 +1,33 @@
--- The permutation of an accepted table, place by place: it lists every item once, rising, with UNDEFINED the last; and where its numbers and
--- the items' numbers stand in the table.
+-- The listing of an accepted table, place by place: it lists every item once, rising by bucket and characters, with UNDEFINED the last. The items of one
+-- bucket stand together, from its start to the start of the next.
 use mathlib.Core.Path.{_≡_, refl, sym, ap, _∙_}
-use mathlib.Core.Bool.{Bool, true, false, _&&_, false≢true}
-use mathlib.Core.List.{List, [], _∷_}
-use Prim.Native.Nat.{ℕ, zero, suc, pred, _+_, _-_, _≤_, _<_}
+use mathlib.Core.Logic.{_⊎_, inl, inr}
+use mathlib.Core.Bool.{true, false, _&&_, false≢true}
+use mathlib.Core.List.{List, [], _∷_, map}
+use Prim.Native.Nat.{ℕ, zero, suc, pred, _-_, _*_, _≤_, _<_}
 use native.Mathlib.Omega.{arith}
 use native.Mathlib.Decide.{decLt}
 use lib.ListN.{length, getD}
-use lib.Seq.{getD-drop, take-length}
-use lib.Dec.{eqb}
-use borrow.Author.Tests.{eqb-true}
+use lib.Seq.{take-length}
+use lib.Dec.{ltb, eqb}
+use borrow.Author.Tests.{eqb-true, ltb-true, ltb-false}
 use Rattle.lists.proofs.Bools.{and-left, and-right, by, clash}
 use Rattle.rules.specs.Text.{within, every, oneOf, same}
 use Rattle.rules.specs.Names.{isCharacter}
 use Rattle.rules.specs.Meaning.{Item, Meaning, goodItem, hasChars}
-use Rattle.rules.specs.Table.{pad, padded, before, permutation, accepted, meaningIn}
+use Rattle.rules.specs.Table.{padded, before, bucket, listing, itemBuckets, below}
 use Rattle.rules.specs.Order.{noItem}
-use Rattle.rules.proofs.TextLaws.{every-head, every-tail, within-low, within-high, within-intro, same-true}
+use Rattle.rules.proofs.TextLaws.{every-at, within-low, within-high, within-intro, same-true, same-refl}
 use Rattle.rules.proofs.MeaningLaws.{Good, GoodItem, item-parts}
-use Rattle.rules.proofs.TableLaws.{items-stored}
-use Rattle.rules.proofs.PermutationLaws.{before-trans}
-use Rattle.rules.proofs.LinearLaws.{permutes-length, keyAt, risesAfter, rises, permutes, permutes-places, permutation-permutes, permutation-lists}
-use Rattle.layout.specs.Parts.{recordAt}
-use Rattle.layout.proofs.PartLaws.{table-record}
-use Rattle.find.specs.Search.{listedChars, listedKey}
+use Rattle.rules.proofs.SizeLaws.{listing-length}
+use Rattle.rules.proofs.SortLaws.{before-trans, before-cases}
+use Rattle.rules.proofs.BucketLaws.{mask-few, bucket-char, bucket-few, bucket-same}
+use Rattle.rules.proofs.WidthLaws.{below-few, buckets-length}
+use Rattle.rules.proofs.ListingLaws.{keyAt, risesAfter, rises, listsAll, listing-has}
+use Rattle.layout.specs.Parts.{startFor, listedChars}
+use Rattle.layout.proofs.ToldLaws.{bucketAt, Climbs, AllFrom, below-in, below-out, below-none, climbs, listed-below, listed-length}
+use Rattle.layout.proofs.IndexLaws.{listing-passes, listed-place}
+use Rattle.find.specs.Search.{listedKey}
 use Rattle.find.proofs.BeginningLaws.{longer-before}
 
 -- ## Places of rising items
@@ -58,11 +62,6 @@ oneOf-place p (q ∷ ps) h =
     let r = oneOf-place p ps (rw e at h) in
     (suc (r .0), omega arith, r .2))
 
-every-inside : {A : Type 0} (p : A → Bool) (xs : List A) (k : ℕ) (d : A) → k < length xs → every p xs ≡ true → p (getD xs k d) ≡ true
-every-inside p [] k d l h = absurd (omega arith)
-every-inside p (x ∷ xs) zero d l h = every-head p x xs h
-every-inside p (x ∷ xs) (suc k) d l h = every-inside p xs k d (omega arith) (every-tail p x xs h)
-
 undefined-place : (is : List Item) → oneOf (hasChars []) is ≡ true → (k : ℕ) × (k < length is) × (getD is k noItem .chars ≡ [])
 unfolding oneOf hasChars
 undefined-place [] h = absurd (false≢true h)
@@ -71,55 +70,68 @@ undefined-place (i ∷ is) h =
     let r = undefined-place is (rw e at h) in
     (suc (r .0), omega arith, r .2))
 
-padded-at : (cs : List ℕ) {x rest : List ℕ} (i : ℕ) → x ≡ padded cs rest → i < 4 → getD x i 0 ≡ getD cs i pad
-padded-at cs zero e h = ap (λ (x : List ℕ). getD x 0 0) e
-padded-at cs (suc zero) e h = ap (λ (x : List ℕ). getD x 1 0) e
-padded-at cs (suc (suc zero)) e h = ap (λ (x : List ℕ). getD x 2 0) e
-padded-at cs (suc (suc (suc zero))) e h = ap (λ (x : List ℕ). getD x 3 0) e
-padded-at cs (suc (suc (suc (suc i)))) e h = absurd (omega arith)
+-- ## A climbing list: the first `below b` numbers are those below b
 
--- ## The permutation of good items
+climb-below : (b : ℕ) (qs : List ℕ) (k : ℕ) → Climbs qs → k < below b qs → getD qs k 0 < b
+unfolding below
+climb-below b [] k c h = absurd (omega arith)
+climb-below b (q ∷ qs) zero c h =
+    by (ltb q b) (λ t. ltb-true q b t)
+    (λ t. let d = ltb-false q b t in absurd (omega (arith, h, below-out b q qs d, below-none b q qs d (c .0))))
+climb-below b (q ∷ qs) (suc k) c h =
+    by (ltb q b)
+    (λ t. climb-below b qs k (c .1) (omega (arith, h, below-in b q qs (ltb-true q b t))))
+    (λ t. let d = ltb-false q b t in absurd (omega (arith, h, below-out b q qs d, below-none b q qs d (c .0))))
+
+from-at : (q : ℕ) (qs : List ℕ) (k : ℕ) → AllFrom q qs → k < length qs → q ≤ getD qs k 0
+from-at q [] k a h = absurd (omega arith)
+from-at q (r ∷ qs) zero a h = a .0
+from-at q (r ∷ qs) (suc k) a h = from-at q qs k (a .1) (omega arith)
+
+climb-above : (b : ℕ) (qs : List ℕ) (k : ℕ) → Climbs qs → below b qs ≤ k → k < length qs → b ≤ getD qs k 0
+climb-above b [] k c h l = absurd (omega arith)
+climb-above b (q ∷ qs) zero c h l =
+    by (ltb q b) (λ t. absurd (omega (arith, h, below-in b q qs (ltb-true q b t)))) (λ t. ltb-false q b t)
+climb-above b (q ∷ qs) (suc k) c h l =
+    by (ltb q b)
+    (λ t. climb-above b qs k (c .1) (omega (arith, h, below-in b q qs (ltb-true q b t))) (omega arith))
+    (λ t. let d = ltb-false q b t in let f = from-at q qs k (c .0) (omega arith) in omega arith)
+
+getD-buckets : (is : List Item) (ps : List ℕ) (k : ℕ) → k < length ps → getD (map (bucketAt is) ps) k 0 ≡ bucketAt is (getD ps k 0)
+getD-buckets is [] k h = absurd (omega arith)
+getD-buckets is (p ∷ ps) zero h = refl
+getD-buckets is (p ∷ ps) (suc k) h = getD-buckets is ps k (omega arith)
+
+-- ## The listing of good items
 
 module _ (m : Meaning) (g : Good m) where
-  passes : permutes (m .items) (permutation (m .items)) ≡ true
-  passes = permutation-permutes (length (m .rules)) (m .items) (items-stored (length (m .rules)) (m .items) (g .items)) (g .apart)
-
-  count : length (permutation (m .items)) ≡ length (m .items)
-  count = permutes-length (m .items) (permutation (m .items)) passes
-
-  -- what is listed is an item's place
-  pub listed-place : (k : ℕ) → k < length (m .items) → within 1 (length (m .items)) (getD (permutation (m .items)) k 0) ≡ true
-  listed-place k b =
-      every-inside (within 1 (length (m .items))) (permutation (m .items)) k 0 (omega (arith, count))
-      (permutes-places (m .items) (permutation (m .items)) passes)
-
   -- the listed items rise
   pub listed-rising : (j k : ℕ) → j < k → k < length (m .items) → before (listedKey (m .items) j) (listedKey (m .items) k) ≡ true
-  unfolding permutes listedChars
+  unfolding listsAll listedChars
   listed-rising j k l b =
-      let ps : List ℕ = permutation (m .items) in
+      let ps : List ℕ = listing (m .items) in
       rises-later (m .items) ps j k
-      (and-right (eqb (length ps) (length (m .items)) && every (within 1 (length (m .items))) ps) (rises (m .items) ps) passes)
-      l (omega (arith, count))
+      (and-right (eqb (length ps) (length (m .items)) && every (within 1 (length (m .items))) ps) (rises (m .items) ps) (listing-passes m g))
+      l (omega (arith, listing-length (m .items)))
 
   -- each item is listed
   pub item-listed : (q : ℕ) → q < length (m .items) → (k : ℕ) × (k < length (m .items)) × (listedChars (m .items) k ≡ getD (m .items) q noItem .chars)
   unfolding listedChars
   item-listed q b =
-      let r = oneOf-place (suc q) (permutation (m .items)) (permutation-lists (m .items) (suc q) (within-intro 1 (length (m .items)) (suc q) (omega arith) b)) in
-      (r .0, omega (arith, count, r .1), ap (λ (p : ℕ). getD (m .items) (pred p) noItem .chars) (r .2))
+      let r = oneOf-place (suc q) (listing (m .items)) (listing-has (m .items) (suc q) (within-intro 1 (length (m .items)) (suc q) (omega arith) b)) in
+      (r .0, omega (arith, listing-length (m .items), r .1), ap (λ (p : ℕ). getD (m .items) (pred p) noItem .chars) (r .2))
 
   pub item-good : (q : ℕ) → q < length (m .items) → goodItem (length (m .rules)) (getD (m .items) q noItem) ≡ true
-  item-good q b = every-inside (goodItem (length (m .rules))) (m .items) q noItem b (g .items)
+  item-good q b = every-at (goodItem (length (m .rules))) (m .items) q noItem (g .items) b
 
   pub some-item : 1 ≤ length (m .items)
   some-item = let r = undefined-place (m .items) (g .undefined) in omega (arith, r .1)
 
   -- the item that is listed at k
-  listed-good : (k : ℕ) → k < length (m .items) → GoodItem (length (m .rules)) (getD (m .items) (pred (getD (permutation (m .items)) k 0)) noItem)
+  listed-good : (k : ℕ) → k < length (m .items) → GoodItem (length (m .rules)) (getD (m .items) (pred (getD (listing (m .items)) k 0)) noItem)
   listed-good k b =
-      let w = listed-place k b in
-      let p : ℕ = getD (permutation (m .items)) k 0 in
+      let w = listed-place m g k b in
+      let p : ℕ = getD (listing (m .items)) k 0 in
       let low = within-low 1 (length (m .items)) p w in
       let high = within-high 1 (length (m .items)) p w in
       item-parts (length (m .rules)) (getD (m .items) (pred p) noItem) (item-good (pred p) (omega arith))
@@ -132,11 +144,19 @@ module _ (m : Meaning) (g : Good m) where
   unfolding listedChars
   listed-short k b = listed-good k b .short
 
-  -- UNDEFINED's numbers come before no item's
-  padding-last : (k : ℕ) → k < length (m .items) → before (padded [] []) (listedKey (m .items) k) ≡ false
-  padding-last k b =
-      let cs : List ℕ = listedChars (m .items) k in
-      rw (take-length cs) at (longer-before cs 0 (length cs) (listed-characters k b) (omega arith))
+  -- UNDEFINED's key comes before no item's
+  padding-last : (k : ℕ) → k < length (m .items) → before (bucket (length (m .items)) [] ∷ padded [] []) (listedKey (m .items) k) ≡ true → ⊥
+  padding-last k b t = go (before-cases (bucket n []) (bucket n cs) (padded [] []) (padded cs []) t)
+    where
+      n : ℕ
+      n = length (m .items)
+
+      cs : List ℕ
+      cs = listedChars (m .items) k
+
+      go : (bucket n [] < bucket n cs) ⊎ ((bucket n [] ≡ bucket n cs) × (before (padded [] []) (padded cs []) ≡ true)) → ⊥
+      go (inl l) = omega (arith, bucket-same n [] some-item (same-refl []), bucket-few n cs some-item)
+      go (inr r) = clash (r .1) (rw (take-length cs) at (longer-before cs 0 (length cs) (listed-characters k b) (omega arith)))
 
   -- UNDEFINED is listed last
   pub undefined-last : listedChars (m .items) (length (m .items) - 1) ≡ []
@@ -146,24 +166,59 @@ module _ (m : Meaning) (g : Good m) where
       let none : listedChars (m .items) (r .0) ≡ [] = r .2 ∙ u .2 in
       let some = some-item in
       elim (decLt (r .0) (length (m .items) - 1)) [
-        | yes l ↦ clash
-            (rw none at (listed-rising (r .0) (length (m .items) - 1) l (omega arith)))
-            (padding-last (length (m .items) - 1) (omega arith))
+        | yes l ↦ absurd (padding-last (length (m .items) - 1) (omega arith) (rw none at (listed-rising (r .0) (length (m .items) - 1) l (omega arith))))
         | no n ↦ let e : r .0 ≡ length (m .items) - 1 = omega (arith, r .1) in rw (← e) none
       ]
 
--- ## Where they stand in the table
+  -- ## Buckets
 
-module _ (t : List ℕ) (h : accepted t ≡ true) (k : ℕ) (b : k < length (meaningIn t .items)) where
-  pub number-stored : (i : ℕ) → i < 4 → getD t (recordAt (length (meaningIn t .rules)) k + i) 0 ≡ getD (getD (meaningIn t .items) k noItem .chars) i pad
-  number-stored i l =
-      sym (getD-drop (recordAt (length (meaningIn t .rules)) k) t i 0)
-      ∙ padded-at (getD (meaningIn t .items) k noItem .chars) i (table-record t h k b) l
+  -- before its start, buckets are smaller
+  pub bucket-before : (b k : ℕ) → k < startFor (m .items) b → k < length (m .items) → bucket (length (m .items)) (listedChars (m .items) k) < b
+  unfolding listedChars
+  bucket-before b k l u =
+      let ps : List ℕ = listing (m .items) in
+      rw (← getD-buckets (m .items) ps k (omega (arith, listing-length (m .items))))
+      (climb-below b (map (bucketAt (m .items)) ps) k (climbs (m .items) ps (listing-passes m g))
+      (omega (arith, listed-below (m .items) ps (listing-passes m g) b)))
 
-  pub place-stored : getD t (recordAt (length (meaningIn t .rules)) k + 5) 0 ≡ getD (permutation (meaningIn t .items)) k 0
-  place-stored =
-      let e : k + 0 ≡ k = omega arith in
-      sym (getD-drop (recordAt (length (meaningIn t .rules)) k) t 5 0)
-      ∙ ap (λ (x : List ℕ). getD x 5 0) (table-record t h k b)
-      ∙ getD-drop k (permutation (meaningIn t .items)) 0 0
-      ∙ ap (λ (x : ℕ). getD (permutation (meaningIn t .items)) x 0) e
+  -- from its start on, they are not
+  pub bucket-from : (b k : ℕ) → startFor (m .items) b ≤ k → k < length (m .items) → b ≤ bucket (length (m .items)) (listedChars (m .items) k)
+  unfolding listedChars
+  bucket-from b k l u =
+      let ps : List ℕ = listing (m .items) in
+      rw (← getD-buckets (m .items) ps k (omega (arith, listing-length (m .items))))
+      (climb-above b (map (bucketAt (m .items)) ps) k (climbs (m .items) ps (listing-passes m g))
+      (omega (arith, listed-below (m .items) ps (listing-passes m g) b)) (omega (arith, listed-length (m .items) ps (listing-passes m g))))
+
+  start-few : (b : ℕ) → startFor (m .items) b ≤ length (m .items)
+  start-few b = omega (arith, below-few b (itemBuckets (length (m .items)) (m .items)), buckets-length (length (m .items)) (m .items))
+
+  -- a bucket does not start behind the next
+  pub start-next : (b : ℕ) → startFor (m .items) b ≤ startFor (m .items) (suc b)
+  start-next b =
+      let is : List Item = m .items in
+      let few = start-few b in
+      elim (decLt (startFor is (suc b)) (startFor is b)) [
+        | yes l ↦
+            let low = bucket-before b (startFor is (suc b)) l (omega arith) in
+            let high = bucket-from (suc b) (startFor is (suc b)) (omega arith) (omega arith) in
+            absurd (omega arith)
+        | no l ↦ omega arith
+      ]
+
+  -- what is not behind UNDEFINED's starts at an item
+  pub start-inside : (b : ℕ) → b < 2 * length (m .items) → startFor (m .items) b < length (m .items)
+  start-inside b h =
+      let is : List Item = m .items in
+      let n : ℕ = length is in
+      let some = some-item in
+      elim (decLt (startFor is b) n) [
+        | yes l ↦ l
+        | no l ↦
+            let low : bucket n [] < b = rw undefined-last at (bucket-before b (n - 1) (omega arith) (omega arith)) in
+            absurd (omega (arith, bucket-same n [] some (same-refl [])))
+      ]
+
+  -- nor is a character's bucket, nor the next
+  pub bucket-next : (c : ℕ) (cs : List ℕ) → suc (bucket (length (m .items)) (c ∷ cs)) < 2 * length (m .items)
+  bucket-next c cs = omega (arith, bucket-char (length (m .items)) c cs, mask-few (length (m .items)) some-item)

@@ -2,40 +2,18 @@
 use mathlib.Core.Path.{_≡_}
 use mathlib.Core.Bool.{true, false}
 use mathlib.Core.List.{List, [], _∷_}
-use Prim.Native.Nat.{ℕ, pred, _+_, _≤_, _<_}
+use Prim.Native.Nat.{ℕ, _+_, _≤_, _<_}
 use lib.ListN.{length, getD, drop}
 use Rattle.rules.specs.Text.{every, begins}
 use Rattle.rules.specs.Names.{isCharacter}
 use Rattle.rules.specs.Meaning.{Item}
-use Rattle.rules.specs.Table.{pad, padded, before, permutation, accepted, meaningIn}
+use Rattle.rules.specs.Table.{before, bucket, listKey}
 use Rattle.rules.specs.Order.{noItem, stepOf}
-use Rattle.find.specs.declared.Listed.{Listed}
+use Rattle.layout.specs.Parts.{listedChars}
 use Rattle.find.specs.declared.Key.{Key}
 use Rattle.find.specs.declared.Near.{Near}
 use Rattle.find.specs.declared.Near.the-variants.{Element, Within}
 use Rattle.find.specs.Answer.{foundAs}
-
--- ## The permutation
-
--- An accepted table, with its levels and items counted.
-pub record Counted (t : List ℕ) (levels items : ℕ) : Type 0 where
-  pub checked : accepted t ≡ true
-  pub levels-are : levels ≡ length (meaningIn t .rules)
-  pub items-are : items ≡ length (meaningIn t .items)
-
--- the characters of the item that is listed at k, from 0
-unfoldable pub listedChars : List Item → ℕ → List ℕ
-listedChars is k = getD is (pred (getD (permutation is) k 0)) noItem .chars
-
--- their four numbers
-abbrev pub listedKey : List Item → ℕ → List ℕ
-listedKey is k = padded (listedChars is k) []
-
--- The item that is listed at k: its place, and where its four numbers stand.
-pub record Lists (t : List ℕ) (k : ℕ) (r : Listed) : Type 0 where
-  pub is : r .place ≡ getD (permutation (meaningIn t .items)) k 0
-  pub room : r .from + 4 ≤ length t
-  pub numbers : (i : ℕ) → i < 4 → getD t (r .from + i) 0 ≡ getD (listedChars (meaningIn t .items) k) i pad
 
 -- ## Keys
 
@@ -47,11 +25,19 @@ numbersOf k = k .a ∷ k .b ∷ k .c ∷ k .d ∷ []
 abbrev pub keyIn : List ℕ → ℕ → List ℕ
 keyIn t at = getD t at 0 ∷ getD t (at + 1) 0 ∷ getD t (at + 2) 0 ∷ getD t (at + 3) 0 ∷ []
 
--- Where the first of n listed items stands that does not come before a key.
+-- what the item is listed by that is listed at k, from 0
+abbrev pub listedKey : List Item → ℕ → List ℕ
+listedKey is k = listKey (length is) (listedChars is k)
+
+-- what an item of these four numbers is listed by
+abbrev pub bucketed : List Item → List ℕ → List ℕ
+bucketed is key = bucket (length is) key ∷ key
+
+-- Where the first of n listed items stands that does not come before a key, by its bucket and then by its numbers.
 pub record Least (is : List Item) (n : ℕ) (key : List ℕ) (r : ℕ) : Type 0 where
   pub inside : r < n
-  pub below : (k : ℕ) → k < r → before (listedKey is k) key ≡ true
-  pub here : before (listedKey is r) key ≡ false
+  pub below : (k : ℕ) → k < r → before (listedKey is k) (bucketed is key) ≡ true
+  pub here : before (listedKey is r) (bucketed is key) ≡ false
 
 -- ## One search
 

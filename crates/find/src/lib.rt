@@ -1,34 +1,32 @@
 // The element that begins at a place of a string: the longest listed item that stands there, else one character as UNDEFINED.
 //
-// A table's permutation lists the items by their four numbers, and padding is above every character: of two items that begin alike the
-// longer is listed first, and UNDEFINED last. Halving finds the first listed item that does not come before the next four characters. It is
-// the element if the string begins with all of it; else no item that stands there is longer than what the two share, and the search goes on
-// for that beginning. Most places need one search, none more than four.
+// A table lists the items by their buckets, then by their four numbers, and padding is above every character: items that begin with the same
+// character stand in one bucket, of two that begin alike the longer is listed first, and UNDEFINED is last of all. So where the first item of a
+// character's bucket is that character alone, it is the element whatever follows. Else halving finds the first listed item of the bucket that
+// does not come before the next four characters. It is the element if the string begins with all of it; else no item that stands there is longer
+// than what the two share, and the search goes on for that beginning. Most places need one search, none more than four.
 ghost use mathlib.Core.Path.{_≡_};
-ghost use mathlib.Core.Bool.{true, false};
+ghost use mathlib.Core.Bool.{true};
 ghost use mathlib.Core.List.{[]};
-ghost use Prim.Native.Nat.{_+_, _-_, _≤_, _<_};
+ghost use Prim.Native.Nat.{_+_, _≤_, _<_};
 ghost use lib.ListN.{length, getD, take, drop};
 ghost use Rattle.rules.specs.Text.{every};
 ghost use Rattle.rules.specs.Names.{isCharacter};
 ghost use Rattle.rules.specs.Table.{pad, padded, before, accepted, meaningIn};
 ghost use Rattle.rules.specs.Order.{stepOf};
-ghost use Rattle.find.specs.Answer.{foundAs};
-ghost use Rattle.find.specs.Search.{numbersOf, keyIn, listedKey, Counted, Lists, Least, Shares, Window, Ahead, Looked};
+ghost use Rattle.layout.specs.Parts.{Indexed};
+ghost use Rattle.find.specs.Answer.{foundAs, Quick};
+ghost use Rattle.find.specs.Search.{numbersOf, keyIn, Least, Shares, Window, Ahead, Looked};
+use layout::bucket_in;
+use layout::characters;
+use layout::item_at;
 use layout::items;
-use layout::levels;
-use layout::record_at;
+use layout::start_in;
 
 // An element: its item's place in the table, from 1, and how many characters it takes.
 pub struct Found {
     pub place: usize,
     pub size: usize,
-}
-
-// An item that the permutation lists: its place in the table, from 1, and where its record begins.
-struct Listed {
-    pub place: usize,
-    pub from: usize,
 }
 
 // Four numbers to look for: characters, then padding.
@@ -47,22 +45,7 @@ enum Near {
     Within(usize),
 }
 
-// The item that an accepted table lists at k, from 0.
-fn item_at(t: &[u32], levels: usize, items: usize, k: usize) -> Listed
-    requires { ⌜ Counted (now t) levels items ⌝ }
-    requires { ⌜ k < items ⌝ }
-    ensures { λ r. ⌜ Lists (now (t .entry)) k r ⌝ }
-{
-    let at = record_at(levels, k);
-    let place = t[at + 5] as usize;
-    let from = record_at(levels, place - 1);
-    Listed {
-        place: place,
-        from: from,
-    }
-}
-
-// Whether the four numbers at a place, where an item's record begins, come before a key.
+// Whether the four numbers at a place come before a key.
 fn before_key(t: &[u32], at: usize, key: Key) -> bool
     requires { ⌜ at + 4 ≤ length (now t) ⌝ }
     ensures { λ r. ⌜ r ≡ before (keyIn (now (t .entry)) at) (numbersOf key) ⌝ }
@@ -91,17 +74,19 @@ fn before_key(t: &[u32], at: usize, key: Key) -> bool
     t[at + 3] < key.d
 }
 
-// Where the first item is listed that does not come before a key, from 0. The last, UNDEFINED, does not.
-fn first_from(t: &[u32], levels: usize, items: usize, key: Key) -> usize
-    requires { ⌜ Counted (now t) levels items ⌝ }
-    requires { ⌜ before (listedKey (meaningIn (now t) .items) (items - 1)) (numbersOf key) ≡ false ⌝ }
+// Where the first item is listed, from 0, that does not come before a key, by its bucket and then by its numbers. The items of the key's bucket
+// stand together, and behind them one that does not come before it: UNDEFINED, if no other.
+fn first_from(t: &[u32], chars: usize, items: usize, key: Key) -> usize
+    requires { ⌜ Indexed (now t) chars items ⌝ }
     ensures { λ r. ⌜ Least (meaningIn (now (t .entry)) .items) items (numbersOf key) r ⌝ }
 {
-    let mut lo: usize = 0;
-    let mut hi = items - 1;
+    let bucket = bucket_in(t, key.a);
+    let next = bucket + 1;
+    let mut lo = start_in(t, chars, items, bucket);
+    let mut hi = start_in(t, chars, items, next);
     while lo < hi {
         let mid = lo + (hi - lo) / 2;
-        let item = item_at(t, levels, items, mid);
+        let item = item_at(t, chars, items, mid);
         let less = before_key(t, item.from, key);
         if less {
             lo = mid + 1;
@@ -136,7 +121,7 @@ fn key_at(s: &[u32], at: usize, size: usize) -> Key
     }
 }
 
-// How many of `size` characters from a place on the item begins with whose record begins at `from`.
+// How many of `size` characters from a place on the item begins with whose four numbers begin at `from`.
 fn shared(t: &[u32], from: usize, s: &[u32], at: usize, size: usize) -> usize
     requires { ⌜ (from + 4 ≤ length (now t)) × (at + size ≤ length (now s)) × (size ≤ 4) ⌝ }
     ensures { λ r. ⌜ Shares (now (t .entry)) from (now (s .entry)) at size r ⌝ }
@@ -153,14 +138,14 @@ fn shared(t: &[u32], from: usize, s: &[u32], at: usize, size: usize) -> usize
 }
 
 // One search, for `size` characters from a place on, where no item that stands there has more.
-fn look(t: &[u32], levels: usize, items: usize, s: &[u32], at: usize, size: usize) -> Near
-    requires { ⌜ Counted (now t) levels items ⌝ }
+fn look(t: &[u32], chars: usize, items: usize, s: &[u32], at: usize, size: usize) -> Near
+    requires { ⌜ Indexed (now t) chars items ⌝ }
     requires { ⌜ Ahead (meaningIn (now t) .items) (now s) at size ⌝ }
     ensures { λ r. ⌜ Looked (meaningIn (now (t .entry)) .items) (drop at (now (s .entry))) size r ⌝ }
 {
     let key = key_at(s, at, size);
-    let k = first_from(t, levels, items, key);
-    let item = item_at(t, levels, items, k);
+    let k = first_from(t, chars, items, key);
+    let item = item_at(t, chars, items, k);
     let n = shared(t, item.from, s, at, size);
     if n == 0 {
         return Near::Within(0);
@@ -192,18 +177,18 @@ fn ahead(s: &[u32], at: usize) -> usize
     left
 }
 
-// The element that begins at a place of a string of characters.
-pub fn longest(t: &[u32], s: &[u32], at: usize) -> Found
+// The element that begins at a place of a string of characters, searched for.
+pub fn search(t: &[u32], s: &[u32], at: usize) -> Found
     requires { ⌜ accepted (now t) ≡ true ⌝ }
     requires { ⌜ at < length (now s) ⌝ }
     requires { ⌜ every isCharacter (now s) ≡ true ⌝ }
     ensures { λ r. ⌜ foundAs r ≡ stepOf (meaningIn (now (t .entry)) .items) (drop at (now (s .entry))) ⌝ }
 {
-    let l = levels(t);
+    let chars = characters(t);
     let n = items(t);
     let mut size = ahead(s, at);
     while 0 < size {
-        let near = look(t, l, n, s, at, size);
+        let near = look(t, chars, n, s, at, size);
         match near {
             Near::Element(found) => return found,
             Near::Within(m) => {
@@ -211,9 +196,45 @@ pub fn longest(t: &[u32], s: &[u32], at: usize) -> Found
             }
         }
     }
-    let last = item_at(t, l, n, n - 1);
+    let last = item_at(t, chars, n, n - 1);
     Found {
         place: last.place,
         size: 1,
     }
+}
+
+// The place of the item that a character is whatever follows it, or 0 where that is not known.
+pub fn quick(t: &[u32], c: u32) -> usize
+    requires { ⌜ accepted (now t) ≡ true ⌝ }
+    requires { ⌜ isCharacter c ≡ true ⌝ }
+    ensures { λ r. ⌜ Quick (meaningIn (now (t .entry)) .items) c r ⌝ }
+{
+    let chars = characters(t);
+    let n = items(t);
+    let k = start_in(t, chars, n, bucket_in(t, c));
+    let item = item_at(t, chars, n, k);
+    let from = item.from;
+    if t[from] == c {
+        if t[from + 1] == 0x110000 {
+            return item.place;
+        }
+    }
+    0
+}
+
+// The element that begins at a place of a string of characters.
+pub fn longest(t: &[u32], s: &[u32], at: usize) -> Found
+    requires { ⌜ accepted (now t) ≡ true ⌝ }
+    requires { ⌜ at < length (now s) ⌝ }
+    requires { ⌜ every isCharacter (now s) ≡ true ⌝ }
+    ensures { λ r. ⌜ foundAs r ≡ stepOf (meaningIn (now (t .entry)) .items) (drop at (now (s .entry))) ⌝ }
+{
+    let place = quick(t, s[at]);
+    if 0 < place {
+        return Found {
+            place: place,
+            size: 1,
+        };
+    }
+    search(t, s, at)
 }

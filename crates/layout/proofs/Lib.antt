@@ -4,3 +4,4 @@ pub mod ToldLaws
 pub mod KeyedLaws
 pub mod BucketLaws
 pub mod PartLaws
+pub mod IndexLaws

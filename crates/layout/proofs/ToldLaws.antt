@@ -151,10 +151,11 @@ below-ends b e (q ∷ r ∷ qs) c a k =
 
 -- ## The buckets of listed items
 
-abbrev bucketOf : Placed → ℕ
+-- the bucket of a placed item
+abbrev pub bucketOf : Placed → ℕ
 bucketOf p = getD (p .key) 0 0
 
-before-head : (xs ys : List ℕ) → before xs ys ≡ true → getD xs 0 0 ≤ getD ys 0 0
+pub before-head : (xs ys : List ℕ) → before xs ys ≡ true → getD xs 0 0 ≤ getD ys 0 0
 unfolding before
 before-head [] ys h = absurd (false≢true h)
 before-head (x ∷ xs) [] h = absurd (false≢true h)
@@ -179,12 +180,12 @@ inserted-below b p (q ∷ qs) =
     let r = inserted-below b p qs in
     cond-both (λ (l : List Placed). below b (map bucketOf l) ≡ below b (map bucketOf (p ∷ q ∷ qs))) (before (p .key) (q .key)) refl (omega arith)
 
-sorted-below : (b : ℕ) (qs : List Placed) → below b (map bucketOf (sorted qs)) ≡ below b (map bucketOf qs)
+pub sorted-below : (b : ℕ) (qs : List Placed) → below b (map bucketOf (sorted qs)) ≡ below b (map bucketOf qs)
 unfolding sorted below
 sorted-below b [] = refl
 sorted-below b (q ∷ qs) = inserted-below b q (sorted qs) ∙ ap (λ (n : ℕ). (if ltb (bucketOf q) b then 1 else 0) + n) (sorted-below b qs)
 
-keyed-buckets : (i n : ℕ) (is : List Item) → map bucketOf (keyed i n is) ≡ itemBuckets i is
+pub keyed-buckets : (i n : ℕ) (is : List Item) → map bucketOf (keyed i n is) ≡ itemBuckets i is
 unfolding keyed itemBuckets
 keyed-buckets i n [] = refl
 keyed-buckets i n (x ∷ is) = ap (λ (qs : List ℕ). bucket i (x .chars) ∷ qs) (keyed-buckets i (suc n) is)

@@ -5,11 +5,12 @@ use mathlib.Core.List.{List, _∷_}
 use Prim.Native.Nat.{ℕ, pred, _+_, _*_, _≤_, _<_}
 use lib.ListN.{length, getD, take, drop}
 use Rattle.rules.specs.Meaning as meaning
-use Rattle.rules.specs.Meaning.{countAll}
-use Rattle.rules.specs.Table.{ends, accepted, meaningIn}
+use Rattle.rules.specs.Meaning.{Item, countAll}
+use Rattle.rules.specs.Table.{pad, ends, listing, itemBuckets, below, accepted, meaningIn}
 use Rattle.rules.specs.Order.{weightsAt, noItem}
 use Rattle.layout.specs.declared.Rule.{Rule}
 use Rattle.layout.specs.declared.Run.{Run}
+use Rattle.layout.specs.declared.Listed.{Listed}
 
 -- where the ends of item k begin, both counted from 0, in a table of l levels
 unfoldable pub endsAt : ℕ → ℕ → ℕ
@@ -72,3 +73,25 @@ pub record Many (t : List ℕ) (place level r : ℕ) : Type 0 where
 pub record ManyAll (t : List ℕ) (place r : ℕ) : Type 0 where
   pub is : r ≡ countAll (getD (meaningIn t .items) (pred place) noItem .weights)
   pub few : r ≤ 64
+
+-- ## The listing and its index
+
+-- An accepted table, where its characters begin, and how many items it has.
+pub record Indexed (t : List ℕ) (chars items : ℕ) : Type 0 where
+  pub checked : accepted t ≡ true
+  pub chars-are : chars ≡ charsPart (length (meaningIn t .rules)) (length (meaningIn t .items))
+  pub items-are : items ≡ length (meaningIn t .items)
+
+-- where the items of bucket b begin in the listing: so many have a smaller one
+abbrev pub startFor : List Item → ℕ → ℕ
+startFor is b = below b (itemBuckets (length is) is)
+
+-- the characters of the item that is listed at k, from 0
+unfoldable pub listedChars : List Item → ℕ → List ℕ
+listedChars is k = getD is (pred (getD (listing is) k 0)) noItem .chars
+
+-- The item that is listed at k: its place, and where its four numbers stand.
+pub record Lists (t : List ℕ) (k : ℕ) (r : Listed) : Type 0 where
+  pub is : r .place ≡ getD (listing (meaningIn t .items)) k 0
+  pub room : r .from + 4 ≤ length t
+  pub numbers : (i : ℕ) → i < 4 → getD t (r .from + i) 0 ≡ getD (listedChars (meaningIn t .items) k) i pad

@@ -1,12 +1,14 @@
 // The layout of a table (docs/TABLE.md): where each part stands, and the readers of an accepted table. Offsets and strides are known here alone.
 ghost use mathlib.Core.Path.{_≡_};
 ghost use mathlib.Core.Bool.{true};
-ghost use Prim.Native.Nat.{_+_, _/_, _≤_, _<_};
+ghost use mathlib.Core.List.{[], _∷_};
+ghost use Prim.Native.Nat.{_+_, _*_, _/_, _≤_, _<_};
 ghost use lib.ListN.{length, getD, drop};
-ghost use Rattle.rules.specs.Table.{mask, accepted, meaningIn};
+ghost use Rattle.rules.specs.Table.{mask, bucket, accepted, meaningIn};
 ghost use Rattle.rules.specs.Order.{weightsAt};
 ghost use Rattle.layout.specs.Starts.{bucketFor, startAt};
 ghost use Rattle.layout.specs.Parts.{endsAt, rulesPart, weightsPart, Before, ruleAs, ruleAt, Within, Holds, Many, ManyAll};
+ghost use Rattle.layout.specs.Parts.{charsPart, startFor, Indexed, Lists};
 use units::Rank;
 
 // How the entries of a level are walked.
@@ -190,4 +192,50 @@ pub fn weight(t: &[u32], at: usize) -> Rank
     ensures { λ r. ⌜ r .0 ≡ getD (now (t .entry)) at 0 ⌝ }
 {
     Rank(t[at])
+}
+
+// An item that the listing lists: its place in the table, from 1, and where its four numbers begin.
+pub struct Listed {
+    pub place: usize,
+    pub from: usize,
+}
+
+// Where the characters begin.
+pub fn characters(t: &[u32]) -> usize
+    requires { ⌜ accepted (now t) ≡ true ⌝ }
+    ensures { λ r. ⌜ r ≡ charsPart (length (meaningIn (now (t .entry)) .rules)) (length (meaningIn (now (t .entry)) .items)) ⌝ }
+{
+    let l = levels(t);
+    let n = items(t);
+    ends_at(l, n)
+}
+
+// The bucket of a character.
+pub fn bucket_in(t: &[u32], c: u32) -> usize
+    requires { ⌜ accepted (now t) ≡ true ⌝ }
+    ensures { λ r. ⌜ r ≡ bucket (length (meaningIn (now (t .entry)) .items)) (c ∷ []) ⌝ }
+{
+    (c & t[3]) as usize
+}
+
+// Where the items of a bucket begin in the listing, from 0.
+pub fn start_in(t: &[u32], chars: usize, items: usize, b: usize) -> usize
+    requires { ⌜ Indexed (now t) chars items ⌝ }
+    requires { ⌜ b < 2 * items ⌝ }
+    ensures { λ r. ⌜ r ≡ startFor (meaningIn (now (t .entry)) .items) b ⌝ }
+{
+    start_of(t, chars + 5 * items, b) as usize
+}
+
+// The item that is listed at k, from 0.
+pub fn item_at(t: &[u32], chars: usize, items: usize, k: usize) -> Listed
+    requires { ⌜ Indexed (now t) chars items ⌝ }
+    requires { ⌜ k < items ⌝ }
+    ensures { λ r. ⌜ Lists (now (t .entry)) k r ⌝ }
+{
+    let place = t[chars + 4 * items + k] as usize;
+    Listed {
+        place: place,
+        from: chars + 4 * (place - 1),
+    }
 }

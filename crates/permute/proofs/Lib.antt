@@ -1,5 +1,7 @@
 pub mod OrderLaws
 pub mod CompareLaws
-pub mod StoredLaws
 pub mod WriteLaws
+pub mod StartLaws
+pub mod PlaceLaws
 pub mod SortedLaws
+pub mod StoredLaws

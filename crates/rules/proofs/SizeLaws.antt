@@ -21,7 +21,7 @@ weights-length [] rest = omega arith
 weights-length (i ∷ is) rest =
     omega (arith, length-append (flatten (i .weights)) (weightNumbers is rest), flatten-length (i .weights), weights-length is rest)
 
-sums-length : (at : ℕ) (ns : List ℕ) → length (sums at ns) ≡ length ns
+pub sums-length : (at : ℕ) (ns : List ℕ) → length (sums at ns) ≡ length ns
 unfolding sums
 sums-length at [] = refl
 sums-length at (n ∷ ns) = ap suc (sums-length (at + n) ns)
@@ -51,7 +51,7 @@ pub listing-length : (is : List Item) → length (listing is) ≡ length is
 unfolding listing
 listing-length is = length-map (sorted (keyed (length is) 1 is)) placeOf ∙ sorted-length (keyed (length is) 1 is) ∙ keyed-length (length is) 1 is
 
-startsFrom-length : (n b : ℕ) (qs : List ℕ) → length (startsFrom n b qs) ≡ n
+pub startsFrom-length : (n b : ℕ) (qs : List ℕ) → length (startsFrom n b qs) ≡ n
 unfolding startsFrom
 startsFrom-length zero b qs = refl
 startsFrom-length (suc n) b qs = ap suc (startsFrom-length n (suc (suc b)) qs)

@@ -1,15 +1,12 @@
--- Which of two runs of four numbers comes first: the loop of before_at, and the answer of may_follow.
+-- Which of two runs of four numbers comes first: the loop of before_at.
 use mathlib.Core.Path.{_≡_, sym, _∙_}
 use mathlib.Core.Bool.{Bool, true, false}
 use mathlib.Core.List.{List, _∷_}
 use Prim.Native.Nat.{ℕ, _+_, _-_, _≤_, _<_}
-use native.Mathlib.Numerals.{sub-one}
 use native.Mathlib.Omega.{arith}
 use lib.ListN.{length, getD, take, drop}
 use borrow.Author.Tests.{lt-ltb, le-ltb, eq-eqb, ne-eqb}
 use Rattle.rules.specs.Table.{before}
-use Rattle.layout.specs.Parts.{recordAt}
-use Rattle.table.specs.Checks.{keyIn, follows}
 use Rattle.lists.proofs.Runs.{run, run-whole, run-none, run-cons}
 
 -- ## before_at
@@ -67,14 +64,3 @@ module _ {t : List ℕ} {a b i : ℕ} (v : Alike t a b i) where
   pub alike-all : 4 ≤ i → false ≡ before (take 4 (drop a t)) (take 4 (drop b t))
   unfolding before
   alike-all h = sym (v .same ∙ rw (run-none t (a + i) (a + 4) (omega arith)))
-
--- ## may_follow
-
-pub follows-first : (t : List ℕ) (l p : ℕ) {last : ℕ} → last ≡ 0 → true ≡ follows t l last p
-unfolding follows
-follows-first t l p {last} e = rw (eq-eqb last 0 e)
-
-pub follows-larger : (t : List ℕ) (l last p : ℕ) {a b : ℕ} {r : Bool} → (last ≡ 0 → ⊥) → a ≡ recordAt l (last - 1) → b ≡ recordAt l (p - 1)
-    → r ≡ before (take 4 (drop a t)) (take 4 (drop b t)) → r ≡ follows t l last p
-unfolding follows keyIn
-follows-larger t l last p n e f h = h ∙ rw (e, f, sub-one last, sub-one p, ne-eqb last 0 n)

@@ -1,17 +1,19 @@
 -- The answers of head_passes, one law for each return; and what a header that passes tells of its numbers.
-use mathlib.Core.Path.{_≡_, sym, _∙_}
+use mathlib.Core.Path.{_≡_, refl, sym, _∙_}
 use mathlib.Core.Bool.{Bool, true, false, _&&_}
-use mathlib.Core.List.{List}
-use Prim.Native.Nat.{ℕ, _+_, _≤_, _<_}
+use mathlib.Core.List.{List, [], _∷_}
+use Prim.Native.Nat.{ℕ, zero, suc, _+_, _≤_, _<_}
 use native.Mathlib.Omega.{arith}
 use lib.ListN.{length, getD, take, drop}
-use lib.Dec.{leb}
-use borrow.Author.Tests.{leb-true, le-leb, lt-leb}
+use lib.Seq.{getD-take, getD-drop}
+use lib.Dec.{leb, eqb}
+use borrow.Author.Tests.{leb-true, le-leb, lt-leb, eqb-true, eq-eqb, ne-eqb}
 use Rattle.lists.proofs.Bools.{and-left, and-right}
 use Rattle.rules.specs.Text.{within, every}
-use Rattle.layout.specs.Parts.{recordAt}
+use Rattle.rules.specs.Table.{mask}
+use Rattle.rules.proofs.TextLaws.{every-head, every-tail}
+use Rattle.layout.specs.Parts.{weightsPart}
 use Rattle.table.specs.Checks.{headPasses}
-use Rattle.layout.proofs.LayoutLaws.{recordAt-is}
 
 -- ## head_passes
 
@@ -41,17 +43,22 @@ module _ (t : List ℕ) (long : 16 ≤ length t) where
     unfolding headPasses
     head-many-items h = rw (le-leb 16 (length t) long, levels-pass, le-leb 1 (getD t 1 0) (omega arith), lt-leb (getD t 1 0) 32768 h)
 
-    module _ (some′ : getD t 1 0 ≡ 0 → ⊥) (few′ : getD t 1 0 ≤ 32768) {r : Bool} (zeros : r ≡ every (within 0 0) (take 13 (drop 3 t))) where
+    module _ (some′ : getD t 1 0 ≡ 0 → ⊥) (few′ : getD t 1 0 ≤ 32768) {m : ℕ} (is : m ≡ mask (getD t 1 0)) where
       items-pass : within 1 32768 (getD t 1 0) ≡ true
       items-pass = rw (le-leb 1 (getD t 1 0) (omega arith), le-leb (getD t 1 0) 32768 few′)
 
-      pub head-spare : r ≡ false → false ≡ headPasses t
+      pub head-mask : (getD t 3 0 ≡ m → ⊥) → false ≡ headPasses t
       unfolding headPasses
-      head-spare e = rw (le-leb 16 (length t) long, levels-pass, items-pass, ← zeros, e)
+      head-mask e = rw (le-leb 16 (length t) long, levels-pass, items-pass, ← is, ne-eqb (getD t 3 0) m e)
 
-      pub head-room : {end : ℕ} → r ≡ true → end ≡ recordAt (getD t 0 0) (getD t 1 0) → leb (end + getD t 2 0) (length t) ≡ headPasses t
-      unfolding headPasses
-      head-room e f = rw (le-leb 16 (length t) long, levels-pass, items-pass, ← zeros, e, f)
+      module _ (masked : getD t 3 0 ≡ m) {r : Bool} (zeros : r ≡ every (within 0 0) (take 12 (drop 4 t))) where
+        pub head-spare : r ≡ false → false ≡ headPasses t
+        unfolding headPasses
+        head-spare e = rw (le-leb 16 (length t) long, levels-pass, items-pass, ← is, eq-eqb (getD t 3 0) m masked, ← zeros, e)
+
+        pub head-room : {end : ℕ} → r ≡ true → end ≡ weightsPart (getD t 0 0) (getD t 1 0) → leb (end + getD t 2 0) (length t) ≡ headPasses t
+        unfolding headPasses
+        head-room e f = rw (le-leb 16 (length t) long, levels-pass, items-pass, ← is, eq-eqb (getD t 3 0) m masked, ← zeros, e, f)
 
 -- ## A header that passes
 
@@ -62,8 +69,17 @@ pub record Headed (t : List ℕ) : Type 0 where
   pub few-levels : getD t 0 0 ≤ 8
   pub some-items : 1 ≤ getD t 1 0
   pub few-items : getD t 1 0 ≤ 32768
-  pub rules : 16 + getD t 0 0 ≤ length t
-  pub room : recordAt (getD t 0 0) (getD t 1 0) + getD t 2 0 ≤ length t
+  pub masked : getD t 3 0 ≡ mask (getD t 1 0)
+  pub spare : every (within 0 0) (take 12 (drop 4 t)) ≡ true
+  pub before-ends : getD t 15 0 ≡ 0
+  pub room : weightsPart (getD t 0 0) (getD t 1 0) + getD t 2 0 ≤ length t
+
+zero-at : (xs : List ℕ) (k : ℕ) → every (within 0 0) xs ≡ true → getD xs k 0 ≡ 0
+zero-at [] k h = refl
+zero-at (x ∷ xs) zero h =
+    let b = leb-true x 0 (and-right (leb 0 x) (leb x 0) (every-head (within 0 0) x xs h)) in
+    omega arith
+zero-at (x ∷ xs) (suc k) h = zero-at xs k (every-tail (within 0 0) x xs h)
 
 pub head-parts : (t : List ℕ) {r : Bool} → r ≡ headPasses t → r ≡ true → Headed t
 unfolding headPasses
@@ -73,20 +89,26 @@ head-parts t p e =
     let long : Bool = leb 16 (length t) in
     let levels : Bool = within 1 8 l in
     let items : Bool = within 1 32768 n in
-    let zeros : Bool = every (within 0 0) (take 13 (drop 3 t)) in
-    let room : Bool = leb (recordAt l n + getD t 2 0) (length t) in
-    let all : (long && levels && items && zeros && room) ≡ true = sym p ∙ e in
-    let three : (long && levels && items) ≡ true = and-left (long && levels && items) zeros (and-left (long && levels && items && zeros) room all) in
+    let masks : Bool = eqb (getD t 3 0) (mask n) in
+    let zeros : Bool = every (within 0 0) (take 12 (drop 4 t)) in
+    let room : Bool = leb (weightsPart l n + getD t 2 0) (length t) in
+    let all : (long && levels && items && masks && zeros && room) ≡ true = sym p ∙ e in
+    let five : (long && levels && items && masks && zeros) ≡ true = and-left (long && levels && items && masks && zeros) room all in
+    let four : (long && levels && items && masks) ≡ true = and-left (long && levels && items && masks) zeros five in
+    let three : (long && levels && items) ≡ true = and-left (long && levels && items) masks four in
     let two : (long && levels) ≡ true = and-left (long && levels) items three in
     let of-levels : levels ≡ true = and-right long levels two in
+    let of-spare : zeros ≡ true = and-right (long && levels && items && masks) zeros five in
     let of-items : items ≡ true = and-right (long && levels) items three in
-    let fits = leb-true (recordAt l n + getD t 2 0) (length t) (and-right (long && levels && items && zeros) room all) in
     record {
       long = leb-true 16 (length t) (and-left long levels two);
       some-levels = leb-true 1 l (and-left (leb 1 l) (leb l 8) of-levels);
       few-levels = leb-true l 8 (and-right (leb 1 l) (leb l 8) of-levels);
       some-items = leb-true 1 n (and-left (leb 1 n) (leb n 32768) of-items);
       few-items = leb-true n 32768 (and-right (leb 1 n) (leb n 32768) of-items);
-      rules = omega (arith, fits, recordAt-is l n);
-      room = fits;
+      masked = eqb-true (getD t 3 0) (mask n) (and-right (long && levels && items) masks four);
+      spare = of-spare;
+      before-ends =
+          sym (getD-drop 4 t 11 0) ∙ sym (getD-take 12 (drop 4 t) 11 0 (omega arith)) ∙ zero-at (take 12 (drop 4 t)) 11 of-spare;
+      room = leb-true (weightsPart l n + getD t 2 0) (length t) (and-right (long && levels && items && masks && zeros) room all);
     }

@@ -1,8 +1,8 @@
--- One record of a table: which item its numbers store where they pass, and that the numbers which store a good item pass.
+-- One item of a table: which characters and weights its numbers store where they pass, and that the numbers which store a good item pass.
 use mathlib.Core.Path.{_≡_, refl, sym, _∙_}
 use mathlib.Core.Bool.{Bool, true, _&&_}
 use mathlib.Core.List.{List, [], _∷_, _++_, flatten, append-assoc}
-use Prim.Native.Nat.{ℕ, zero, suc, _≤_}
+use Prim.Native.Nat.{ℕ, zero, suc, _+_, _≤_}
 use native.Mathlib.Omega.{arith}
 use lib.ListN.{length, getD, take, drop, length-drop, take-append-drop}
 use lib.Seq.{length-take-le, take-add, drop-drop}
@@ -12,9 +12,9 @@ use Rattle.lists.proofs.Bools.{and-left, and-right, and-intro, by}
 use Rattle.rules.specs.Text.{within, every}
 use Rattle.rules.specs.Names.{isCharacter}
 use Rattle.rules.specs.Meaning.{countAll, goodWeights}
-use Rattle.rules.specs.Table.{pad, padded, unpadded, counts, cutBy, total}
+use Rattle.rules.specs.Table.{pad, padded, unpadded, counts, cutBy}
 use Rattle.rules.proofs.TextLaws.{every-append, every-head, every-tail}
-use Rattle.rules.proofs.TableLaws.{char-no-pad}
+use Rattle.rules.proofs.StorableLaws.{char-no-pad}
 use Rattle.rules.proofs.WidthLaws.{good-count}
 use Rattle.table.specs.Checks.{allPad, charsPass}
 
@@ -71,20 +71,22 @@ padded-passes (a ∷ b ∷ c ∷ []) h k = characters-pass (a ∷ b ∷ c ∷ []
 padded-passes (a ∷ b ∷ c ∷ d ∷ []) h k = characters-pass (a ∷ b ∷ c ∷ d ∷ []) [] k refl
 padded-passes (a ∷ b ∷ c ∷ d ∷ e ∷ cs) h k = absurd (omega arith)
 
--- a record of which the characters pass stores them
-pub record-whole : (rs : List ℕ) → 6 ≤ length rs → charsPass (take 4 rs) ≡ true
-    → padded (unpadded (take 4 rs)) (getD rs 4 0 ∷ getD rs 5 0 ∷ drop 6 rs) ≡ rs
-record-whole [] h k = absurd (omega arith)
-record-whole (a ∷ []) h k = absurd (omega arith)
-record-whole (a ∷ b ∷ []) h k = absurd (omega arith)
-record-whole (a ∷ b ∷ c ∷ []) h k = absurd (omega arith)
-record-whole (a ∷ b ∷ c ∷ d ∷ []) h k = absurd (omega arith)
-record-whole (a ∷ b ∷ c ∷ d ∷ e ∷ []) h k = absurd (omega arith)
-record-whole (a ∷ b ∷ c ∷ d ∷ e ∷ f ∷ rs) h k =
+-- four numbers that pass store their characters
+pub chars-whole : (cs : List ℕ) → 4 ≤ length cs → charsPass (take 4 cs) ≡ true → padded (unpadded (take 4 cs)) (drop 4 cs) ≡ cs
+chars-whole [] h k = absurd (omega arith)
+chars-whole (a ∷ []) h k = absurd (omega arith)
+chars-whole (a ∷ b ∷ []) h k = absurd (omega arith)
+chars-whole (a ∷ b ∷ c ∷ []) h k = absurd (omega arith)
+chars-whole (a ∷ b ∷ c ∷ d ∷ rs) h k =
     let cs : List ℕ = a ∷ b ∷ c ∷ d ∷ [] in
     rw (unpadded-at cs 0 k, unpadded-at cs 1 k, unpadded-at cs 2 k, unpadded-at cs 3 k)
 
 -- ## Its weights
+
+-- all of them together
+unfoldable pub total : List ℕ → ℕ
+total [] = 0
+total (n ∷ ns) = n + total ns
 
 -- the counts of an item's levels add up to the number of its weights
 pub total-counts : (ws : List (List ℕ)) → total (counts ws) ≡ countAll ws

@@ -10,8 +10,8 @@ use Rattle.rules.specs.Table.{accepted}
 use Rattle.rules.specs.Calls.{checkCall}
 use Rattle.units.specs.declared.Refusal.the-variants.{NotAccepted}
 use Rattle.table.specs.declared.Verdict.the-variants.{Accepted, Refused}
-use Rattle.layout.specs.Parts.{recordAt}
-use Rattle.table.specs.Checks.{headPasses, recordsPass, checks}
+use Rattle.layout.specs.Parts.{rulesPart, weightsPart}
+use Rattle.table.specs.Checks.{headPasses, itemsPass, checks}
 use Rattle.table.specs.Answers.{checkedAs}
 use Rattle.table.proofs.HeadLaws.{Headed, head-parts}
 use Rattle.table.proofs.CheckLaws.{accepted-checks, accepted-sized}
@@ -23,10 +23,10 @@ checks-head t h =
     let n : ℕ = getD t 1 0 in
     let w : ℕ = getD t 2 0 in
     let head : Bool = headPasses t in
-    let rules : Bool = every (within 0 3) (take l (drop 16 t)) in
-    let records : Bool = recordsPass t l n w n 0 0 (drop (recordAt l 0) t) in
-    let weights : Bool = every (within 1 32768) (take w (drop (recordAt l n) t)) in
-    and-left head rules (and-left (head && rules) records (and-left (head && rules && records) weights h))
+    let items : Bool = itemsPass t l n w in
+    let rules : Bool = every (within 0 3) (take l (drop (rulesPart l n) t)) in
+    let weights : Bool = every (within 1 32768) (take w (drop (weightsPart l n) t)) in
+    and-left head items (and-left (head && items) rules (and-left (head && items && rules) weights h))
 
 module _ (t : List ℕ) {r : Bool} (is : r ≡ accepted t) where
   pub accepted-headed : r ≡ true → Headed t
@@ -36,7 +36,7 @@ module _ (t : List ℕ) {r : Bool} (is : r ≡ accepted t) where
   unfolding checkCall
   check-refused e = rw (← is, e)
 
-  pub check-accepted : {from : ℕ} → r ≡ true → from ≡ recordAt (getD t 0 0) (getD t 1 0)
+  pub check-accepted : {from : ℕ} → r ≡ true → from ≡ weightsPart (getD t 0 0) (getD t 1 0)
       → checkedAs (Accepted (record { levels = getD t 0 0; items = getD t 1 0; size = from + getD t 2 0 })) ≡ checkCall t
   unfolding checkCall
   check-accepted e f = let s = accepted-sized t (sym is ∙ e) in rw (← is, e, f, s .size, s .levels, s .items)

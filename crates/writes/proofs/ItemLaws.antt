@@ -1,14 +1,14 @@
--- The characters of an item, and its whole record.
+-- The characters of an item, and the whole item.
 use mathlib.Core.Path.{_≡_, refl, sym, ap, _∙_, subst}
-use mathlib.Core.List.{List, [], _∷_, map, flatten}
-use Prim.Native.Nat.{ℕ, suc, _+_, _*_, _/_, _≤_, _<_}
+use mathlib.Core.List.{List, [], _∷_, flatten}
+use Prim.Native.Nat.{ℕ, suc, _+_, _-_, _*_, _/_, _≤_, _<_}
 use native.Mathlib.Numerals.{add-one, add-two}
 use native.Mathlib.Omega.{arith}
-use lib.ListN.{length, getD, set, drop, length-set}
+use lib.ListN.{length, getD, set, drop}
 use lib.Seq.{sets, length-sets}
 use borrow.Author.Tests.{le-leb, lt-leb, ne-eqb, eq-eqb}
 use Rattle.rules.specs.Lines.{quoted}
-use Rattle.rules.specs.Table.{pad, padded}
+use Rattle.rules.specs.Table.{pad, padded, sums, counts}
 use Rattle.lines.specs.declared.Signs.{Signs}
 use Rattle.lines.specs.declared.Spot.{Spot}
 use Rattle.names.specs.Named.{nameLeft}
@@ -94,46 +94,32 @@ module _ (len : ℕ) (w : List ℕ) (mark : ℕ) (r : CharsReady len w mark) whe
     pub chars-quotes : {q x : ℕ} → q ≡ x → x ≡ cell w mark charsNumber → q / 2 ≤ len
     chars-quotes {q} j i = let e : q ≡ cell w mark charsNumber = j ∙ i in rw e (r .quotes h)
 
--- ## The whole record
-
--- the characters, two numbers, and what follows them
-item-record : (area : List ℕ) (from start : ℕ) (cs ys : List ℕ)
-    → sets (set (set (sets area from (padded cs [])) (from + 4) start) (from + 5) 0) (from + 6) ys ≡ sets area from (padded cs (start ∷ 0 ∷ ys))
-item-record area from start cs ys =
-    let e₄ : from + 4 ≡ suc (suc (suc (suc from))) = omega arith in
-    let e₅ : from + 5 ≡ suc (suc (suc (suc (suc from)))) = omega arith in
-    let e₆ : from + 6 ≡ suc (suc (suc (suc (suc (suc from))))) = omega arith in
-    rw (e₄, e₅, e₆)
+-- ## The whole item
 
 module _ (g : Signs) (src w : List ℕ) (mark levels : ℕ) where
-  module _ (area : List ℕ) (from at : ℕ) (h : ItemRoom g src w mark levels area from at) where
+  module _ (area : List ℕ) (slots from base at : ℕ) (h : ItemRoom g src w mark levels area slots from base at) where
     pub item-chars : from + 4 ≤ length area
-    item-chars = omega (arith, h .before, h .room)
+    item-chars = omega (arith, h .chars, h .behind, h .room)
 
     module _ {now : List ℕ} (p : now ≡ sets area from (padded (itemChars g src w mark) [])) where
       long : length now ≡ length area
       long = ap length p ∙ length-sets area from (padded (itemChars g src w mark) [])
 
-      pub item-start : from + 4 < length now
-      item-start = omega (arith, long, h .before, h .room)
-
-      pub item-place : (start : ℕ) → from + 5 < length (set now (from + 4) start)
-      item-place start = omega (arith, long, length-set now (from + 4) start, h .before, h .room)
-
-      module _ {place x : ℕ} (e : place ≡ x) (i : x ≡ cell w mark placeNumber) {own : ℕ} (j : own ≡ cell w mark rankNumber) (start : ℕ) where
-        pub item-room : LineRoom g src place levels own (set (set now (from + 4) start) (from + 5) 0) (from + 6) at
+      module _ {place x : ℕ} (e : place ≡ x) (i : x ≡ cell w mark placeNumber) {own : ℕ} (j : own ≡ cell w mark rankNumber) where
+        pub item-room : LineRoom g src place levels own now slots base at
         unfolding itemRanks
         item-room =
             let z : place ≡ cell w mark placeNumber = e ∙ i in
             record {
-              before = h .before;
+              before = omega (arith, h .ends, h .chars);
+              from = h .behind;
               by = h .by;
-              room = rw (z, j) (omega (arith, h .room, long, length-set now (from + 4) start, length-set (set now (from + 4) start) (from + 5) 0));
+              room = rw (z, j) (omega (arith, h .room, long));
+              small = rw (z, j) (h .small);
             }
 
-        pub item-put : {after : List ℕ} {next : ℕ}
-            → LinePut g src w place levels own (set (set now (from + 4) start) (from + 5) 0) (from + 6) at after next
-            → ItemPut g src w mark levels start area from at after next
+        pub item-put : {after : List ℕ} {next : ℕ} → LinePut g src w place levels own now slots base at after next
+            → ItemPut g src w mark levels area slots from base at after next
         unfolding itemRanks
         item-put k =
             let z : place ≡ cell w mark placeNumber = e ∙ i in
@@ -142,17 +128,14 @@ module _ (g : Signs) (src w : List ℕ) (mark levels : ℕ) where
                   let R : List (List ℕ) = ranksAt g src (cell w mark placeNumber) levels (cell w mark rankNumber) (rankIn w ds) in
                   let d : ranksAt g src place levels own (rankIn w ds) ≡ R = rw (z, j) in
                   k .is n ds o
-                  ∙ ap (λ (r : List (List ℕ)). sets (sets (set (set now (from + 4) start) (from + 5) 0) (from + 6) (map length r)) at (flatten r)) d
-                  ∙ ap (λ (a : List ℕ). sets (sets (set (set a (from + 4) start) (from + 5) 0) (from + 6) (map length R)) at (flatten R)) p
-                  ∙ ap (λ (a : List ℕ). sets a at (flatten R)) (item-record area from start (itemChars g src w mark) (map length R));
+                  ∙ ap (λ (r : List (List ℕ)). sets (sets now slots (sums (at - base) (counts r))) at (flatten r)) d
+                  ∙ ap (λ (a : List ℕ). sets (sets a slots (sums (at - base) (counts R))) at (flatten R)) p;
               to = λ n ds o. rw (z, j) at (k .to n ds o);
             }
 
-        pub item-same : {after : List ℕ} {next : ℕ} → Sound (keyAt g src) (length src) w
-            → LinePut g src w place levels own (set (set now (from + 4) start) (from + 5) 0) (from + 6) at after next → length after ≡ length area
+        pub item-same : {after : List ℕ} {next : ℕ} → Sound (keyAt g src) (length src) w → LinePut g src w place levels own now slots base at after next
+            → length after ≡ length area
         item-same s k =
             let R : List (List ℕ) = ranksAt g src place levels own (rankIn w (s .ds)) in
-            let a : List ℕ = set now (from + 4) start in
-            let b : List ℕ = set a (from + 5) 0 in
-            ap length (k .is (s .n) (s .ds) (s .holds)) ∙ length-sets (sets b (from + 6) (map length R)) at (flatten R)
-            ∙ length-sets b (from + 6) (map length R) ∙ length-set a (from + 5) 0 ∙ length-set now (from + 4) start ∙ long
+            let es : List ℕ = sums (at - base) (counts R) in
+            ap length (k .is (s .n) (s .ds) (s .holds)) ∙ length-sets (sets now slots es) at (flatten R) ∙ length-sets now slots es ∙ long

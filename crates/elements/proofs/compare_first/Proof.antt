@@ -1,8 +1,9 @@
 -- `elements::compare_first` meets its contract. The loop's invariant: the run over what both walks have still to come, with the entries passed, is the run over the whole first levels. The measure is how many entries the first walk has still to come.
-use Rattle.elements.proofs.CompareLaws.{Comparing, comparing-none, comparing-more, comparing-fewer, first-before, first-after, first-same}
+use Rattle.elements.proofs.CompareLaws.{Comparing, comparing-none, comparing-on, fewer-on, comparing-more, comparing-fewer, first-before, first-after, first-same}
 use lib.ListN.{length}
 use Rattle.elements.specs.Firsts.{entriesLeft}
 use borrow.Author.Needs.{needs}
+use native.Mathlib.Omega.{arith}
 use Rattle.elements.proofs.compare_first.Statement.{statement}
 use Rattle.elements.proofs.compare_first.Tie as tie
 
@@ -21,14 +22,16 @@ start-requires-2 c κs = search needs
 loop-holds : tie.Need-loop-holds Inv-loop μ-loop
 loop-holds c = search comparing-none
 
-next-first-requires : tie.Need-next-first-requires Inv-loop μ-loop
-next-first-requires c κs = search needs
+together-requires : tie.Need-together-requires Inv-loop μ-loop
+together-requires c κs =
+    let v = c .before .before .loop .inv in
+    (v .first .ready, (v .second .ready, (v .first .sound, (v .second .sound, omega (arith, v .few)))))
 
-next-first-requires-2 : tie.Need-next-first-requires-2 Inv-loop μ-loop
-next-first-requires-2 c κs = search needs
-
-meet-requires : tie.Need-meet-requires Inv-loop μ-loop
-meet-requires c κs = search needs
+next-meeting-requires : tie.Need-next-meeting-requires Inv-loop μ-loop
+next-meeting-requires c κs =
+    let s = c .before .before .before .before .before .before .before .before in
+    let v = comparing-on (s .before .before .before .loop .inv) (search needs) (search needs) (s .together .ensures) in
+    (v .first .ready, (v .second .ready, (v .first .sound, v .second .sound)))
 
 enum-told : tie.Need-enum-told Inv-loop μ-loop
 enum-told c = search needs
@@ -40,7 +43,11 @@ same-length-2 : tie.Need-same-length-2 Inv-loop μ-loop
 same-length-2 c = search needs
 
 returns : tie.Need-returns Inv-loop μ-loop
-returns c = search first-before
+returns c =
+    let m = c .before .before .before .before .before .before in
+    let s = m .before .before .before .before .before .before .before .before .before in
+    let v = comparing-on (s .before .before .before .loop .inv) (search needs) (search needs) (s .together .ensures) in
+    first-before _ _ (m .next-meeting .result) v (m .next-meeting .ensures) (search needs)
 
 enum-told-2 : tie.Need-enum-told-2 Inv-loop μ-loop
 enum-told-2 c = search needs
@@ -52,7 +59,11 @@ same-length-4 : tie.Need-same-length-4 Inv-loop μ-loop
 same-length-4 c = search needs
 
 returns-2 : tie.Need-returns-2 Inv-loop μ-loop
-returns-2 c = search first-after
+returns-2 c =
+    let m = c .before .before .before .before .before .before in
+    let s = m .before .before .before .before .before .before .before .before .before in
+    let v = comparing-on (s .before .before .before .loop .inv) (search needs) (search needs) (s .together .ensures) in
+    first-after _ _ (m .next-meeting .result) v (m .next-meeting .ensures) (search needs)
 
 enum-known-met : tie.Need-enum-known-met Inv-loop μ-loop
 enum-known-met c = search needs
@@ -64,19 +75,34 @@ same-length-6 : tie.Need-same-length-6 Inv-loop μ-loop
 same-length-6 c = search needs
 
 returns-3 : tie.Need-returns-3 Inv-loop μ-loop
-returns-3 c = search first-same
+returns-3 c =
+    let m = c .before .before .before .before .before .before .before in
+    let s = m .before .before .before .before .before .before .before .before .before in
+    let v = comparing-on (s .before .before .before .loop .inv) (search needs) (search needs) (s .together .ensures) in
+    first-same _ _ (m .next-meeting .result) v (m .next-meeting .ensures) (search needs)
 
 enum-known-met-2 : tie.Need-enum-known-met-2 Inv-loop μ-loop
 enum-known-met-2 c = search needs
 
 add-agreed : tie.Need-add-agreed Inv-loop μ-loop
-add-agreed c = search needs
+add-agreed c =
+    let s = c .before .before .before .before .before .before .before .before .before .before .before .before .before .before .before .before in
+    let v = comparing-on (s .before .before .before .loop .inv) (search needs) (search needs) (s .together .ensures) in
+    omega (arith, v .few)
 
 loop-less : tie.Need-loop-less Inv-loop μ-loop
-loop-less c = search comparing-fewer
+loop-less c =
+    let m = c .before .before .before .before .before .before .before in
+    let s = m .before .before .before .before .before .before .before .before .before in
+    let v = comparing-on (s .before .before .before .loop .inv) (search needs) (search needs) (s .together .ensures) in
+    fewer-on _ _ (s .together .ensures) (search (comparing-fewer _ _ (m .next-meeting .result) v (m .next-meeting .ensures)))
 
 loop-again : tie.Need-loop-again Inv-loop μ-loop
-loop-again c = search comparing-more
+loop-again c =
+    let m = c .before .before .before .before .before .before .before in
+    let s = m .before .before .before .before .before .before .before .before .before in
+    let v = comparing-on (s .before .before .before .loop .inv) (search needs) (search needs) (s .together .ensures) in
+    comparing-more _ _ (m .next-meeting .result) v (m .next-meeting .ensures) (search needs) (search needs) (search needs)
 
 pub compare-first-spec : {M : Type 1} → statement M
 compare-first-spec =
@@ -87,9 +113,8 @@ compare-first-spec =
     start-requires
     start-requires-2
     loop-holds
-    next-first-requires
-    next-first-requires-2
-    meet-requires
+    together-requires
+    next-meeting-requires
     enum-told
     same-length
     same-length-2

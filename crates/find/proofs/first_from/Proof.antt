@@ -1,24 +1,35 @@
--- `find::first_from` meets its contract. The loop's invariant: the items listed before lo come before the key, and the one listed at hi does not. The measure is hi - lo.
+-- `find::first_from` meets its contract. The loop's invariant: the items listed before lo come before the key, the one listed at hi does not, and those
+-- between stand in the key's bucket. The measure is hi - lo.
 use Prim.Native.Nat.{_-_}
 use native.Mathlib.Omega.{arith}
 use borrow.Author.Needs.{needs}
 use Rattle.rules.specs.Table.{meaningIn}
+use Rattle.layout.proofs.IndexLaws.{indexed-sizes}
 use Rattle.find.specs.Search.{numbersOf}
-use Rattle.find.proofs.SearchLaws.{search-some, Halving, halving-start, halving-up, halving-down, halving-end}
+use Rattle.find.proofs.SearchLaws.{next-bucket, Halving, halving-start, halving-up, halving-down, halving-end}
 use Rattle.find.proofs.first_from.Statement.{statement}
 use Rattle.find.proofs.first_from.Tie as tie
 
 abbrev Inv-loop : tie.InvT-loop
-Inv-loop t levels items key lo₀ hi₀ lo hi = Halving (meaningIn t .items) items (numbersOf key) lo hi
+Inv-loop t chars items key bucket next lo₀ hi₀ lo hi = Halving (meaningIn t .items) items (numbersOf key) lo hi
 
 abbrev μ-loop : tie.MeasureT-loop
-μ-loop t levels items key lo₀ hi₀ lo hi = hi - lo
+μ-loop t chars items key bucket next lo₀ hi₀ lo hi = hi - lo
 
-sub-hi : tie.Need-sub-hi Inv-loop μ-loop
-sub-hi c = omega (arith, search-some (c .before .pre .0))
+bucket-in-requires : tie.Need-bucket-in-requires Inv-loop μ-loop
+bucket-in-requires c κs = search needs
+
+add-next : tie.Need-add-next Inv-loop μ-loop
+add-next c = let w = c .before .before .pre in omega (arith, indexed-sizes w, next-bucket w _ (c .bucket-in .ensures))
+
+start-in-requires : tie.Need-start-in-requires Inv-loop μ-loop
+start-in-requires c κs = let w = c .before .before .pre in (w, omega (arith, next-bucket w _ (c .bucket-in .ensures)))
+
+start-in-requires-2 : tie.Need-start-in-requires-2 Inv-loop μ-loop
+start-in-requires-2 c κs = let w = c .before .before .before .pre in (w, next-bucket w _ (c .before .bucket-in .ensures))
 
 loop-holds : tie.Need-loop-holds Inv-loop μ-loop
-loop-holds c = halving-start _ _ _ (search-some (c .before .pre .0)) (c .before .pre .1)
+loop-holds c = search halving-start
 
 sub-mid : tie.Need-sub-mid Inv-loop μ-loop
 sub-mid c = search needs
@@ -56,7 +67,10 @@ first-from-spec =
     (tie.spec
     Inv-loop
     μ-loop
-    sub-hi
+    bucket-in-requires
+    add-next
+    start-in-requires
+    start-in-requires-2
     loop-holds
     sub-mid
     add-mid

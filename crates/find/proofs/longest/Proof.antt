@@ -1,72 +1,28 @@
--- `find::longest` meets its contract. The loop's invariant: no item that begins at the place has more than `size` characters. The measure is `size`.
-use native.Mathlib.Omega.{arith}
+-- `find::longest` meets its contract: a character that is an item whatever follows it is the element; else it is searched for.
+use Rattle.find.proofs.QuickLaws.{quick-character, quick-stands}
 use borrow.Author.Needs.{needs}
-use Rattle.find.proofs.SearchLaws.{search-some}
-use Rattle.find.proofs.LookLaws.{Seeking, seeking-start, seeking-ahead, seeking-found, seeking-less, seeking-more, seeking-none}
 use Rattle.find.proofs.longest.Statement.{statement}
 use Rattle.find.proofs.longest.Tie as tie
 
-abbrev Inv-loop : tie.InvT-loop
-Inv-loop t s at l n size₀ size = Seeking t s at l n size
+mul-quick : tie.Need-mul-quick
+mul-quick c = search needs
 
-abbrev μ-loop : tie.MeasureT-loop
-μ-loop t s at l n size₀ size = size
+shared-slice-read-quick : tie.Need-shared-slice-read-quick
+shared-slice-read-quick c = search needs
 
-levels-requires : tie.Need-levels-requires Inv-loop μ-loop
-levels-requires c κs = search needs
+quick-requires : tie.Need-quick-requires
+quick-requires c κs = search (needs, quick-character)
 
-items-requires : tie.Need-items-requires Inv-loop μ-loop
-items-requires c κs = search needs
+returns : tie.Need-returns
+returns c = search quick-stands
 
-ahead-requires : tie.Need-ahead-requires Inv-loop μ-loop
-ahead-requires c κs = search needs
+search-requires : tie.Need-search-requires
+search-requires c κs = search needs
 
-loop-holds : tie.Need-loop-holds Inv-loop μ-loop
-loop-holds c = search seeking-start
-
-look-requires : tie.Need-look-requires Inv-loop μ-loop
-look-requires c κs = let v = c .before .loop .inv in (v .counted, seeking-ahead v (c .loop-test .taken))
-
-enum-known-near : tie.Need-enum-known-near Inv-loop μ-loop
-enum-known-near c = search needs
-
-returns : tie.Need-returns Inv-loop μ-loop
-returns c = search seeking-found
-
-enum-known-near-2 : tie.Need-enum-known-near-2 Inv-loop μ-loop
-enum-known-near-2 c = search needs
-
-loop-less : tie.Need-loop-less Inv-loop μ-loop
-loop-less c = search seeking-less
-
-loop-again : tie.Need-loop-again Inv-loop μ-loop
-loop-again c = search seeking-more
-
-sub-item-at : tie.Need-sub-item-at Inv-loop μ-loop
-sub-item-at c = omega (arith, search-some (c .before .loop .inv .counted))
-
-item-at-requires : tie.Need-item-at-requires Inv-loop μ-loop
-item-at-requires c κs = let w = c .before .loop .inv .counted in (w, omega (arith, search-some w))
-
-returns-2 : tie.Need-returns-2 Inv-loop μ-loop
-returns-2 c = search seeking-none
+returns-2 : tie.Need-returns-2
+returns-2 c = search needs
 
 pub longest-spec : {M : Type 1} → statement M
 longest-spec =
     tie.close
-    (tie.spec
-    Inv-loop
-    μ-loop
-    levels-requires
-    items-requires
-    ahead-requires
-    loop-holds
-    look-requires
-    enum-known-near
-    returns
-    enum-known-near-2
-    loop-less
-    loop-again
-    sub-item-at
-    item-at-requires
-    returns-2)
+    (tie.spec mul-quick shared-slice-read-quick quick-requires returns search-requires returns-2)

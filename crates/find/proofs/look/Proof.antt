@@ -1,6 +1,6 @@
 -- `find::look` meets its contract: the first listed item that does not come before the next characters shares as many with them as each item that stands there has.
 use borrow.Author.Needs.{needs}
-use Rattle.find.proofs.LookLaws.{search-ends, look-none, look-all, look-whole, look-part}
+use Rattle.find.proofs.LookLaws.{look-none, look-all, look-whole, look-part}
 use Rattle.find.proofs.look.Statement.{statement}
 use Rattle.find.proofs.look.Tie as tie
 
@@ -8,7 +8,7 @@ key-at-requires : tie.Need-key-at-requires
 key-at-requires c κs = search needs
 
 first-from-requires : tie.Need-first-from-requires
-first-from-requires c κs = let s = c .before .before .before in (s .pre .0, search-ends (s .pre .0) (s .pre .1) (c .key-at .ensures))
+first-from-requires c κs = search needs
 
 item-at-requires : tie.Need-item-at-requires
 item-at-requires c κs = search needs

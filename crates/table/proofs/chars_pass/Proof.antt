@@ -1,42 +1,30 @@
--- `table::chars_pass` meets its contract. The loop's invariant: the numbers before i are characters, so that those from i on decide. The measure is how many are left.
+-- `table::chars_pass` meets its contract. The loop's invariant: there are no faults exactly if the items before k passed. The measure is how many are left.
 use borrow.Author.Needs.{needs}
 use Prim.Native.Nat.{_-_}
-use Rattle.table.proofs.CharLaws.{Chars, chars-none, chars-pad, chars-more, chars-no, chars-all}
+use Rattle.table.proofs.CharLaws.{Chars, chars-none, chars-more, chars-all}
 use Rattle.table.proofs.chars_pass.Statement.{statement}
 use Rattle.table.proofs.chars_pass.Tie as tie
 
 abbrev Inv-loop : tie.InvT-loop
-Inv-loop t at i₀ end i = Chars t at end i
+Inv-loop t from items k₀ faults₀ k faults = Chars t from items k faults
 
 abbrev μ-loop : tie.MeasureT-loop
-μ-loop t at i₀ end i = end - i
-
-add-end : tie.Need-add-end Inv-loop μ-loop
-add-end c = search needs
+μ-loop t from items k₀ faults₀ k faults = items - k
 
 loop-holds : tie.Need-loop-holds Inv-loop μ-loop
 loop-holds c = search chars-none
 
-mul-c : tie.Need-mul-c Inv-loop μ-loop
-mul-c c = search needs
+mul-item-fault : tie.Need-mul-item-fault Inv-loop μ-loop
+mul-item-fault c = search needs
 
-shared-slice-read-c : tie.Need-shared-slice-read-c Inv-loop μ-loop
-shared-slice-read-c c = search needs
+add-item-fault : tie.Need-add-item-fault Inv-loop μ-loop
+add-item-fault c = search needs
 
-sub-all-within : tie.Need-sub-all-within Inv-loop μ-loop
-sub-all-within c = search needs
+item-fault-requires : tie.Need-item-fault-requires Inv-loop μ-loop
+item-fault-requires c κs = search needs
 
-all-within-requires : tie.Need-all-within-requires Inv-loop μ-loop
-all-within-requires c κs = search needs
-
-returns : tie.Need-returns Inv-loop μ-loop
-returns c = search chars-pad
-
-is-character-requires : tie.Need-is-character-requires Inv-loop μ-loop
-is-character-requires c κs = search needs
-
-add-i : tie.Need-add-i Inv-loop μ-loop
-add-i c = search needs
+add-k : tie.Need-add-k Inv-loop μ-loop
+add-k c = search needs
 
 loop-less : tie.Need-loop-less Inv-loop μ-loop
 loop-less c = search needs
@@ -44,11 +32,8 @@ loop-less c = search needs
 loop-again : tie.Need-loop-again Inv-loop μ-loop
 loop-again c = search chars-more
 
-returns-2 : tie.Need-returns-2 Inv-loop μ-loop
-returns-2 c = search chars-no
-
-returns-3 : tie.Need-returns-3 Inv-loop μ-loop
-returns-3 c = search chars-all
+returns : tie.Need-returns Inv-loop μ-loop
+returns c = search chars-all
 
 pub chars-pass-spec : {M : Type 1} → statement M
 chars-pass-spec =
@@ -56,16 +41,11 @@ chars-pass-spec =
     (tie.spec
     Inv-loop
     μ-loop
-    add-end
     loop-holds
-    mul-c
-    shared-slice-read-c
-    sub-all-within
-    all-within-requires
-    returns
-    is-character-requires
-    add-i
+    mul-item-fault
+    add-item-fault
+    item-fault-requires
+    add-k
     loop-less
     loop-again
-    returns-2
-    returns-3)
+    returns)

@@ -33,14 +33,14 @@ shared-slice-read-weights c = omega (arith, head (c .before .before .before))
 cast-weights : tie.Need-cast-weights
 cast-weights c = omega (arith, c .shared-slice-known4 .given 2)
 
-record-at-requires : tie.Need-record-at-requires
-record-at-requires c κs = omega (arith, head (c .before .before .before))
+weights-part-requires : tie.Need-weights-part-requires
+weights-part-requires c κs = omega (arith, head (c .before .before .before))
 
 add-size : tie.Need-add-size
 add-size c =
     let h = head (c .before .before .before .before) in
     let t = c .before .before .before .before .before .before .before .args .t .now in
-    end-fits (getD t 0 0) (getD t 1 0) (c .record-at .ensures) (h .few-levels) (h .few-items) (c .before .shared-slice-known4 .given 2)
+    end-fits (getD t 0 0) (getD t 1 0) (c .weights-part .ensures) (h .few-levels) (h .few-items) (c .before .shared-slice-known4 .given 2)
 
 returns : tie.Need-returns
 returns c = search check-accepted
@@ -59,7 +59,7 @@ check-spec =
     cast-items
     shared-slice-read-weights
     cast-weights
-    record-at-requires
+    weights-part-requires
     add-size
     returns
     returns-2)

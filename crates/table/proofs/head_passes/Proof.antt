@@ -1,9 +1,9 @@
 -- `table::head_passes` meets its contract: one law for each return.
-use native.Mathlib.Omega.{arith}
 use borrow.Author.Needs.{needs}
+use native.Mathlib.Omega.{arith}
 use lib.ListN.{getD}
 use Rattle.layout.proofs.LayoutLaws.{end-fits}
-use Rattle.table.proofs.HeadLaws.{head-short, head-no-level, head-many-levels, head-no-item, head-many-items, head-spare, head-room}
+use Rattle.table.proofs.HeadLaws.{head-short, head-no-level, head-many-levels, head-no-item, head-many-items, head-mask, head-spare, head-room}
 use Rattle.table.proofs.head_passes.Statement.{statement}
 use Rattle.table.proofs.head_passes.Tie as tie
 
@@ -40,22 +40,34 @@ returns-4 c = search head-no-item
 returns-5 : tie.Need-returns-5
 returns-5 c = search head-many-items
 
+shared-slice-read-mask-for : tie.Need-shared-slice-read-mask-for
+shared-slice-read-mask-for c = search needs
+
+mask-for-requires : tie.Need-mask-for-requires
+mask-for-requires c κs = search needs
+
+shared-slice-read-if6 : tie.Need-shared-slice-read-if6
+shared-slice-read-if6 c = search needs
+
+returns-6 : tie.Need-returns-6
+returns-6 c = search head-mask
+
 all-within-requires : tie.Need-all-within-requires
 all-within-requires c κs = search needs
 
-record-at-requires : tie.Need-record-at-requires
-record-at-requires c κs = search needs
+weights-part-requires : tie.Need-weights-part-requires
+weights-part-requires c κs = search needs
 
 add-end : tie.Need-add-end
 add-end c =
-    let t = c .before .before .before .before .before .before .before .before .before .before .before .before .args .t .now in
-    end-fits (getD t 0 0) (getD t 1 0) (c .record-at .ensures) (search needs) (search needs) (c .before .before .before .before .before .before .before .shared-slice-known4 .given 2)
-
-returns-6 : tie.Need-returns-6
-returns-6 c = search head-room
+    let t = c .before .before .before .before .before .before .before .before .before .before .before .before .before .before .before .before .args .t .now in
+    end-fits (getD t 0 0) (getD t 1 0) (c .weights-part .ensures) (search needs) (search needs) (c .before .before .before .before .before .before .before .before .before .before .before .shared-slice-known4 .given 2)
 
 returns-7 : tie.Need-returns-7
-returns-7 c = search head-spare
+returns-7 c = search head-room
+
+returns-8 : tie.Need-returns-8
+returns-8 c = search head-spare
 
 pub head-passes-spec : {M : Type 1} → statement M
 head-passes-spec =
@@ -72,8 +84,12 @@ head-passes-spec =
     returns-3
     returns-4
     returns-5
-    all-within-requires
-    record-at-requires
-    add-end
+    shared-slice-read-mask-for
+    mask-for-requires
+    shared-slice-read-if6
     returns-6
-    returns-7)
+    all-within-requires
+    weights-part-requires
+    add-end
+    returns-7
+    returns-8)

@@ -1,8 +1,8 @@
 -- `table::passes` meets its contract: one law for each return, and a header that passed leaves room for all that is read.
-use native.Mathlib.Omega.{arith}
 use borrow.Author.Needs.{needs}
+use native.Mathlib.Omega.{arith}
 use Rattle.table.proofs.HeadLaws.{Headed, head-parts}
-use Rattle.table.proofs.WholeLaws.{whole-head, whole-rules, whole-records, whole-weights}
+use Rattle.table.proofs.WholeLaws.{whole-head, whole-items, whole-rules, whole-weights}
 use Rattle.table.proofs.passes.Statement.{statement}
 use Rattle.table.proofs.passes.Tie as tie
 
@@ -31,26 +31,38 @@ shared-slice-read-weights c = omega (arith, head (c .before .before .before))
 cast-weights : tie.Need-cast-weights
 cast-weights c = omega (arith, c .shared-slice-known4 .given 2)
 
+shared-slice-read-items-pass : tie.Need-shared-slice-read-items-pass
+shared-slice-read-items-pass c = omega (arith, head (c .before .before .before .before))
+
+shared-slice-read-items-pass-2 : tie.Need-shared-slice-read-items-pass-2
+shared-slice-read-items-pass-2 c = omega (arith, head (c .before .before .before .before .before))
+
+shared-slice-read-items-pass-3 : tie.Need-shared-slice-read-items-pass-3
+shared-slice-read-items-pass-3 c = omega (arith, head (c .before .before .before .before .before .before))
+
+items-pass-requires : tie.Need-items-pass-requires
+items-pass-requires c κs = let h = head (c .before .before .before .before .before .before) in search needs
+
+weights-part-requires : tie.Need-weights-part-requires
+weights-part-requires c κs = omega (arith, head (c .before .before .before .before .before .before .before .before))
+
+sub-all-within : tie.Need-sub-all-within
+sub-all-within c = search needs
+
 all-within-requires : tie.Need-all-within-requires
-all-within-requires c κs = omega (arith, head (c .before .before .before))
-
-records-pass-requires : tie.Need-records-pass-requires
-records-pass-requires c κs = omega (arith, head (c .before .before .before .before .before))
-
-record-at-requires : tie.Need-record-at-requires
-record-at-requires c κs = omega (arith, head (c .before .before .before .before .before .before .before))
+all-within-requires c κs = omega (arith, head (c .before .before .before .before .before .before .before .before .before))
 
 all-within-requires-2 : tie.Need-all-within-requires-2
-all-within-requires-2 c κs = omega (arith, head (c .before .before .before .before .before .before .before .before))
+all-within-requires-2 c κs = omega (arith, head (c .before .before .before .before .before .before .before .before .before .before .before))
 
 returns : tie.Need-returns
 returns c = search whole-weights
 
 returns-2 : tie.Need-returns-2
-returns-2 c = search whole-records
+returns-2 c = search whole-rules
 
 returns-3 : tie.Need-returns-3
-returns-3 c = search whole-rules
+returns-3 c = search whole-items
 
 returns-4 : tie.Need-returns-4
 returns-4 c = search whole-head
@@ -66,9 +78,13 @@ passes-spec =
     cast-items
     shared-slice-read-weights
     cast-weights
+    shared-slice-read-items-pass
+    shared-slice-read-items-pass-2
+    shared-slice-read-items-pass-3
+    items-pass-requires
+    weights-part-requires
+    sub-all-within
     all-within-requires
-    records-pass-requires
-    record-at-requires
     all-within-requires-2
     returns
     returns-2

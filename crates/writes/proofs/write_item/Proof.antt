@@ -1,6 +1,6 @@
--- `writes::write_item` meets its contract: the characters, two numbers more, and the counts make up the record; the weights stand behind.
+-- `writes::write_item` meets its contract: the characters, then the ends and the weights.
 use Rattle.ranks.proofs.MeasureLaws.{row-inside, row-line}
-use Rattle.writes.proofs.ItemLaws.{item-chars, item-start, item-place, item-room, item-put, item-same}
+use Rattle.writes.proofs.ItemLaws.{item-chars, item-room, item-put, item-same}
 use borrow.Author.Needs.{needs}
 use Rattle.writes.proofs.write_item.Statement.{statement}
 use Rattle.writes.proofs.write_item.Tie as tie
@@ -16,27 +16,6 @@ told-requires-2 c κs = search (needs, row-inside)
 
 write-chars-requires : tie.Need-write-chars-requires
 write-chars-requires c κs = search (needs, item-chars)
-
-add-area : tie.Need-add-area
-add-area c = search needs
-
-mul-area : tie.Need-mul-area
-mul-area c = search needs
-
-slice-write-area : tie.Need-slice-write-area
-slice-write-area c = search (needs, item-start)
-
-add-area-2 : tie.Need-add-area-2
-add-area-2 c = search needs
-
-mul-area-2 : tie.Need-mul-area-2
-mul-area-2 c = search needs
-
-slice-write-area-2 : tie.Need-slice-write-area-2
-slice-write-area-2 c = search (needs, item-place)
-
-add-write-line : tie.Need-add-write-line
-add-write-line c = search needs
 
 write-line-requires : tie.Need-write-line-requires
 write-line-requires c κs = (search row-line, (search needs, search item-room))
@@ -55,13 +34,6 @@ write-item-spec =
     wide-requires
     told-requires-2
     write-chars-requires
-    add-area
-    mul-area
-    slice-write-area
-    add-area-2
-    mul-area-2
-    slice-write-area-2
-    add-write-line
     write-line-requires
     same-length
     returns)

@@ -1,4 +1,4 @@
--- `writes::write_level` meets its contract: the weights, then their count.
+-- `writes::write_level` meets its contract: the weights, then where they end.
 use Rattle.writes.proofs.LineLaws.{level-from, level-small, level-long, level-slot, level-put}
 use borrow.Author.Needs.{needs}
 use Rattle.writes.proofs.write_level.Statement.{statement}

@@ -1,14 +1,15 @@
 -- `writes::write_line` meets its contract. The invariant: the weights of the last `left` levels are still to be written. The measure is how many levels those are.
-use Rattle.writes.proofs.LineLaws.{Filling, filling-none, filling-room, filling-slot, filling-more, filling-all}
+use Rattle.writes.proofs.LineLaws.{Filling, filling-none, filling-slot, filling-room, filling-small, filling-more, filling-all}
 use borrow.Author.Needs.{needs}
 use Rattle.writes.proofs.write_line.Statement.{statement}
 use Rattle.writes.proofs.write_line.Tie as tie
 
 abbrev Inv-loop : tie.InvT-loop
-Inv-loop src g work place levels own area₀ counts at c₀ left₀ slot₀ next₀ area c left slot next = Filling g src work place levels (own .0) area₀ counts at area c left slot next
+Inv-loop src g work place levels own area₀ slots base at c₀ left₀ slot₀ next₀ area c left slot next =
+    Filling g src work place levels (own .0) area₀ slots base at area c left slot next
 
 abbrev μ-loop : tie.MeasureT-loop
-μ-loop src g work place levels own area₀ counts at c₀ left₀ slot₀ next₀ area c left slot next = left
+μ-loop src g work place levels own area₀ slots base at c₀ left₀ slot₀ next₀ area c left slot next = left
 
 first-part-requires : tie.Need-first-part-requires Inv-loop μ-loop
 first-part-requires c κs = search needs
@@ -20,7 +21,7 @@ next-part-requires : tie.Need-next-part-requires Inv-loop μ-loop
 next-part-requires c κs = search needs
 
 write-level-requires : tie.Need-write-level-requires Inv-loop μ-loop
-write-level-requires c κs = (search needs, (search needs, (search filling-slot, search filling-room)))
+write-level-requires c κs = (search needs, (search needs, ((search filling-slot, search filling-room), (search needs, search filling-small))))
 
 add-slot : tie.Need-add-slot Inv-loop μ-loop
 add-slot c = search needs

@@ -1,0 +1,17 @@
+-- `table::strange` meets its contract.
+use borrow.Author.Needs.{needs}
+use Rattle.table.proofs.CharLaws.{strange-none}
+use Rattle.table.proofs.strange.Statement.{statement}
+use Rattle.table.proofs.strange.Tie as tie
+
+inside-requires : tie.Need-inside-requires
+inside-requires c κs = search needs
+
+outside-requires : tie.Need-outside-requires
+outside-requires c κs = search needs
+
+returns : tie.Need-returns
+returns c = search strange-none
+
+pub strange-spec : {M : Type 1} → statement M
+strange-spec = tie.close (tie.spec inside-requires outside-requires returns)
