@@ -20,7 +20,7 @@ use Rattle.rules.proofs.Computed.{computed}
 use Rattle.rules.specs.Text.{bytes, Result, granted, refused}
 use Rattle.rules.specs.Meaning.{Meaning, item}
 use Rattle.rules.specs.Compile.{compileOf}
-use Rattle.rules.specs.Table.{storedForm, meaningIn, accepted}
+use Rattle.rules.specs.Table.{sums, ends, doubled, mask, bucket, listing, starts, storedForm, gaps, meaningIn, accepted}
 use Rattle.rules.specs.Order.{less, equal, greater, signBytes}
 use Rattle.rules.specs.Charmap.{charmapOf}
 use Rattle.rules.specs.Calls.{compileCall, checkCall, stepCall, compareCall, keyCall, decodeCall, encodeCall, charmapCall, areaCall, directoryCall}

@@ -235,6 +235,56 @@ class Book:
         out = "".join(line + "\n" for where, line in st.expected).encode("ascii")
         row.theorems.append(("pairsOf " + " ".join(text(files[part]) for part in FILES), numbers(out)))
 
+    # ---- the stored form of a table
+
+    def part(self, st):
+        """A row about a table that is given by its meaning, and that as a term."""
+        if len(st.words) != 2 or self.terms.get(st.words[1], [None])[0] != "Meaning":
+            st.fail(f"it is `{st.kind} TABLE`, with a table that is not damaged")
+        row = self.row(st)
+        row.uses.append(st.words[1])
+        return row, f"table-{st.words[1]}"
+
+    def stored(self, st):
+        """A whole stored form, and the meaning that is read back from it, whatever follows."""
+        row, term = self.part(st)
+        ns = [n for where, line in st.expected for n in counted(st, line)]
+        row.theorems.append((f"storedForm {term} []", numbers(ns)))
+        row.theorems.append((f"meaningIn {numbers(ns + [FILLER])}", term))
+
+    def of_items(self, st):
+        """A part of a stored form that follows from the items."""
+        row, term = self.part(st)
+        row.theorems.append((f"{st.kind} ({term} .items)", numbers(counted(st, st.one()))))
+
+    ends = listing = starts = of_items
+
+    def of_numbers(self, st):
+        """A function of one number or two."""
+        row, ns = self.row(st), counted(st, " ".join(st.words[1:]))
+        if len(ns) != {"mask": 1, "doubled": 2}[st.kind]:
+            st.fail("it is `mask ITEMS -> MASK`, or `doubled TIMES ITEMS -> NUMBER`")
+        row.theorems.append((" ".join([st.kind, *map(str, ns)]), str(counted(st, st.one())[0])))
+
+    mask = doubled = of_numbers
+
+    def bucket(self, st):
+        """The bucket of an item's characters, of so many items."""
+        found, words = strings_in(st)
+        if len(found) != 1 or len(words) != 2 or not words[1].isdigit():
+            st.fail('it is `bucket ITEMS "characters" -> BUCKET`')
+        self.row(st).theorems.append((f"bucket {words[1]} {string(found[0])}", str(counted(st, st.one())[0])))
+
+    def along(self, st):
+        """A list from another, with the number before its first."""
+        m = re.fullmatch(r"\w+ (\d+) :(.*)", st.line)
+        if not m:
+            st.fail(f"it is `{st.kind} NUMBER : NUMBER ..  -> NUMBER ..`")
+        left = f"{st.kind} {m.group(1)} {numbers(counted(st, m.group(2)))}"
+        self.row(st).theorems.append((left, numbers(counted(st, st.one()))))
+
+    sums = gaps = along
+
     # ---- calls on tables and maps
 
     def call(self, st, strings, other):

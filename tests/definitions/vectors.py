@@ -2,7 +2,9 @@
 import re
 
 DEFINING = "frame source table map damaged".split()  # statements that name something, in the order in which they may use one another
-ROWS = "compile charmap pairs compare key keys step check area decode encode directory".split()  # statements that are rows
+CALLS = "compile charmap pairs compare key keys step check area decode encode directory".split()  # rows about what is called
+PARTS = "stored ends listing starts mask doubled bucket sums gaps".split()  # rows about the stored form of a table
+ROWS = CALLS + PARTS  # statements that are rows
 FILES = "locale charmap input".split()  # the inputs of the pairs program
 EDITS = "set cut add".split()  # what changes the numbers of a damaged table or a map
 NO_CODE = 0x110000  # a charmap's number for a byte with no code
@@ -169,15 +171,15 @@ def places_in(st, words):
 
 
 def counted(st, said):
-    """Numbers between blanks, `1*1000` for one repeated; `nothing` for none."""
+    """Numbers between blanks, decimal or hex after 0x, `1*1000` for one repeated; `nothing` for none."""
     if said == "nothing":
         return []
     found = []
     for word in said.split():
-        m = re.fullmatch(r"(\d+)(?:\*(\d+))?", word)
+        m = re.fullmatch(r"(\d|[1-9]\d+|0x[0-9A-F]+)(?:\*(\d+))?", word)
         if not m:
             st.fail(f"not numbers: {said}")
-        found += [int(m.group(1))] * int(m.group(2) or 1)
+        found += [int(m.group(1), 0)] * int(m.group(2) or 1)
     return found
 
 

@@ -1,8 +1,10 @@
 // Edges: requests at the limits of 01 and 02, asked at the end of every run: they are long, and where a
 // random request shows a difference too, it is a shorter one.
 
+use crate::layout::{parts, MASK};
 use crate::request::{Field, Request};
-use crate::tables::{full_table, rising_table};
+use crate::requests::SHARP;
+use crate::tables::{full_table, one_bucket_table, rising_table, small_table};
 
 const MOST_BYTES: usize = 1_048_576;
 
@@ -139,12 +141,95 @@ pub fn edges() -> Vec<Request> {
     let passed = format!("LC_X\n{}END LC_X\n{}", joins, SMALL);
     list.push(compile(passed.into_bytes(), 100));
     for items in [32_768, 32_769] {
-        list.push(Request::new(
-            "check",
-            vec![Field::Numbers(full_table(items))],
-        ));
+        list.push(check(full_table(items)));
     }
+    list.extend(counts());
+    list.extend(each_damaged());
+    list.extend(one_bucket());
     list.extend(pages());
+    list
+}
+
+fn check(table: Vec<u32>) -> Request {
+    Request::new("check", vec![Field::Numbers(table)])
+}
+
+fn step(table: &[u32], string: &[u32], at: u64) -> Request {
+    let fields = vec![
+        Field::Numbers(table.to_vec()),
+        Field::Numbers(string.to_vec()),
+        Field::Number(at),
+    ];
+    Request::new("step", fields)
+}
+
+/// Tables around each count of items where the buckets become twice as many.
+fn counts() -> Vec<Request> {
+    let mut list = Vec::new();
+    for lines in 1..=40 {
+        list.push(compile(many_lines(lines, lines % 2 == 0), 1_000));
+    }
+    for power in 1..=15 {
+        // Two items more than characters.
+        for more in [0, 1, 2].map(|more| (1 << power) + more - 3) {
+            if more >= 0 {
+                let table = rising_table(FIRST, more as u32);
+                list.push(step(&table, &[FIRST + more as u32 / 2, 0x2D], 0));
+                list.push(check(table));
+            }
+        }
+    }
+    list
+}
+
+/// A small table with each of its numbers changed in turn, with each two neighbours changed over,
+/// and cut at each place.
+fn each_damaged() -> Vec<Request> {
+    let table = small_table();
+    let mut list = vec![check(table.clone())];
+    for at in 0..table.len() {
+        let number = table[at];
+        let near = [1, 8, 9, 0x10000].map(|more| number.wrapping_add(more));
+        let below = [1, 8, 9, 0x10000].map(|less| number.wrapping_sub(less));
+        for other in [SHARP, &near, &below].concat() {
+            let mut changed = table.clone();
+            changed[at] = other;
+            list.push(step(&changed, &[0x61, 0x62], 0));
+            list.push(check(changed));
+        }
+        let mut swapped = table.clone();
+        swapped.swap(at, (at + 1) % table.len());
+        list.push(check(swapped));
+        list.push(check(table[..at].to_vec()));
+    }
+    list
+}
+
+/// The most items, all but two in one bucket: steps that find the first, the last and none of
+/// them, and damage that one place of each part shows.
+fn one_bucket() -> Vec<Request> {
+    const ITEMS: usize = 32_768;
+    let table = one_bucket_table(ITEMS as u32 - 2);
+    let mut list = vec![check(table.clone())];
+    for second in [0xFFFFF, 0xFFFFE, 0xF8002, 0xF8001, 0x100000, 0x61] {
+        list.push(step(&table, &[0x61, second, 0x2D], 0));
+    }
+    let parts = parts(1, ITEMS);
+    let mut changed = |at: usize, number: u32| {
+        let mut changed = table.clone();
+        changed[at] = number;
+        list.push(check(changed));
+    };
+    changed(MASK, 0xFFFF);
+    changed(parts.characters - 1, ITEMS as u32 - 1);
+    changed(parts.characters + 4 * 9_000 + 1, 0xFFFFF);
+    changed(parts.listing + 20_000, 1);
+    changed(parts.starts + 0x30, 0x10000);
+    changed(parts.rules - 1, 0x7FFF_7FFE);
+    changed(parts.weights + 30_000, 0);
+    let mut swapped = table.clone();
+    swapped.swap(parts.listing + 20_000, parts.listing + 20_001);
+    list.push(check(swapped));
     list
 }
 

@@ -3,7 +3,7 @@
 use crate::charmaps::{careless_charmap, damaged_charmap, good_charmap};
 use crate::crowds::crowded_source;
 use crate::edges::{edges, edges_of_fullest, edges_of_widest, fullest_charmap, widest_source};
-use crate::layout::HEAD;
+use crate::layout::parts;
 use crate::pages::page;
 use crate::program::Program;
 use crate::random::Random;
@@ -11,7 +11,7 @@ use crate::request::{Field, Request};
 use crate::sources::{
     careless_source, damaged_source, good_source, hostile_source, CHARACTERS, ELEMENTS,
 };
-use crate::tables::made_table;
+use crate::tables::{apart, made_table, spoil_form, STRIDES};
 
 /// How many tables and areas are kept for the requests that need one.
 const MOST_KEPT: usize = 24;
@@ -187,7 +187,9 @@ impl<'a> Maker<'a> {
             return Field::Numbers(made_table(!sound, &mut self.random));
         }
         let mut table = self.random.pick(&self.tables);
-        if !sound {
+        if !sound && self.random.chance(50) {
+            spoil_form(&mut table, &mut self.random);
+        } else if !sound {
             damage(&mut table, &mut self.random);
         } else if self.random.chance(10) {
             table.extend([0, 7, u32::MAX]);
@@ -229,7 +231,11 @@ impl<'a> Maker<'a> {
             match self.random.below(20) {
                 0..=7 => string.push(CHARACTERS[self.random.below(6)]),
                 8..=11 => string.push(self.random.pick(CHARACTERS)),
-                12..=18 => string.extend(self.random.pick(ELEMENTS)),
+                12..=17 => string.extend(self.random.pick(ELEMENTS)),
+                18 => {
+                    let codes: Vec<u32> = apart(self.random.pick(STRIDES)).collect();
+                    string.push(self.random.pick(&codes));
+                }
                 _ => string.push(self.random.pick(&[0x7A, 0x79, 0x2600, 0x10FFFE])),
             }
         }
@@ -356,7 +362,7 @@ impl<'a> Maker<'a> {
             let Field::Numbers(table) = self.table(97) else {
                 continue;
             };
-            if any || table.get(HEAD) == Some(&0) {
+            if any || is_first_forward(&table) {
                 return table;
             }
             any = self.random.chance(3);
@@ -375,6 +381,17 @@ fn compile(source: Vec<u8>, area: u64, more: i64) -> Request {
             Field::Number(work),
         ],
     )
+}
+
+/// Whether a table's first rule is forward, if it has one.
+fn is_first_forward(table: &[u32]) -> bool {
+    match table {
+        [levels, items, ..] if *levels <= 8 && *items <= 32_768 => {
+            let rules = parts(*levels as usize, *items as usize).rules;
+            table.get(rules) == Some(&0)
+        }
+        _ => false,
+    }
 }
 
 /// The first numbers of an area, at most one for each byte.
@@ -406,7 +423,7 @@ fn keep(list: &mut Vec<Vec<u32>>, numbers: Vec<u32>, random: &mut Random) {
 
 /// Numbers at which the check of a table or an area decides something.
 #[rustfmt::skip]
-const SHARP: &[u32] = &[
+pub const SHARP: &[u32] = &[
     0, 1, 2, 3, 4, 5, 7, 8, 9, 16, 0x61, 0x62, 255, 256, 32_767, 32_768, 32_769, 65_536, 0xD7FF,
     0xD800, 0xDFFF, 0xE000, 0x10FFFF, 0x110000, 0x110001, 0x7FFF_FFFF, 0x8000_0000, u32::MAX,
 ];
@@ -422,8 +439,8 @@ fn damage(numbers: &mut Vec<u32>, random: &mut Random) {
         let late = numbers.len() - 1 - random.below(numbers.len().min(12));
         match random.below(20) {
             0..=3 => numbers[at] = random.pick(SHARP),
-            4 | 5 => numbers[at] = numbers[at].wrapping_add(1),
-            6 | 7 => numbers[at] = numbers[at].wrapping_sub(1),
+            4 | 5 => numbers[at] = numbers[at].wrapping_add(random.pick(&[1, 0x10000])),
+            6 | 7 => numbers[at] = numbers[at].wrapping_sub(random.pick(&[1, 0x10000])),
             8 | 9 => numbers[at] = numbers[other],
             10 => numbers.swap(at, other),
             11 => numbers.truncate(if random.chance(50) { at } else { late }),

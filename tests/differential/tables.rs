@@ -1,7 +1,8 @@
 // Tables made from random meanings, good and bad. They hold what no source can give: weights
 // above every rank, and meanings that the check must refuse.
 
-use crate::layout::{store, BEGIN, HEAD, PADDING, PERMUTED, RECORD};
+use crate::layout::{parts, store, HEAD, MASK, PADDING};
+use crate::names::is_character;
 use crate::random::Random;
 use crate::sources::{CHARACTERS, ELEMENTS};
 use crate::table::{Item, Meaning, Rule, UNDEFINED};
@@ -33,6 +34,9 @@ pub fn made_table(fault: bool, random: &mut Random) -> Vec<u32> {
     if random.chance(15) {
         pool.extend(words());
         most = pool.len();
+    } else if random.chance(20) {
+        pool.extend(apart(random.pick(STRIDES)).map(|code| vec![code]));
+        most = pool.len();
     }
     for _ in 0..random.below(most) {
         let characters = pool.remove(random.below(pool.len()));
@@ -53,19 +57,56 @@ pub fn made_table(fault: bool, random: &mut Random) -> Vec<u32> {
     table
 }
 
+const FORWARD: Rule = Rule {
+    backward: false,
+    position: false,
+};
+
+/// A small table: two items begin alike, a third shares their bucket, one has no weight, and
+/// UNDEFINED stands among them.
+pub fn small_table() -> Vec<u32> {
+    let rule = Rule {
+        backward: true,
+        position: true,
+    };
+    let item = |characters: &[u32], weights: [&[u32]; 2]| Item {
+        characters: characters.to_vec(),
+        weights: weights.map(|list| list.to_vec()).to_vec(),
+    };
+    store(&Meaning {
+        rules: vec![FORWARD, rule],
+        items: vec![
+            item(&[0x71], [&[5], &[1]]),
+            item(&[0x61], [&[3], &[2, 1]]),
+            item(UNDEFINED, [&[9], &[9]]),
+            item(&[0x2D], [&[], &[]]),
+            item(&[0x61, 0x62], [&[3, 4], &[]]),
+        ],
+    })
+}
+
 /// A table of one forward level, in which so many characters from `first` on rise; the hyphen and
 /// what is not listed have no weight.
 pub fn rising_table(first: u32, characters: u32) -> Vec<u32> {
-    let rule = Rule {
-        backward: false,
-        position: false,
-    };
-    let mut items: Vec<Item> = (0..characters)
-        .map(|place| Item {
-            characters: vec![first + place],
-            weights: vec![vec![place + 1, 1]],
-        })
-        .collect();
+    let items = (0..characters).map(|place| Item {
+        characters: vec![first + place],
+        weights: vec![vec![place + 1, 1]],
+    });
+    unweighted_last(items.collect())
+}
+
+/// A table of one forward level, in which so many items are all in the bucket of a, and the items
+/// fall while their weights rise; the hyphen and what is not listed have no weight.
+pub fn one_bucket_table(items: u32) -> Vec<u32> {
+    let items = (0..items).map(|place| Item {
+        characters: vec![0x61, 0xFFFFF - place],
+        weights: vec![vec![place + 1]],
+    });
+    unweighted_last(items.collect())
+}
+
+/// A table of one forward level with these items, the hyphen and UNDEFINED, which have no weight.
+fn unweighted_last(mut items: Vec<Item>) -> Vec<u32> {
     for characters in [vec![0x2D], UNDEFINED.to_vec()] {
         items.push(Item {
             characters,
@@ -73,7 +114,7 @@ pub fn rising_table(first: u32, characters: u32) -> Vec<u32> {
         });
     }
     store(&Meaning {
-        rules: vec![rule],
+        rules: vec![FORWARD],
         items,
     })
 }
@@ -89,7 +130,7 @@ pub fn full_table(items: usize) -> Vec<u32> {
         items: Vec::new(),
     };
     for place in 0..items {
-        // Falling, so that the permutation is not the order of the items; UNDEFINED is first.
+        // Falling, so that the listing is not the order of the items; UNDEFINED is first.
         let characters = match place {
             0 => UNDEFINED.to_vec(),
             _ => vec![0xFFFFF - place as u32],
@@ -116,6 +157,16 @@ fn words() -> Vec<Vec<u32>> {
         }
     }
     list
+}
+
+/// How far apart characters are that a table lists many of: from one bucket each to all in one.
+pub const STRIDES: &[u32] = &[1, 2, 16, 256, 0x1000, 0x10000];
+
+/// Characters so far apart that sources do not list.
+pub fn apart(stride: u32) -> impl Iterator<Item = u32> {
+    (1..=40)
+        .map(move |step| 0x61 + step * stride)
+        .filter(|code| is_character(*code) && !CHARACTERS.contains(code))
 }
 
 fn item(characters: Vec<u32>, levels: usize, random: &mut Random) -> Item {
@@ -162,13 +213,7 @@ fn spoil(meaning: &mut Meaning, random: &mut Random) {
         _ => {
             // No level, or nine.
             let count = random.pick(&[0, 9]);
-            meaning.rules.resize(
-                count,
-                Rule {
-                    backward: false,
-                    position: false,
-                },
-            );
+            meaning.rules.resize(count, FORWARD);
             for item in &mut meaning.items {
                 item.weights.resize(count, vec![1]);
             }
@@ -180,19 +225,36 @@ fn spoil(meaning: &mut Meaning, random: &mut Random) {
     }
 }
 
-/// One fault in the numbers of a good table: in those that follow from its meaning.
-fn spoil_form(table: &mut [u32], random: &mut Random) {
+/// One fault in the numbers of a good table, in any of its parts. Where an end moves, the table may
+/// store another meaning.
+pub fn spoil_form(table: &mut [u32], random: &mut Random) {
     let (levels, items) = (table[0] as usize, table[1] as usize);
-    let record = |place: usize| HEAD + levels + place * (RECORD + levels);
+    let parts = parts(levels, items);
     let (one, other) = (random.below(items), random.below(items));
-    match random.below(8) {
-        0 => table[random.within(3, HEAD - 1)] = 1,
-        1 => table[2] += 1,
-        2 => table[2] = table[2].wrapping_sub(1),
-        3 => table[record(one) + BEGIN] = random.below(9) as u32,
-        4 => table[record(one) + BEGIN - 1] = random.pick(&[0x61, PADDING - 1, PADDING + 1]),
-        5 => table[record(one) + PERMUTED] = random.below(items + 2) as u32,
-        6 => table[record(one) + PERMUTED] = u32::MAX,
-        _ => table.swap(record(one) + PERMUTED, record(other) + PERMUTED),
+    let next = (one + 1).min(items - 1);
+    let end = parts.ends + random.below(items * levels);
+    let start = parts.starts + one;
+    match random.below(18) {
+        0 | 1 => {
+            let at = random.below(3);
+            table[at] = table[at].wrapping_add(random.pick(&[1, u32::MAX]));
+        }
+        2 => table[MASK] = 2 * table[MASK] + 1,
+        3 => table[MASK] /= 2,
+        4 => table[random.within(MASK + 1, HEAD - 1)] = random.pick(&[1, u32::MAX]),
+        5 => table[end] = table[end].wrapping_add(random.pick(&[1, 8, 9, u32::MAX])),
+        6 => table[parts.characters - 1] = random.pick(&[0, 1, u32::MAX]),
+        7 => {
+            let at = parts.characters + 4 * one + random.below(4);
+            table[at] = random.pick(&[0x61, 0x62, 0xD800, PADDING - 1, PADDING, PADDING + 1]);
+        }
+        8 => table[parts.listing + one] = random.below(items + 2) as u32,
+        9 => table[parts.listing + one] = u32::MAX,
+        10 => table.swap(parts.listing + one, parts.listing + other),
+        11 => table.swap(parts.listing + one, parts.listing + next),
+        12 | 13 => table[start] = table[start].wrapping_add(random.pick(&[1, 0x10000])),
+        14 | 15 => table[start] = table[start].wrapping_sub(random.pick(&[1, 0x10000])),
+        16 => table.swap(start, parts.starts + other),
+        _ => table[parts.rules + random.below(levels)] = random.pick(&[4, u32::MAX]),
     }
 }

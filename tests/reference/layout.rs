@@ -3,56 +3,118 @@
 
 use crate::table::{Item, Meaning, Rule};
 
-/// The header: L, I, W, and spare numbers.
+/// The header: L, I, W, the mask of the buckets, and spare numbers.
 pub const HEAD: usize = 16;
+pub const MASK: usize = 3;
 
-/// A record without its counts: four characters, where the weights begin, and one number of the
-/// permutation.
-pub const RECORD: usize = 6;
-pub const BEGIN: usize = 4;
-pub const PERMUTED: usize = 5;
-
-/// What fills up the four characters of a record: no character, and above all of them.
+/// What fills up the four characters of an item: no character, and above all of them.
 pub const PADDING: u32 = 0x110000;
+
+/// Where the parts behind the header begin.
+pub struct Parts {
+    pub ends: usize,
+    pub characters: usize,
+    pub listing: usize,
+    pub starts: usize,
+    pub rules: usize,
+    pub weights: usize,
+}
+
+/// The parts of a table of so many levels and items.
+pub fn parts(levels: usize, items: usize) -> Parts {
+    let ends = HEAD;
+    let characters = ends + items * levels;
+    let listing = characters + 4 * items;
+    let starts = listing + items;
+    let rules = starts + items;
+    let weights = rules + levels;
+    Parts {
+        ends,
+        characters,
+        listing,
+        starts,
+        rules,
+        weights,
+    }
+}
 
 /// The numbers that store a meaning.
 pub fn store(meaning: &Meaning) -> Vec<u32> {
-    let weights: Vec<u32> = meaning
-        .items
-        .iter()
-        .flat_map(|item| item.weights.concat())
-        .collect();
-    let mut numbers = vec![0; HEAD];
+    let parts = parts(meaning.rules.len(), meaning.items.len());
+    let (ends, weights) = (ends(meaning), weights(meaning));
+    let characters: Vec<u32> = meaning.items.iter().flat_map(padded).collect();
+    let rules: Vec<u32> = meaning.rules.iter().map(rule_number).collect();
+    let mut numbers = vec![0; parts.weights];
     numbers[0] = meaning.rules.len() as u32;
     numbers[1] = meaning.items.len() as u32;
     numbers[2] = weights.len() as u32;
-    for rule in &meaning.rules {
-        numbers.push(u32::from(rule.backward) + 2 * u32::from(rule.position));
-    }
-    let mut begin = 0;
-    for (item, place) in meaning.items.iter().zip(permutation(meaning)) {
-        let counts: Vec<u32> = item
-            .weights
-            .iter()
-            .map(|level| level.len() as u32)
-            .collect();
-        let mut record = [0; RECORD];
-        record[..BEGIN].copy_from_slice(&padded(item));
-        record[BEGIN] = begin;
-        record[PERMUTED] = place;
-        numbers.extend(record);
-        begin += counts.iter().sum::<u32>();
-        numbers.extend(counts);
-    }
+    numbers[MASK] = mask(meaning.items.len());
+    numbers[parts.ends..parts.characters].copy_from_slice(&ends);
+    numbers[parts.characters..parts.listing].copy_from_slice(&characters);
+    numbers[parts.listing..parts.starts].copy_from_slice(&listing(meaning));
+    numbers[parts.starts..parts.rules].copy_from_slice(&starts(meaning));
+    numbers[parts.rules..].copy_from_slice(&rules);
     numbers.extend(weights);
     numbers
 }
 
-/// The places of the items, from 1, in the rising order of their four numbers.
-fn permutation(meaning: &Meaning) -> Vec<u32> {
-    let mut places: Vec<u32> = (1..=meaning.items.len() as u32).collect();
-    places.sort_by_key(|&place| padded(&meaning.items[place as usize - 1]));
+/// For each item and level how many weights stand up to its last.
+fn ends(meaning: &Meaning) -> Vec<u32> {
+    let mut end = 0;
+    let mut numbers = Vec::new();
+    for list in meaning.items.iter().flat_map(|item| &item.weights) {
+        end += list.len() as u32;
+        numbers.push(end);
+    }
+    numbers
+}
+
+/// The weights of all items, level by level.
+fn weights(meaning: &Meaning) -> Vec<u32> {
+    let lists = meaning.items.iter().flat_map(|item| &item.weights);
+    lists.flatten().copied().collect()
+}
+
+/// One less than the number of buckets that characters have: the least power of two that is not
+/// below the number of items.
+fn mask(items: usize) -> u32 {
+    items.next_power_of_two() as u32 - 1
+}
+
+/// An item's bucket: the low bits of its first character; UNDEFINED has the last of all.
+fn bucket(item: &Item, items: usize) -> u32 {
+    match item.characters.first() {
+        Some(first) => first & mask(items),
+        None => (2 * items - 1) as u32,
+    }
+}
+
+/// The places of the items, from 1, by their buckets, and within a bucket by their four numbers.
+fn listing(meaning: &Meaning) -> Vec<u32> {
+    let items = meaning.items.len();
+    let mut places: Vec<u32> = (1..=items as u32).collect();
+    places.sort_by_key(|&place| {
+        let item = &meaning.items[place as usize - 1];
+        (bucket(item, items), padded(item))
+    });
     places
+}
+
+/// For each bucket how many items have a smaller one, two buckets in each number: the even one in
+/// the low 16 bits, the odd one above them.
+fn starts(meaning: &Meaning) -> Vec<u32> {
+    let items = meaning.items.len();
+    let mut counts = vec![0; 2 * items];
+    for item in &meaning.items {
+        counts[bucket(item, items) as usize] += 1;
+    }
+    let mut below = 0;
+    let mut numbers = Vec::new();
+    for pair in counts.chunks(2) {
+        numbers.push(below + ((below + pair[0]) << 16));
+        below += pair[0] + pair[1];
+    }
+    numbers
 }
 
 /// An item's characters, filled up to four numbers.
@@ -72,47 +134,44 @@ pub fn load(numbers: &[u32]) -> Option<Meaning> {
     if levels > 8 || items > 32_768 {
         return None;
     }
-    let mut rules = Vec::new();
-    for level in 0..levels {
-        rules.push(rule(*numbers.get(HEAD + level)?)?);
+    let parts = parts(levels, items);
+    let weights = numbers.get(parts.weights..)?;
+    let rules = numbers[parts.rules..parts.weights].iter().map(rule);
+    let mut lists = Vec::new();
+    let mut begin = 0;
+    for &end in &numbers[parts.ends..parts.characters] {
+        lists.push(weights.get(begin..end as usize)?.to_vec());
+        begin = end as usize;
     }
-    let first_item = HEAD + levels;
-    let mut next_weight = first_item + items * (RECORD + levels);
-    let mut read_items = Vec::new();
-    for place in 0..items {
-        let at = first_item + place * (RECORD + levels);
-        let stored = numbers.get(at..at + RECORD + levels)?;
-        let characters = stored[..BEGIN]
-            .iter()
-            .take_while(|&&number| number != PADDING)
-            .copied()
-            .collect();
-        let mut weights = Vec::new();
-        for &count in &stored[RECORD..] {
-            if count > 8 {
-                return None;
-            }
-            let end = next_weight + count as usize;
-            weights.push(numbers.get(next_weight..end)?.to_vec());
-            next_weight = end;
-        }
-        read_items.push(Item {
-            characters,
-            weights,
-        });
-    }
+    let mut lists = lists.into_iter();
+    let four = numbers[parts.characters..parts.listing].chunks(4);
     Some(Meaning {
-        rules,
-        items: read_items,
+        rules: rules.collect::<Option<_>>()?,
+        items: four
+            .map(|four| Item {
+                characters: unpadded(four),
+                weights: lists.by_ref().take(levels).collect(),
+            })
+            .collect(),
     })
 }
 
-fn rule(number: u32) -> Option<Rule> {
-    if number > 3 {
+/// The characters before the first padding.
+fn unpadded(four: &[u32]) -> Vec<u32> {
+    let characters = four.iter().take_while(|&&number| number != PADDING);
+    characters.copied().collect()
+}
+
+fn rule_number(rule: &Rule) -> u32 {
+    u32::from(rule.backward) + 2 * u32::from(rule.position)
+}
+
+fn rule(number: &u32) -> Option<Rule> {
+    if *number > 3 {
         return None;
     }
     Some(Rule {
         backward: number % 2 == 1,
-        position: number >= 2,
+        position: *number >= 2,
     })
 }

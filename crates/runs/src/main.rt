@@ -74,18 +74,24 @@ fn bounds() {
 
 // Items that no table has.
 fn items() {
-    damaged(b"two items alike:", 26, 0x61);
-    damaged(b"two UNDEFINED:", 42, 0x110000);
-    damaged(b"no UNDEFINED:", 50, 0x7A);
-    damaged(b"a permutation out of order:", 23, 2);
+    damaged(b"two items alike:", 30, 0x61);
+    damaged(b"two UNDEFINED:", 38, 0x110000);
+    damaged(b"no UNDEFINED:", 42, 0x7A);
+}
+
+// Numbers that do not follow from the others.
+fn parts() {
+    damaged(b"another mask:", 3, 15);
+    damaged(b"an end that falls:", 17, 0);
+    damaged(b"a place listed twice:", 46, 1);
+    damaged(b"a start one more:", 52, 0x30003);
 }
 
 // Numbers that mean nothing where they stand.
 fn numbers() {
     damaged(b"a spare number not zero:", 15, 1);
-    damaged(b"an unknown rule:", 16, 4);
-    damaged(b"no character:", 18, 0xD800);
-    damaged(b"nine weights:", 24, 9);
+    damaged(b"an unknown rule:", 56, 4);
+    damaged(b"no character:", 26, 0xD800);
 }
 
 // Tables that are accepted, and those that are not.
@@ -93,6 +99,7 @@ fn checks() {
     lengths();
     bounds();
     items();
+    parts();
     numbers();
 }
 
