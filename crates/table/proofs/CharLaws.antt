@@ -15,7 +15,7 @@ use Rattle.rules.specs.Text.{within, every}
 use Rattle.rules.specs.Names.{isCharacter}
 use Rattle.rules.specs.Table.{pad}
 use Rattle.table.specs.Checks.{fault, allPad, charsPass, allChars}
-use Rattle.table.proofs.FaultLaws.{fault-none, both-none}
+use Rattle.table.proofs.FaultLaws.{both-faults, fault-more}
 
 -- ## inside
 
@@ -48,9 +48,9 @@ ordinary c =
     let n = eqb-false c pad e in
     rw (t, e, le-leb 0xD800 c (omega arith), lt-leb c 0xDFFF (omega arith), leb·zero c, lt-leb c 0x110000 (omega (arith, n)))))
 
-pub strange-none : (c : ℕ) {a b : ℕ} → a ≡ fault (not (within 0xD800 0xDFFF c)) → b ≡ fault (within 0 0x110000 c) → eqb (bitOr a b) 0 ≡ (isCharacter c || eqb c pad)
-strange-none c {a} {b} ea eb =
-    both-none a b ∙ rw (ea, eb, fault-none (not (within 0xD800 0xDFFF c)), fault-none (within 0 0x110000 c)) (ordinary c)
+pub strange-is : (c : ℕ) {a b : ℕ} → a ≡ fault (not (within 0xD800 0xDFFF c)) → b ≡ fault (within 0 0x110000 c)
+    → bitOr a b ≡ fault (isCharacter c || eqb c pad)
+strange-is c ea eb = rw (ea, eb) (both-faults (not (within 0xD800 0xDFFF c)) (within 0 0x110000 c) ∙ ap fault (ordinary c))
 
 -- ## padding
 
@@ -129,19 +129,21 @@ alone-pass a b c d h =
     (λ t. rw (t, or-true (isCharacter a)))
     (λ t. rw t (and-true (isCharacter a) ∙ sym (or-false (isCharacter a)))))
 
-module _ (t : List ℕ) (at : ℕ) (room : at + 4 ≤ length t) {r : Bool} (alone : r ≡ (eqb (getD t (at + 1) 0) pad && eqb (getD t (at + 2) 0) pad && eqb (getD t (at + 3) 0) pad)) where
-  pub item-alone : r ≡ true → (s : ℕ) → eqb s 0 ≡ (isCharacter (getD t at 0) || eqb (getD t at 0) pad) → eqb s 0 ≡ charsPass (take 4 (drop at t))
-  item-alone e s is =
+module _ (t : List ℕ) (at : ℕ) (room : at + 4 ≤ length t) {r : Bool}
+    (alone : r ≡ (eqb (getD t (at + 1) 0) pad && eqb (getD t (at + 2) 0) pad && eqb (getD t (at + 3) 0) pad)) where
+  pub item-alone : r ≡ true → {s : ℕ} → s ≡ fault (isCharacter (getD t at 0) || eqb (getD t at 0) pad) → s ≡ fault (charsPass (take 4 (drop at t)))
+  item-alone e is =
       is
-      ∙ sym (ap charsPass (four-cons t at room)
-      ∙ alone-pass (getD t at 0) (getD t (at + 1) 0) (getD t (at + 2) 0) (getD t (at + 3) 0) (sym alone ∙ e))
+      ∙ ap fault
+      (sym (ap charsPass (four-cons t at room)
+      ∙ alone-pass (getD t at 0) (getD t (at + 1) 0) (getD t (at + 2) 0) (getD t (at + 3) 0) (sym alone ∙ e)))
 
 module _ (t : List ℕ) (at : ℕ) {r : Bool} (four : r ≡ charsPass (take 4 (drop at t))) where
-  pub item-good : r ≡ true → eqb 0 0 ≡ charsPass (take 4 (drop at t))
-  item-good e = sym e ∙ four
+  pub item-good : r ≡ true → 0 ≡ fault (charsPass (take 4 (drop at t)))
+  item-good e = rw (← four, e)
 
-  pub item-bad : r ≡ false → eqb 1 0 ≡ charsPass (take 4 (drop at t))
-  item-bad e = sym e ∙ four
+  pub item-bad : r ≡ false → 1 ≡ fault (charsPass (take 4 (drop at t)))
+  item-bad e = rw (← four, e)
 
 -- ## chars_pass
 
@@ -157,10 +159,10 @@ chars-none t from items =
     record { to = omega arith; same = rw (e, f) }
 
 module _ {t : List ℕ} {from items k faults : ℕ} (v : Chars t from items k faults) where
-  pub chars-more : k < items → (r : ℕ) → eqb r 0 ≡ charsPass (take 4 (drop (from + 4 * k) t))
-      → Chars t from items (k + 1) (bitOr faults r)
+  pub chars-more : k < items → {r : ℕ} → r ≡ fault (charsPass (take 4 (drop (from + 4 * k) t))) → Chars t from items (k + 1) (bitOr faults r)
   unfolding allChars
-  chars-more h r e =
+  chars-more h e =
+      let p : Bool = charsPass (take 4 (drop (from + 4 * k) t)) in
       let n : items - k ≡ suc (items - (k + 1)) = omega arith in
       let m : from + 4 * k + 4 ≡ from + 4 * (k + 1) = omega arith in
       let d : drop 4 (drop (from + 4 * k) t) ≡ drop (from + 4 * (k + 1)) t = rw m at (drop-drop 4 (from + 4 * k) t) in
@@ -168,7 +170,7 @@ module _ {t : List ℕ} {from items k faults : ℕ} (v : Chars t from items k fa
         to = omega arith;
         same =
             v .same
-            ∙ rw (n, d, ← e, both-none faults r) (sym (and-assoc (eqb faults 0) (eqb r 0) (allChars (items - (k + 1)) (drop (from + 4 * (k + 1)) t))));
+            ∙ rw (n, d, e, fault-more faults p) (sym (and-assoc (eqb faults 0) p (allChars (items - (k + 1)) (drop (from + 4 * (k + 1)) t))));
       }
 
   pub chars-all : items ≤ k → eqb faults 0 ≡ allChars items (drop from t)

@@ -12,7 +12,8 @@ use borrow.Author.Tests.{leb-true, le-leb, eq-eqb}
 use Rattle.lists.proofs.Bools.{and-left, and-right, and-intro, by, clash}
 use Rattle.rules.specs.Text.{within, every, oneOf}
 use Rattle.rules.specs.Meaning.{Rule, Item, Meaning, weightCount, sizeOf, hasChars, goodWeights, goodItem, good}
-use Rattle.rules.specs.Table.{counts, weightLists, ends, gaps, cutBy, charNumbers, mask, listing, starts, ruleNumber, ruleOfNumber, weightNumbers, itemsAt, storedForm, meaningIn, accepted}
+use Rattle.rules.specs.Table.{counts, weightLists, ends, gaps, cutBy, charNumbers, mask, listing, starts, itemsAt}
+use Rattle.rules.specs.Table.{ruleNumber, ruleOfNumber, weightNumbers, storedForm, meaningIn, accepted}
 use Rattle.rules.proofs.TextLaws.{every-head, every-tail, every-both}
 use Rattle.rules.proofs.MeaningLaws.{good-parts, good-whole}
 use Rattle.rules.proofs.StorableLaws.{items-stored, meaning-stored, rules-drop, weights-append}
@@ -25,7 +26,8 @@ use Rattle.layout.proofs.ToldLaws.{listingPasses, passes-fits, fits-passes}
 use Rattle.table.specs.Checks.{headPasses, endsPass, allChars, listingIn, itemsPass, checks}
 use Rattle.table.proofs.HeadLaws.{head-parts}
 use Rattle.table.proofs.ItemLaws.{total, cut-counts, cut-whole, cut-good, counts-few}
-use Rattle.table.proofs.PartLaws.{ends-passed, gaps-length, sums-pass, items-length, lists-again, chars-again, items-good, lists-count, chars-pass, lists-good, listing-in}
+use Rattle.table.proofs.PartLaws.{ends-passed, gaps-length, sums-pass, items-length, lists-again, chars-again, items-good}
+use Rattle.table.proofs.PartLaws.{lists-count, chars-pass, lists-good, listing-in}
 
 -- ## What it says that a table passes
 
@@ -144,12 +146,19 @@ parts-again n l cs =
     let f : 5 * n + n ≡ 6 * n = omega arith in
     let d5 : drop n (drop (4 * n) cs) ≡ drop (5 * n) cs = rw e at (drop-drop n (4 * n) cs) in
     let d6 : drop n (drop (5 * n) cs) ≡ drop (6 * n) cs = rw f at (drop-drop n (5 * n) cs) in
-    rw (take-append-drop l (drop (6 * n) cs), append-assoc (take n (drop (4 * n) cs)) (take n (drop (5 * n) cs)) (drop (6 * n) cs), ← d6, take-append-drop n (drop (5 * n) cs), ← d5)
+    rw (
+      take-append-drop l (drop (6 * n) cs),
+      append-assoc (take n (drop (4 * n) cs)) (take n (drop (5 * n) cs)) (drop (6 * n) cs),
+      ← d6,
+      take-append-drop n (drop (5 * n) cs),
+      ← d5,
+    )
     (take-append-drop n (drop (4 * n) cs))
 
 module _ (t : List ℕ) (p : Passed t) where
   -- how many numbers stand behind the header, behind the ends, behind the starts, behind the rules
-  fits : (getD t 1 0 * getD t 0 0 ≤ length (drop 16 t)) × (6 * getD t 1 0 ≤ length (charsOf t)) × (getD t 0 0 ≤ length (rulesOf t)) × (getD t 2 0 ≤ length (drop (getD t 0 0) (rulesOf t)))
+  fits : (getD t 1 0 * getD t 0 0 ≤ length (drop 16 t)) × (6 * getD t 1 0 ≤ length (charsOf t)) × (getD t 0 0 ≤ length (rulesOf t))
+      × (getD t 2 0 ≤ length (drop (getD t 0 0) (rulesOf t)))
   fits =
       let r = head-parts t refl (p .head) .room in
       let at = endsAt-is (getD t 0 0) (getD t 1 0) in

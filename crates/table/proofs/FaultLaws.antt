@@ -28,6 +28,13 @@ fault-none false = refl
 pub fault-more : (faults : ℕ) (p : Bool) → eqb (bitOr faults (fault p)) 0 ≡ (eqb faults 0 && p)
 fault-more faults p = both-none faults (fault p) ∙ rw (fault-none p)
 
+-- two tests together
+pub both-faults : (p q : Bool) → bitOr (fault p) (fault q) ≡ fault (p && q)
+both-faults true true = refl
+both-faults true false = refl
+both-faults false true = refl
+both-faults false false = refl
+
 -- ## outside
 
 module _ (x low high : ℕ) where

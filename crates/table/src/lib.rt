@@ -95,9 +95,9 @@ fn inside(x: u32, low: u32, high: u32) -> u32
     1
 }
 
-// 0 exactly for a character or padding.
+// 0 for a character or padding, else 1.
 fn strange(c: u32) -> u32
-    ensures { λ r. ⌜ eqb r 0 ≡ (isCharacter c || eqb c pad) ⌝ }
+    ensures { λ r. ⌜ r ≡ fault (isCharacter c || eqb c pad) ⌝ }
 {
     inside(c, 0xD800, 0xDFFF) | outside(c, 0, 0x110000)
 }
@@ -136,10 +136,10 @@ fn four_pass(t: &[u32], at: usize) -> bool
     true
 }
 
-// 0 exactly if the four numbers from a place on are characters, then padding. Nearly every item has one character or none.
+// 0 if the four numbers from a place on are characters, then padding, else 1. Nearly every item has one character or none.
 fn item_fault(t: &[u32], at: usize) -> u32
     requires { ⌜ at + 4 ≤ length (now t) ⌝ }
-    ensures { λ r. ⌜ eqb r 0 ≡ charsPass (take 4 (drop at (now (t .entry)))) ⌝ }
+    ensures { λ r. ⌜ r ≡ fault (charsPass (take 4 (drop at (now (t .entry))))) ⌝ }
 {
     let alone = padding(t[at + 1], t[at + 2], t[at + 3]);
     if alone {
@@ -179,7 +179,7 @@ fn before_at(t: &[u32], a: usize, b: usize) -> bool
             return true;
         }
         if y < x {
-            return false;
+            return false; // the first is larger
         }
         i += 1;
     }
@@ -225,6 +225,7 @@ fn bucket_at(t: &[u32], items: u32, buckets: u32, chars: usize, p: usize) -> u32
     layout::bucket_of(items, buckets, t[chars + 4 * (p - 1)])
 }
 
+// A number of the table as a place.
 fn wide(x: u32) -> usize
     ensures { λ r. ⌜ r ≡ x ⌝ }
 {
@@ -320,7 +321,7 @@ fn items_pass(t: &[u32], levels: usize, items: u32, buckets: u32, weights: u32) 
     false
 }
 
-// Whether the header's numbers are in their ranges, its spare numbers zero, and the area long enough for what it counts.
+// Whether the header's numbers are in their ranges, its mask that of the items, its spare numbers zero, and the area long enough for what it counts.
 fn head_passes(t: &[u32]) -> bool
     ensures { λ r. ⌜ r ≡ headPasses (now (t .entry)) ⌝ }
 {

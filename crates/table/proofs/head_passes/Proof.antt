@@ -60,8 +60,9 @@ weights-part-requires c κs = search needs
 
 add-end : tie.Need-add-end
 add-end c =
-    let t = c .before .before .before .before .before .before .before .before .before .before .before .before .before .before .before .before .args .t .now in
-    end-fits (getD t 0 0) (getD t 1 0) (c .weights-part .ensures) (search needs) (search needs) (c .before .before .before .before .before .before .before .before .before .before .before .shared-slice-known4 .given 2)
+    let read = c .before .before .before .before .before .before .before .before .before .before .before in
+    let t = read .before .before .before .before .before .args .t .now in
+    end-fits (getD t 0 0) (getD t 1 0) (c .weights-part .ensures) (search needs) (search needs) (read .shared-slice-known4 .given 2)
 
 returns-7 : tie.Need-returns-7
 returns-7 c = search head-room

@@ -1,6 +1,6 @@
 -- `table::strange` meets its contract.
 use borrow.Author.Needs.{needs}
-use Rattle.table.proofs.CharLaws.{strange-none}
+use Rattle.table.proofs.CharLaws.{strange-is}
 use Rattle.table.proofs.strange.Statement.{statement}
 use Rattle.table.proofs.strange.Tie as tie
 
@@ -11,7 +11,7 @@ outside-requires : tie.Need-outside-requires
 outside-requires c κs = search needs
 
 returns : tie.Need-returns
-returns c = search strange-none
+returns c = search strange-is
 
 pub strange-spec : {M : Type 1} → statement M
 strange-spec = tie.close (tie.spec inside-requires outside-requires returns)
