@@ -2,7 +2,7 @@
 ghost use mathlib.Core.Path.{_≡_};
 ghost use mathlib.Core.Bool.{_&&_};
 ghost use lib.ListN.{length};
-ghost use Prim.Native.Nat.{_+_, _*_, _/_, _≤_, _<_};
+ghost use Prim.Native.Nat.{_+_, _*_, _/_, _≤_};
 ghost use Rattle.rules.specs.Text.{if_then_else_, lower};
 ghost use Rattle.rules.specs.Names.{charShaped};
 ghost use Rattle.names.specs.Named.{nameLeft};
@@ -32,13 +32,6 @@ fn wide(x: u32) -> usize
     ensures { λ r. ⌜ r ≡ x ⌝ }
 {
     x as usize
-}
-
-fn narrow(n: usize) -> u32
-    requires { ⌜ n < 4294967296 ⌝ }
-    ensures { λ r. ⌜ r ≡ n ⌝ }
-{
-    n as u32
 }
 
 // Whether the name at a mark is shaped as a character.
@@ -137,7 +130,8 @@ pub fn measure_lines(src: &[u8], g: Signs, work: &[u32], o: Order, levels: usize
     Sums::Unranked(line)
 }
 
-// The items in the order of their lines, written: their records from one place on, their weights from another.
+// The items in the order of their lines, written: their ends, counted from base, from a place on, their characters from another, their weights from
+// base on.
 pub fn write_items(
     src: &[u8],
     g: Signs,
@@ -145,20 +139,23 @@ pub fn write_items(
     o: Order,
     levels: usize,
     area: &mut [u32],
+    slots: usize,
     from: usize,
-    at: usize,
+    base: usize,
 )
-    requires { ⌜ Fillable g (now src) (now work) o levels (now area) from at ⌝ }
-    ensures { λ _. ⌜ Filled g (now (src .entry)) (now (work .entry)) o levels (now (area .entry)) from at (now (area .exit)) ⌝ }
+    requires { ⌜ Fillable g (now src) (now work) o levels (now area) slots from base ⌝ }
+    ensures { λ _. ⌜ Filled g (now (src .entry)) (now (work .entry)) o levels (now (area .entry)) slots from base (now (area .exit)) ⌝ }
 {
     let mut v = o.first;
     let mut left = o.count; // all are written
-    let mut slot = from;
-    let mut next = at;
+    let mut slot = slots;
+    let mut place = from;
+    let mut next = base;
     while 0 < left {
         if is_item(src, g, work, v) {
-            next = write_item(src, g, work, v, levels, narrow(next - at), area, slot, next);
-            slot += 6 + levels;
+            next = write_item(src, g, work, v, levels, area, slot, place, base, next);
+            slot += levels;
+            place += 4;
         }
         v = wide(told(work, v, 3));
         left -= 1;

@@ -32,7 +32,7 @@ pub fn ends_at(levels: usize, k: usize) -> usize
 }
 
 // Where the rules begin.
-fn rules_part(levels: usize, items: usize) -> usize
+pub fn rules_part(levels: usize, items: usize) -> usize
     requires { ⌜ (levels ≤ 8) × (items ≤ 32768) ⌝ }
     ensures { λ r. ⌜ r ≡ rulesPart levels items ⌝ }
 {

@@ -2,24 +2,24 @@
 use mathlib.Core.Path.{_≡_, refl, sym, ap, _∙_, subst}
 use mathlib.Core.Bool.{Bool, true, false}
 use mathlib.Core.List.{List, [], _∷_, _++_, map, flatten, append-nil}
-use Prim.Native.Nat.{ℕ, suc, _+_, _≤_}
+use Prim.Native.Nat.{ℕ, suc, _+_, _*_, _≤_}
 use native.Mathlib.Nat.{mul-le-mul-right}
 use native.Mathlib.Numerals.{add-one}
 use native.Mathlib.Omega.{arith}
-use lib.ListN.{length, drop, replicate, length-append, length-map, length-replicate}
-use lib.Seq.{sets, length-sets}
+use lib.ListN.{length, drop, replicate, length-append, length-map, length-drop, length-replicate}
+use lib.Seq.{sets, length-sets, length-take-le}
 use Rattle.lists.proofs.Bools.{cond-both}
 use Rattle.lists.proofs.Lists.{All}
 use Rattle.rules.specs.Tokens.{operands}
 use Rattle.rules.specs.Meaning.{Rule, Item, Meaning, countAll, weightCount}
-use Rattle.rules.specs.Table.{counts, ruleNumber, itemNumbers, weightNumbers}
+use Rattle.rules.specs.Table.{padded, sums, counts, weightLists, ends, charNumbers, ruleNumber, weightNumbers}
 use Rattle.rules.specs.State.{Subject}
 use Rattle.rules.specs.OrderLines.{ruleOf, ruleCodes, operandList}
 use Rattle.rules.specs.Compile.{levelsOfRank}
-use Rattle.rules.proofs.TableLaws.{AllStored}
+use Rattle.rules.proofs.StorableLaws.{AllStored}
 use Rattle.rules.proofs.SizeLaws.{flatten-length}
-use Rattle.layout.specs.Parts.{recordAt}
-use Rattle.layout.proofs.LayoutLaws.{recordAt-is, recordAt-suc, recordAt-bound}
+use Rattle.layout.specs.Parts.{endsAt, charsPart, listingPart, rulesPart, weightsPart}
+use Rattle.layout.proofs.LayoutLaws.{endsAt-is, endsAt-room, endsAt-suc, weightsPart-bound}
 use Rattle.lines.specs.declared.Signs.{Signs}
 use Rattle.tokens.specs.Left.{tokensLeft}
 use Rattle.rows.specs.Cells.{cell}
@@ -36,27 +36,31 @@ use Rattle.writes.proofs.LineLaws.{levelRanks-length}
 use Rattle.permute.specs.Permuted.{storedWith, Room, Permuted}
 use Rattle.items.specs.Items.{isItem, itemOf, itemsOf, LinesReady}
 use Rattle.items.specs.Filling.{Fillable, Filled}
-use Rattle.stored.specs.Building.{suppliedItems, meaningBy, allItems, allWeights, tableSize, frontNumbers, suppliedNumbers, HeadFits, Suppliable, Buildable, Tabled, Built}
+use Rattle.stored.specs.Building.{suppliedItems, meaningBy, allItems, allWeights, tableSize, frontNumbers, suppliedEnds, unlisted, HeadFits, Suppliable, Buildable, Tabled, Built}
 use Rattle.stored.proofs.FrontLaws.{all-near, all-weights-few, size-is, size-items}
-use Rattle.stored.proofs.TableLaws.{Levelled, parts-written, items-zeros}
+use Rattle.stored.proofs.TableLaws.{Levelled, parts-written}
 
 -- ## The head
 
 module _ (g : Signs) (src : List ℕ) (place levels items weights : ℕ) (area : List ℕ) (h : HeadFits g src place levels items weights area) where
-  module _ {l i w : ℕ} (el : l ≡ levels) (ei : i ≡ items) (ew : w ≡ weights) {front : List ℕ} (p : front ≡ sets area 0 (frontNumbers l i w)) where
-    pub head-rules : RulesFit (operands (tokensLeft g src (behind place))) front 16
+  pub head-front : 16 ≤ length area
+  head-front = omega (arith, h .room, endsAt-is levels items)
+
+  module _ {l i w at : ℕ} (el : l ≡ levels) (ei : i ≡ items) (ew : w ≡ weights) (ea : at ≡ rulesPart levels items) {front : List ℕ}
+      (p : front ≡ sets area 0 (frontNumbers l i w)) where
+    pub head-rules : RulesFit (operands (tokensLeft g src (behind place))) front at
     unfolding rulesAt
     head-rules = record {
       accepted = h .started;
       inside =
           let os = operands (tokensLeft g src (behind place)) in
-          omega (arith, h .room, length-map (ruleCodes os) ruleOf, ap length p ∙ length-sets area 0 (frontNumbers l i w));
+          omega (arith, h .room, ea, length-map (ruleCodes os) ruleOf, ap length p ∙ length-sets area 0 (frontNumbers l i w));
     }
 
-    pub head-written : {after : List ℕ} → after ≡ sets front 16 (ruleNumbers (ruleCodes (operands (tokensLeft g src (behind place)))))
-        → after ≡ sets (sets area 0 (frontNumbers levels items weights)) 16 (map ruleNumber (rulesAt g src place))
+    pub head-written : {after : List ℕ} → after ≡ sets front at (ruleNumbers (ruleCodes (operands (tokensLeft g src (behind place)))))
+        → after ≡ sets (sets area 0 (frontNumbers levels items weights)) (rulesPart levels items) (map ruleNumber (rulesAt g src place))
     unfolding rulesAt
-    head-written e = e ∙ rw (p, el, ei, ew)
+    head-written e = e ∙ rw (p, ea, el, ei, ew)
 
 -- ## The items
 
@@ -104,27 +108,20 @@ module _ (rs : List Rule) (count : ℕ) where
   supplied-weights true weights = omega (arith, rank-many (suc count) rs)
   supplied-weights false weights = omega arith
 
-  -- its record, and its weights
-  supplied-record : (start : ℕ) → itemNumbers start [] (suppliedItems true rs count) [] ≡ suppliedNumbers (length rs) start
-  unfolding suppliedItems itemNumbers
-  supplied-record start =
-      let ones : List ℕ = replicate (length rs) 1 in
-      let z : ones ++ [] ≡ ones = append-nil ones in
-      rw (rank-counts (suc count) rs, z)
+  -- its characters, its ends, and its weights
+  supplied-chars : charNumbers (suppliedItems true rs count) [] ≡ padded [] []
+  unfolding suppliedItems charNumbers
+  supplied-chars = refl
+
+  supplied-ends : (start : ℕ) → sums start (counts (weightLists (suppliedItems true rs count))) ≡ suppliedEnds (length rs) start
+  unfolding suppliedItems weightLists
+  supplied-ends start = rw (append-nil (levelsOfRank (suc count) rs), rank-counts (suc count) rs)
 
   supplied-ranks : weightNumbers (suppliedItems true rs count) [] ≡ replicate (length rs) (suc count)
   unfolding suppliedItems weightNumbers
   supplied-ranks = rw (rank-weights (suc count) rs, append-nil (replicate (length rs) (suc count)))
 
--- a table stored with no permutation has zeros in its place
-with-zeros : (m : Meaning) (rest : List ℕ) → storedWith [] m rest ≡ storedWith (replicate (length (m .items)) 0) m rest
-unfolding storedWith
-with-zeros m rest = rw (items-zeros 0 (m .items) (weightNumbers (m .items) rest))
-
 -- ## The parts together
-
-recordAt-mono : (l i j : ℕ) → i ≤ j → recordAt l i ≤ recordAt l j
-recordAt-mono l i j h = omega (arith, recordAt-is l i, recordAt-is l j, mul-le-mul-right {m = i} {n = j} (6 + l) h)
 
 module _ (g : Signs) (src w : List ℕ) (sh : Sheet) (items weights : ℕ) (supplied : Bool) (area : List ℕ)
     (b : Buildable g src w sh items weights supplied area) where
@@ -140,15 +137,11 @@ module _ (g : Signs) (src w : List ℕ) (sh : Sheet) (items weights : ℕ) (supp
   pub build-weights : weights ≤ 2097088
   build-weights = omega (arith, b .sums .few-weights, build-items)
 
-  module _ {all at : ℕ} (e : all ≡ allItems supplied items) (q : at ≡ recordAt (sh .levels) all) where
-    near : at ≤ 458776
-    near = omega (arith, q, recordAt-bound (sh .levels) all (b .few) (size-items supplied items e build-items))
-
-    behind-items : supplied ≡ true → recordAt (sh .levels) items + 6 + sh .levels ≤ at + weights
-    behind-items s =
-        let a : all ≡ suc items = e ∙ rw s (add-one items) in
-        let z : at ≡ recordAt (sh .levels) items + 6 + sh .levels = q ∙ ap (recordAt (sh .levels)) a ∙ recordAt-suc (sh .levels) items in
-        omega (arith, z)
+  unlisted-long : length (unlisted (sh .levels) (allItems supplied items) area) ≡ 2 * allItems supplied items
+  unlisted-long =
+      let n : ℕ = allItems supplied items in
+      let d : ℕ = listingPart (sh .levels) n in
+      length-take-le (2 * n) (drop d area) (omega (arith, b .room, size-is (sh .levels) items weights supplied, length-drop d area))
 
   module _ {all sum : ℕ} (e : all ≡ allItems supplied items) (k : sum ≡ allWeights supplied (sh .levels) weights) where
     all-are : all ≡ items + length js
@@ -157,33 +150,35 @@ module _ (g : Signs) (src w : List ℕ) (sh : Sheet) (items weights : ℕ) (supp
     sum-are : sum ≡ weights + weightCount js
     sum-are = k ∙ ap (λ (n : ℕ). allWeights supplied n weights) (sym (b .levels)) ∙ supplied-weights rs (sh .order .count) supplied weights
 
-    size-are : recordAt (sh .levels) all + sum ≡ tableSize (sh .levels) items weights supplied
+    size-are : weightsPart (sh .levels) all + sum ≡ tableSize (sh .levels) items weights supplied
     size-are = rw (e, k) (sym (size-is (sh .levels) items weights supplied))
 
-    room : recordAt (sh .levels) all + sum ≤ length area
+    room : weightsPart (sh .levels) all + sum ≤ length area
     room = omega (arith, b .room, size-are)
 
     pub build-head : HeadFits g src (sh .rules) (sh .levels) all sum area
     build-head = record {
       started = b .started;
       within = b .within;
-      room = omega (arith, room, b .levels, recordAt-is (sh .levels) all);
+      room = omega (arith, room, b .levels);
       few-levels = b .few;
       few-items = size-items supplied items e build-items;
       few-weights = omega (arith, k, all-weights-few supplied (sh .levels) weights (b .few) build-weights);
     }
 
-    module _ {head : List ℕ} (p : head ≡ sets (sets area 0 (frontNumbers (sh .levels) all sum)) 16 (map ruleNumber (rulesAt g src (sh .rules)))) {at : ℕ}
-        (q : at ≡ recordAt (sh .levels) all) where
+    module _ {head : List ℕ}
+        (p : head ≡ sets (sets area 0 (frontNumbers (sh .levels) all sum)) (rulesPart (sh .levels) all) (map ruleNumber (rulesAt g src (sh .rules)))) {chars base : ℕ}
+        (q : chars ≡ endsAt (sh .levels) all) (o : base ≡ weightsPart (sh .levels) all) where
       head-long : length head ≡ length area
       head-long =
           let front : List ℕ = frontNumbers (sh .levels) all sum in
-          ap length p ∙ length-sets (sets area 0 front) 16 (map ruleNumber rs) ∙ length-sets area 0 front
+          ap length p ∙ length-sets (sets area 0 front) (rulesPart (sh .levels) all) (map ruleNumber rs) ∙ length-sets area 0 front
 
-      records-before : recordAt (sh .levels) items ≤ at
-      records-before = omega (arith, q, recordAt-mono (sh .levels) items all (omega (arith, all-are)))
+      ends-before : 16 + items * sh .levels ≤ chars
+      ends-before =
+          omega (arith, q, endsAt-is (sh .levels) all, mul-le-mul-right {m = items} {n = all} (sh .levels) (omega (arith, all-are)))
 
-      pub build-lines : Fillable g src w (sh .order) (sh .levels) head (16 + sh .levels) at
+      pub build-lines : Fillable g src w (sh .order) (sh .levels) head 16 chars base
       build-lines =
           let r : LinesReady g src w (sh .order) (sh .levels) = b .ready in
           let s : Sound (keyAt g src) (length src) w = r .sound in
@@ -193,72 +188,89 @@ module _ (g : Signs) (src w : List ℕ) (sh : Sheet) (items weights : ℕ) (supp
           record {
             ready = r;
             by = rankIn w (s .ds);
-            records = rw (← i) (omega (arith, records-before, recordAt-is (sh .levels) items));
-            weights = omega (arith, c, q, room, sum-are, head-long);
+            ends = rw (← i) ends-before;
+            chars = omega (arith, i, q, o, all-are);
+            weights = omega (arith, c, o, room, sum-are, head-long);
           }
 
-      module _ {filled : List ℕ} (r : Filled g src w (sh .order) (sh .levels) head (16 + sh .levels) at filled) where
+      module _ {filled : List ℕ} (r : Filled g src w (sh .order) (sh .levels) head 16 chars base filled) where
         filled-long : length filled ≡ length area
         filled-long =
             let t : LinesReady g src w (sh .order) (sh .levels) = b .ready in
             let s : Sound (keyAt g src) (length src) w = t .sound in
             let is : List Item = itemsOf g src w (sh .levels) (rankIn w (s .ds)) (t .marks) in
             ap length (r .is (t .marks) (t .lines) (s .n) (s .ds) (s .holds))
-            ∙ length-sets (sets head (16 + sh .levels) (itemNumbers 0 [] is [])) at (weightNumbers is [])
-            ∙ length-sets head (16 + sh .levels) (itemNumbers 0 [] is [])
+            ∙ length-sets (sets (sets head chars (charNumbers is [])) 16 (ends is)) base (weightNumbers is [])
+            ∙ length-sets (sets head chars (charNumbers is [])) 16 (ends is)
+            ∙ length-sets head chars (charNumbers is [])
             ∙ head-long
 
-        whole : {from : ℕ} {after : List ℕ} → from ≡ recordAt (sh .levels) items
-            → after ≡ sets (sets filled from (itemNumbers weights [] js [])) (at + weights) (weightNumbers js [])
+        whole : {after : List ℕ}
+            → after ≡ sets (sets (sets filled (chars + 4 * items) (charNumbers js [])) (endsAt (sh .levels) items) (sums weights (counts (weightLists js)))) (base + weights)
+            (weightNumbers js [])
             → Tabled g src w sh items weights supplied area after
         unfolding meaningBy
-        whole f z = record {
+        whole z = record {
           is = λ vs ls n ds h.
               let is : List Item = itemsOf g src w (sh .levels) (rankIn w ds) vs in
               let i : items ≡ length is = b .sums .items-are vs ls n ds h in
               let c : weights ≡ weightCount is = b .sums .weights-are vs ls n ds h in
               parts-written rs is js area (sym (b .levels)) i c (all-are ∙ ap (λ (m : ℕ). m + length js) i)
-              (sum-are ∙ ap (λ (m : ℕ). m + weightCount js) c) q f (items-levelled g src w (sh .levels) (rankIn w ds) vs)
+              (sum-are ∙ ap (λ (m : ℕ). m + weightCount js) c) q o (items-levelled g src w (sh .levels) (rankIn w ds) vs)
               (supplied-levelled rs (sh .order .count) supplied) room p (r .is vs ls n ds h) z
-              ∙ ap (λ (o : ℕ). storedWith [] (record { rules = rs; items = is ++ js }) (drop o area)) size-are;
+              ∙ ap (λ (m : ℕ). storedWith (unlisted (sh .levels) m area) (record { rules = rs; items = is ++ js }) (drop (weightsPart (sh .levels) all + sum) area)) e
+              ∙ ap (λ (m : ℕ). storedWith (unlisted (sh .levels) (allItems supplied items) area) (record { rules = rs; items = is ++ js }) (drop m area)) size-are;
         }
 
         pub build-plain : supplied ≡ false → Tabled g src w sh items weights supplied area filled
-        unfolding suppliedItems itemNumbers weightNumbers
-        build-plain s = whole {from = recordAt (sh .levels) items} refl (rw s)
+        unfolding suppliedItems charNumbers weightLists sums weightNumbers
+        build-plain s = whole (rw s)
 
-        pub build-suppliable : supplied ≡ true → Suppliable (sh .levels) items weights (sh .order .count) at filled
-        build-suppliable s = record {
-          few-levels = b .few;
-          few-items = build-items;
-          few-weights = build-weights;
-          few-lines = b .ready .few;
-          near = near e q;
-          behind-items = behind-items e q s;
-          room = let y : sum ≡ weights + sh .levels = k ∙ rw s in omega (arith, q, y, room, filled-long);
-        }
+        pub build-suppliable : supplied ≡ true → Suppliable (sh .levels) items weights (sh .order .count) chars base filled
+        build-suppliable s =
+            let a : all ≡ suc items = e ∙ rw s (add-one items) in
+            let y : sum ≡ weights + sh .levels = k ∙ rw s in
+            record {
+              few-levels = b .few;
+              few-items = build-items;
+              few-weights = build-weights;
+              few-lines = b .ready .few;
+              near = omega (arith, o, weightsPart-bound (sh .levels) all (b .few) (size-items supplied items e build-items));
+              ends = omega (arith, q, endsAt-room (sh .levels) items all (omega (arith, a)));
+              behind-chars = omega (arith, q, o, a);
+              room = omega (arith, o, y, room, filled-long);
+            }
 
         pub build-supplied : supplied ≡ true → {after : List ℕ}
-            → after ≡ sets (sets filled (recordAt (sh .levels) items) (suppliedNumbers (sh .levels) weights)) (at + weights) (replicate (sh .levels) (sh .order .count + 1))
+            → after ≡ sets (sets (sets filled (chars + 4 * items) (padded [] [])) (endsAt (sh .levels) items) (suppliedEnds (sh .levels) weights)) (base + weights)
+            (replicate (sh .levels) (sh .order .count + 1))
             → Tabled g src w sh items weights supplied area after
-        build-supplied s o =
+        build-supplied s z =
             let count : ℕ = sh .order .count in
             let j : js ≡ suppliedItems true rs count = rw s in
-            let x : suppliedNumbers (sh .levels) weights ≡ itemNumbers weights [] js [] = rw (← b .levels, j) (sym (supplied-record rs count weights)) in
-            let y : replicate (sh .levels) (count + 1) ≡ weightNumbers js [] = rw (add-one count, ← b .levels, j) (sym (supplied-ranks rs count)) in
-            whole refl (o ∙ rw (x, y))
+            let x : padded [] [] ≡ charNumbers js [] = rw j (sym (supplied-chars rs count)) in
+            let y : suppliedEnds (sh .levels) weights ≡ sums weights (counts (weightLists js)) = rw (← b .levels, j) (sym (supplied-ends rs count weights)) in
+            let v : replicate (sh .levels) (count + 1) ≡ weightNumbers js [] = rw (add-one count, ← b .levels, j) (sym (supplied-ranks rs count)) in
+            let from : ℕ = chars + 4 * items in
+            let slots : ℕ = endsAt (sh .levels) items in
+            whole
+            (z
+            ∙ ap (λ (cs : List ℕ). sets (sets (sets filled from cs) slots (suppliedEnds (sh .levels) weights)) (base + weights) (replicate (sh .levels) (count + 1))) x
+            ∙ ap (λ (es : List ℕ). sets (sets (sets filled from (charNumbers js [])) slots es) (base + weights) (replicate (sh .levels) (count + 1))) y
+            ∙ ap (sets (sets (sets filled from (charNumbers js [])) slots (sums weights (counts (weightLists js)))) (base + weights)) v)
 
--- ## The permutation
+-- ## The listing and the starts
 
 module _ (g : Signs) (src w : List ℕ) (sh : Sheet) (items weights : ℕ) (supplied : Bool) (area : List ℕ)
     (b : Buildable g src w sh items weights supplied area) {all : ℕ} (e : all ≡ allItems supplied items) {t : List ℕ} where
-  pub build-permute : length t ≡ length area → (buf : List ℕ) → 16384 ≤ length buf → Room t (sh .levels) all w buf
-  build-permute l buf k =
+  pub build-listing : length t ≡ length area → (buf : List ℕ) → 16384 ≤ length buf → Room t (sh .levels) all w buf
+  build-listing l buf k =
       let few : all ≤ 32768 = size-items supplied items e (build-items g src w sh items weights supplied area b) in
       record {
         few-levels = b .few;
+        some-item = omega (arith, e, b .some-item);
         few-items = few;
-        records = omega (arith, b .room, l, size-is (sh .levels) items weights supplied, ap (recordAt (sh .levels)) e);
+        parts = omega (arith, b .room, l, size-is (sh .levels) items weights supplied, ap (rulesPart (sh .levels)) e);
         places = omega (arith, b .places, e, all-near supplied items);
         half = omega (arith, few);
       }
@@ -274,13 +286,15 @@ module _ (g : Signs) (src w : List ℕ) (sh : Sheet) (items weights : ℕ) (supp
         let m : Meaning = meaningBy g src w sh supplied (rankIn w ds) vs in
         let rest : List ℕ = drop (tableSize (sh .levels) items weights supplied) area in
         let i : items ≡ length is = b .sums .items-are vs ls n ds h in
-        p .stored m (replicate (length (is ++ js)) 0) rest
+        let xs : List ℕ = unlisted (sh .levels) (allItems supplied items) area in
+        let c : allItems supplied items ≡ length (is ++ js) =
+        supplied-length rs (sh .order .count) supplied items ∙ ap (λ (k : ℕ). k + length js) i ∙ sym (length-append is js) in
+        p .stored m xs rest
         record {
           levels-are = sym (b .levels);
-          items-are =
-              e ∙ supplied-length rs (sh .order .count) supplied items ∙ ap (λ (k : ℕ). k + length js) i ∙ sym (length-append is js);
+          items-are = e ∙ c;
           all-stored = subst (λ (l : ℕ). AllStored l (is ++ js)) (sym (b .levels)) s;
-          one-each = length-replicate {A = ℕ} (length (is ++ js)) 0;
+          two-each = unlisted-long g src w sh items weights supplied area b ∙ ap (λ (k : ℕ). 2 * k) c;
         }
-        (a .is vs ls n ds h ∙ with-zeros m rest);
+        (a .is vs ls n ds h);
   }

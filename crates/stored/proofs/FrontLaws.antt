@@ -1,18 +1,20 @@
--- How many items and weights a table has, and numbers written into it: one of them again and again, the front, and the record of the supplied item.
+-- How many items and weights a table has, and numbers written into it: one of them again and again, rising numbers, the front, and the supplied item.
 use mathlib.Core.Path.{_≡_, refl, sym, ap, _∙_, subst}
 use mathlib.Core.Bool.{Bool, true, false}
 use mathlib.Core.List.{List, [], _∷_}
-use Prim.Native.Nat.{ℕ, suc, _+_, _-_, _≤_, _<_}
+use Prim.Native.Nat.{ℕ, suc, _+_, _-_, _*_, _≤_, _<_}
+use native.Mathlib.Nat.{mul-add}
 use native.Mathlib.Numerals.{add-one}
 use native.Mathlib.Omega.{arith}
 use mir.Syntax.{w64}
 use mir.Val.{Fits}
 use lib.ListN.{length, set, replicate, length-set}
 use lib.Seq.{sets, length-sets}
-use Rattle.layout.specs.Parts.{recordAt}
-use Rattle.layout.proofs.LayoutLaws.{recordAt-bound}
+use Rattle.rules.specs.Table.{sums, mask, padded}
+use Rattle.layout.specs.Parts.{endsAt, weightsPart}
+use Rattle.layout.proofs.LayoutLaws.{endsAt-is, weightsPart-bound}
 use Rattle.writes.specs.Writing.{Puts}
-use Rattle.stored.specs.Building.{allItems, allWeights, tableSize, frontNumbers, suppliedNumbers}
+use Rattle.stored.specs.Building.{allItems, allWeights, tableSize, frontNumbers, suppliedEnds}
 
 -- ## How many
 
@@ -37,25 +39,25 @@ pub all-weights-few : (supplied : Bool) (levels weights : ℕ) → levels ≤ 8 
 all-weights-few true levels weights h k = omega arith
 all-weights-few false levels weights h k = omega arith
 
--- the weights begin where one record more would
+-- the weights stand behind all other parts
 pub size-is : (levels items weights : ℕ) (supplied : Bool)
-    → tableSize levels items weights supplied ≡ recordAt levels (allItems supplied items) + allWeights supplied levels weights
-unfolding tableSize recordAt
-size-is levels items weights supplied = refl
+    → tableSize levels items weights supplied ≡ weightsPart levels (allItems supplied items) + allWeights supplied levels weights
+unfolding tableSize
+size-is levels items weights supplied =
+    let all : ℕ = allItems supplied items in
+    omega (arith, mul-add all 6 levels, endsAt-is levels all)
 
 pub size-items : (supplied : Bool) (items : ℕ) {all : ℕ} → all ≡ allItems supplied items → items ≤ 32767 → all ≤ 32768
 size-items supplied items e h = omega (arith, e, all-near supplied items)
 
-module _ (levels items weights : ℕ) (supplied : Bool) {all start sum : ℕ} (e : all ≡ allItems supplied items) (f : start ≡ recordAt levels all)
+module _ (levels items weights : ℕ) (supplied : Bool) {all base sum : ℕ} (e : all ≡ allItems supplied items) (f : base ≡ weightsPart levels all)
     (k : sum ≡ allWeights supplied levels weights) where
-  pub size-small : levels ≤ 8 → items ≤ 32767 → weights ≤ 2097088 → Fits w64 (start + sum)
+  pub size-small : levels ≤ 8 → items ≤ 32767 → weights ≤ 2097088 → Fits w64 (base + sum)
   size-small h i w =
-      omega (arith, f, k, recordAt-bound levels all h (size-items supplied items e i), all-weights-few supplied levels weights h w)
+      omega (arith, f, k, weightsPart-bound levels all h (size-items supplied items e i), all-weights-few supplied levels weights h w)
 
-  pub size-whole : start + sum ≡ tableSize levels items weights supplied
-  size-whole =
-      let z : start ≡ recordAt levels (allItems supplied items) = f ∙ ap (recordAt levels) e in
-      rw (z, k) (sym (size-is levels items weights supplied))
+  pub size-whole : base + sum ≡ tableSize levels items weights supplied
+  size-whole = rw (f, e, k) (sym (size-is levels items weights supplied))
 
 -- ## One number again and again
 
@@ -93,54 +95,68 @@ module _ {area : List ℕ} {at n x : ℕ} {now : List ℕ} {i left : ℕ} (v : R
       let e : 0 ≡ left = omega arith in
       ap (λ (k : ℕ). sets now i (replicate k x)) e ∙ v .same
 
+-- ## Rising numbers
+
+-- n numbers, each one above the one before it, go into an area from `at` on, the first being one above x; `left` of them are still to come, from i
+-- on, and the last was y.
+pub record Rising (area : List ℕ) (at n x : ℕ) (now : List ℕ) (i left y : ℕ) : Type 0 where
+  pub same : sets now i (suppliedEnds left y) ≡ sets area at (suppliedEnds n x)
+  pub inside : i + left ≤ length now
+  pub small : y + left < 4294967296
+  pub long : length now ≡ length area
+
+pub rising-none : (area : List ℕ) (at n x : ℕ) → at + n ≤ length area → x + n < 4294967296 → Rising area at n x area at n x
+rising-none area at n x h k = record { same = refl; inside = h; small = k; long = refl }
+
+rising-suc : (left y : ℕ) → suppliedEnds (suc left) y ≡ (y + 1) ∷ suppliedEnds left (y + 1)
+unfolding sums
+rising-suc left y = refl
+
+rising-zero : (y : ℕ) → suppliedEnds 0 y ≡ []
+unfolding sums
+rising-zero y = refl
+
+module _ {area : List ℕ} {at n x : ℕ} {now : List ℕ} {i left y : ℕ} (v : Rising area at n x now i left y) where
+  pub rising-more : 0 < left → Rising area at n x (set now i (y + 1)) (i + 1) (left - 1) (y + 1)
+  rising-more h =
+      let e : suc (left - 1) ≡ left = omega arith in
+      record {
+        same =
+            ap (λ (k : ℕ). sets (set now i (y + 1)) k (suppliedEnds (left - 1) (y + 1))) (add-one i)
+            ∙ ap (sets now i) (sym (rising-suc (left - 1) y))
+            ∙ ap (λ (k : ℕ). sets now i (suppliedEnds k y)) e
+            ∙ v .same;
+        inside = omega (arith, v .inside, length-set now i (y + 1));
+        small = omega (arith, v .small);
+        long = length-set now i (y + 1) ∙ v .long;
+      }
+
+  pub rising-all : left ≤ 0 → now ≡ sets area at (suppliedEnds n x)
+  rising-all h =
+      let e : 0 ≡ left = omega arith in
+      ap (sets now i) (sym (rising-zero y)) ∙ ap (λ (k : ℕ). sets now i (suppliedEnds k y)) e ∙ v .same
+
 -- ## The front
 
-module _ (area : List ℕ) (levels items weights : ℕ) {after : List ℕ}
-    (e : after ≡ sets (set (set (set area 0 levels) 1 items) 2 weights) 3 (replicate 13 0)) where
+module _ (area : List ℕ) (levels items weights : ℕ) {buckets : ℕ} (m : buckets ≡ mask items) {after : List ℕ}
+    (e : after ≡ sets (set (set (set (set area 0 levels) 1 items) 2 weights) 3 buckets) 4 (replicate 12 0)) where
   pub front-written : after ≡ sets area 0 (frontNumbers levels items weights)
-  front-written = e
+  front-written = e ∙ ap (λ (b : ℕ). sets area 0 (levels ∷ items ∷ weights ∷ b ∷ replicate 12 0)) m
 
   pub front-same : length after ≡ length area
-  front-same = ap length e ∙ length-sets area 0 (frontNumbers levels items weights)
+  front-same = ap length front-written ∙ length-sets area 0 (frontNumbers levels items weights)
 
 -- ## The supplied item
 
-module _ (area : List ℕ) (levels start from : ℕ) {a : List ℕ} (p : a ≡ sets area from (replicate 4 0x110000)) where
-  long : length a ≡ length area
-  long = ap length p ∙ length-sets area from (replicate 4 0x110000)
-
-  longer : length (set (set a (from + 4) start) (from + 5) 0) ≡ length area
-  longer = length-set (set a (from + 4) start) (from + 5) 0 ∙ length-set a (from + 4) start ∙ long
-
-  module _ (h : from + 6 + levels ≤ length area) where
-    pub record-start : from + 4 < length a
-    record-start = omega (arith, long)
-
-    pub record-place : from + 5 < length (set a (from + 4) start)
-    record-place = omega (arith, length-set a (from + 4) start, long)
-
-    pub record-counts : from + 6 + levels ≤ length (set (set a (from + 4) start) (from + 5) 0)
-    record-counts = omega (arith, longer)
-
-  module _ {after : List ℕ} (q : after ≡ sets (set (set a (from + 4) start) (from + 5) 0) (from + 6) (replicate levels 1)) where
-    pub record-same : length after ≡ length area
-    record-same = ap length q ∙ length-sets (set (set a (from + 4) start) (from + 5) 0) (from + 6) (replicate levels 1) ∙ longer
-
-    pub record-written : after ≡ sets area from (suppliedNumbers levels start)
-    record-written =
-        let e₄ : from + 4 ≡ suc (suc (suc (suc from))) = omega arith in
-        let e₅ : from + 5 ≡ suc (suc (suc (suc (suc from)))) = omega arith in
-        let e₆ : from + 6 ≡ suc (suc (suc (suc (suc (suc from))))) = omega arith in
-        let z : sets (set (set (sets area from (replicate 4 0x110000)) (from + 4) start) (from + 5) 0) (from + 6) (replicate levels 1)
-        ≡ sets area from (suppliedNumbers levels start) = rw (e₄, e₅, e₆) in
-        q ∙ ap (λ (y : List ℕ). sets (set (set y (from + 4) start) (from + 5) 0) (from + 6) (replicate levels 1)) p ∙ z
-
-pub supplied-written : (area : List ℕ) (levels rank start from at : ℕ) {a after : List ℕ} → a ≡ sets area from (suppliedNumbers levels start)
-    → after ≡ sets a at (replicate levels rank) → after ≡ sets (sets area from (suppliedNumbers levels start)) at (replicate levels rank)
-supplied-written area levels rank start from at p q = q ∙ ap (λ (y : List ℕ). sets y at (replicate levels rank)) p
+pub supplied-written : (area : List ℕ) (levels rank weights slots from at : ℕ) {a b after : List ℕ} → a ≡ sets area from (replicate 4 0x110000)
+    → b ≡ sets a slots (suppliedEnds levels weights) → after ≡ sets b at (replicate levels rank)
+    → after ≡ sets (sets (sets area from (padded [] [])) slots (suppliedEnds levels weights)) at (replicate levels rank)
+supplied-written area levels rank weights slots from at p q r = r ∙ rw (q, p)
 
 -- behind so many items, with a rank one above the last line's
-pub supply-written : (area : List ℕ) (levels items weights count at : ℕ) {from rank start : ℕ} {after : List ℕ} → from ≡ recordAt levels items → rank ≡ count + 1 → start ≡ weights
-    → after ≡ sets (sets area from (suppliedNumbers levels start)) (at + weights) (replicate levels rank)
-    → after ≡ sets (sets area (recordAt levels items) (suppliedNumbers levels weights)) (at + weights) (replicate levels (count + 1))
-supply-written area levels items weights count at f r s e = e ∙ rw (f, r, s)
+pub supply-written : (area : List ℕ) (levels items weights count chars base : ℕ) {slots rank start : ℕ} {after : List ℕ} → slots ≡ endsAt levels items
+    → rank ≡ count + 1 → start ≡ weights
+    → after ≡ sets (sets (sets area (chars + 4 * items) (padded [] [])) slots (suppliedEnds levels start)) (base + weights) (replicate levels rank)
+    → after ≡ sets (sets (sets area (chars + 4 * items) (padded [] [])) (endsAt levels items) (suppliedEnds levels weights)) (base + weights)
+    (replicate levels (count + 1))
+supply-written area levels items weights count chars base f r s e = e ∙ rw (f, r, s)

@@ -3,15 +3,15 @@ use mathlib.Core.Path.{_≡_}
 use mathlib.Core.Bool.{Bool}
 use mathlib.Core.List.{List, [], _∷_, _++_}
 use Prim.Native.Nat.{ℕ, suc, _+_, _*_, _≤_}
-use lib.ListN.{length, drop, replicate}
+use lib.ListN.{length, take, drop, replicate}
 use Rattle.rules.specs.Text.{if_then_else_}
 use Rattle.rules.specs.Tokens.{operands}
 use Rattle.rules.specs.Meaning.{Rule, Item, item, Meaning}
-use Rattle.rules.specs.Table.{padded, storedForm}
+use Rattle.rules.specs.Table.{sums, mask, storedForm}
 use Rattle.rules.specs.State.{Subject}
 use Rattle.rules.specs.Compile.{levelsOfRank}
-use Rattle.rules.proofs.TableLaws.{AllStored}
-use Rattle.layout.specs.Parts.{recordAt}
+use Rattle.rules.proofs.StorableLaws.{AllStored}
+use Rattle.layout.specs.Parts.{endsAt, listingPart, rulesPart}
 use Rattle.lines.specs.declared.Signs.{Signs}
 use Rattle.tokens.specs.Left.{tokensLeft}
 use Rattle.subjects.specs.Keys.{keyAt}
@@ -56,11 +56,15 @@ tableSize levels items weights supplied = 16 + levels + allItems supplied items 
 
 -- the 16 numbers in front
 abbrev pub frontNumbers : ℕ → ℕ → ℕ → List ℕ
-frontNumbers levels items weights = levels ∷ items ∷ weights ∷ replicate 13 0
+frontNumbers levels items weights = levels ∷ items ∷ weights ∷ mask items ∷ replicate 12 0
 
--- the record of UNDEFINED where it is supplied, its weights starting there among all
-abbrev pub suppliedNumbers : ℕ → ℕ → List ℕ
-suppliedNumbers levels start = padded [] (start ∷ 0 ∷ replicate levels 1)
+-- where the weights of UNDEFINED end, where it is supplied: one at each level, behind so many others
+abbrev pub suppliedEnds : ℕ → ℕ → List ℕ
+suppliedEnds levels weights = sums weights (replicate levels 1)
+
+-- the numbers in the place of the listing and the starts, of so many items
+abbrev pub unlisted : ℕ → ℕ → List ℕ → List ℕ
+unlisted levels items area = take (2 * items) (drop (listingPart levels items) area)
 
 -- ## What is asked and given
 
@@ -68,22 +72,24 @@ suppliedNumbers levels start = padded [] (start ∷ 0 ∷ replicate levels 1)
 pub record HeadFits (g : Signs) (src : List ℕ) (place levels items weights : ℕ) (area : List ℕ) : Type 0 where
   pub started : startRefusal (operands (tokensLeft g src (behind place))) ≡ 0
   pub within : place ≤ length src
-  pub room : 16 + length (rulesAt g src place) ≤ length area
+  pub room : rulesPart levels items + length (rulesAt g src place) ≤ length area
   pub few-levels : levels ≤ 8
   pub few-items : items ≤ 32768
   pub few-weights : weights ≤ 2097096
 
--- UNDEFINED can be supplied behind so many items, of so many order lines, and so many weights, which start at a place.
-pub record Suppliable (levels items weights count at : ℕ) (area : List ℕ) : Type 0 where
+-- UNDEFINED can be supplied behind so many items, of so many order lines, and so many weights; the characters and the weights of the table start at
+-- these places.
+pub record Suppliable (levels items weights count chars base : ℕ) (area : List ℕ) : Type 0 where
   pub few-levels : levels ≤ 8
   pub few-items : items ≤ 32767
   pub few-weights : weights ≤ 2097088
   pub few-lines : count ≤ 32767
-  pub near : at ≤ 458776
-  pub behind-items : recordAt levels items + 6 + levels ≤ at + weights
-  pub room : at + weights + levels ≤ length area
+  pub near : base ≤ 458776
+  pub ends : endsAt levels items + levels ≤ chars
+  pub behind-chars : chars + 4 * items + 4 ≤ base
+  pub room : base + weights + levels ≤ length area
 
--- The order lines and the rules can be read again; the items and weights are so many, and the area has room for the table.
+-- The order lines and the rules can be read again; the items, of which there are some, and weights are so many, and the area has room for the table.
 pub record Buildable (g : Signs) (src w : List ℕ) (sh : Sheet) (items weights : ℕ) (supplied : Bool) (area : List ℕ) : Type 0 where
   pub ready : LinesReady g src w (sh .order) (sh .levels)
   pub started : startRefusal (operands (tokensLeft g src (behind (sh .rules)))) ≡ 0
@@ -91,13 +97,15 @@ pub record Buildable (g : Signs) (src w : List ℕ) (sh : Sheet) (items weights 
   pub levels : length (rulesAt g src (sh .rules)) ≡ sh .levels
   pub few : sh .levels ≤ 8
   pub sums : WholeSums g src w (sh .order) (sh .levels) items weights
+  pub some-item : 1 ≤ allItems supplied items
   pub room : tableSize (sh .levels) items weights supplied ≤ length area
   pub places : items + 1 ≤ length w
 
--- All numbers but those of the permutation, which are 0; behind the table the area is as it was.
+-- All numbers but those of the listing and the starts; there, and behind the table, the area is as it was.
 pub record Tabled (g : Signs) (src w : List ℕ) (sh : Sheet) (items weights : ℕ) (supplied : Bool) (area after : List ℕ) : Type 0 where
   pub is : (vs : List ℕ) → Lines w (sh .order) vs → (n : ℕ) (ds : List Decl) → Holds (keyAt g src) (length src) w n ds
-      → after ≡ storedWith [] (meaningBy g src w sh supplied (rankIn w ds) vs) (drop (tableSize (sh .levels) items weights supplied) area)
+      → after ≡ storedWith (unlisted (sh .levels) (allItems supplied items) area) (meaningBy g src w sh supplied (rankIn w ds) vs)
+      (drop (tableSize (sh .levels) items weights supplied) area)
 
 -- The stored form of a meaning that can be stored.
 pub record Built (g : Signs) (src w : List ℕ) (sh : Sheet) (items weights : ℕ) (supplied : Bool) (area after : List ℕ) : Type 0 where

@@ -1,19 +1,22 @@
-// The whole table: its size, its front, the rules of its levels, its items, UNDEFINED where it is supplied, and the permutation.
+// The whole table: its size, its front, the rules of its levels, its items, UNDEFINED where it is supplied, the listing and the starts.
 ghost use mathlib.Core.Path.{_≡_};
-ghost use mathlib.Core.List.{map};
-ghost use Prim.Native.Nat.{_+_, _≤_, _<_};
+ghost use mathlib.Core.List.{[], map};
+ghost use Prim.Native.Nat.{_+_, _*_, _≤_, _<_};
 ghost use lib.ListN.{length, replicate};
 ghost use lib.Seq.{sets};
-ghost use Rattle.rules.specs.Table.{ruleNumber};
-ghost use Rattle.layout.specs.Parts.{recordAt};
+ghost use Rattle.rules.specs.Table.{padded, ruleNumber};
+ghost use Rattle.layout.specs.Parts.{endsAt, rulesPart};
 ghost use Rattle.sheet.specs.Sheets.{rulesAt};
-ghost use Rattle.stored.specs.Building.{allItems, allWeights, tableSize, frontNumbers, suppliedNumbers, HeadFits, Suppliable, Buildable, Tabled, Built};
+ghost use Rattle.stored.specs.Building.{allItems, allWeights, tableSize, frontNumbers, suppliedEnds, HeadFits, Suppliable, Buildable, Tabled, Built};
 use items::write_items;
-use layout::record_at;
+use layout::ends_at;
+use layout::mask_for;
+use layout::rules_part;
+use layout::weights_part;
 use levels::write_rules;
 use lines::Signs;
 use lines::Spot;
-use permute::permute_items;
+use permute::list_items;
 use sheet::Sheet;
 use units::Rank;
 use writes::put_rank;
@@ -52,9 +55,9 @@ pub fn table_size(levels: usize, items: usize, weights: usize, supplied: bool) -
     requires { ⌜ (levels ≤ 8) × (items ≤ 32767) × (weights ≤ 2097088) ⌝ }
     ensures { λ r. ⌜ r ≡ tableSize levels items weights supplied ⌝ }
 {
-    let start = record_at(levels, all_items(items, supplied));
+    let base = weights_part(levels, all_items(items, supplied));
     let sum = all_weights(levels, weights, supplied);
-    start + sum
+    base + sum
 }
 
 // One number, n times, from a place on.
@@ -84,51 +87,69 @@ fn fill_rank(area: &mut [u32], at: usize, n: usize, r: Rank)
     }
 }
 
-// The 16 numbers in front of a table: how many levels, items and weights it has, and zeros.
+// n numbers from a place on, each one above the one before it, the first one above x.
+fn count_up(area: &mut [u32], at: usize, n: usize, x: u32)
+    requires { ⌜ (at + n ≤ length (now area)) × (x + n < 4294967296) ⌝ }
+    ensures { λ _. ⌜ now (area .exit) ≡ sets (now (area .entry)) at (suppliedEnds n x) ⌝ }
+{
+    let mut i = at;
+    let mut left = n;
+    let mut last = x;
+    while 0 < left {
+        last += 1;
+        area[i] = last;
+        i += 1;
+        left -= 1;
+    }
+}
+
+// The 16 numbers in front of a table: how many levels, items and weights it has, the mask of its buckets, and zeros.
 fn write_front(area: &mut [u32], levels: u32, items: u32, weights: u32)
-    requires { ⌜ 16 ≤ length (now area) ⌝ }
+    requires { ⌜ (16 ≤ length (now area)) × (items ≤ 32768) ⌝ }
     ensures { λ _. ⌜ now (area .exit) ≡ sets (now (area .entry)) 0 (frontNumbers levels items weights) ⌝ }
 {
+    let buckets = mask_for(items);
     area[0] = levels;
     area[1] = items;
     area[2] = weights;
-    fill(area, 3, 13, 0);
+    area[3] = buckets;
+    fill(area, 4, 12, 0);
 }
 
-// The record of UNDEFINED where it is supplied: no characters, and one weight for each level.
-fn write_record(area: &mut [u32], levels: usize, start: u32, from: usize)
-    requires { ⌜ from + 6 + levels ≤ length (now area) ⌝ }
-    ensures { λ _. ⌜ now (area .exit) ≡ sets (now (area .entry)) from (suppliedNumbers levels start) ⌝ }
+// UNDEFINED where it is supplied: no characters, one weight for each level, which end behind so many others, and its rank at each level.
+fn write_supplied(area: &mut [u32], levels: usize, rank: Rank, weights: u32, slots: usize, from: usize, at: usize)
+    requires { ⌜ (slots + levels ≤ from) × (from + 4 ≤ at) × (at + levels ≤ length (now area)) × (weights + levels < 4294967296) ⌝ }
+    ensures { λ _. ⌜ now (area .exit) ≡ sets (sets (sets (now (area .entry)) from (padded [] [])) slots (suppliedEnds levels weights)) at (replicate levels (rank .0)) ⌝ }
 {
     fill(area, from, 4, 0x110000);
-    area[from + 4] = start;
-    area[from + 5] = 0;
-    fill(area, from + 6, levels, 1);
-}
-
-// UNDEFINED where it is supplied: its record, and its rank at each level.
-fn write_supplied(area: &mut [u32], levels: usize, rank: Rank, start: u32, from: usize, at: usize)
-    requires { ⌜ (from + 6 + levels ≤ at) × (at + levels ≤ length (now area)) ⌝ }
-    ensures { λ _. ⌜ now (area .exit) ≡ sets (sets (now (area .entry)) from (suppliedNumbers levels start)) at (replicate levels (rank .0)) ⌝ }
-{
-    write_record(area, levels, start, from);
+    count_up(area, slots, levels, weights);
     fill_rank(area, at, levels, rank);
 }
 
-// UNDEFINED supplied behind the items, whose weights start at a place: its rank is one above that of the last order line.
-fn supply(area: &mut [u32], levels: usize, items: usize, weights: usize, count: usize, at: usize)
-    requires { ⌜ Suppliable levels items weights count at (now area) ⌝ }
-    ensures { λ _. ⌜ now (area .exit) ≡ sets (sets (now (area .entry)) (recordAt levels items) (suppliedNumbers levels weights)) (at + weights) (replicate levels (count + 1)) ⌝ }
+// UNDEFINED supplied behind the items, in a table whose characters and weights start at these places: its rank is one above that of the last order
+// line.
+fn supply(
+    area: &mut [u32],
+    levels: usize,
+    items: usize,
+    weights: usize,
+    count: usize,
+    chars: usize,
+    base: usize,
+)
+    requires { ⌜ Suppliable levels items weights count chars base (now area) ⌝ }
+    ensures { λ _. ⌜ now (area .exit) ≡ sets (sets (sets (now (area .entry)) (chars + 4 * items) (padded [] [])) (endsAt levels items) (suppliedEnds levels weights)) (base + weights) (replicate levels (count + 1)) ⌝ }
 {
-    let from = record_at(levels, items);
+    let slots = ends_at(levels, items);
     let rank = narrow(count + 1);
     write_supplied(
         area,
         levels,
         Rank(rank),
         narrow(weights),
-        from,
-        at + weights,
+        slots,
+        chars + 4 * items,
+        base + weights,
     );
 }
 
@@ -143,7 +164,7 @@ fn write_head(
     area: &mut [u32],
 )
     requires { ⌜ HeadFits g (now src) place levels items weights (now area) ⌝ }
-    ensures { λ _. ⌜ now (area .exit) ≡ sets (sets (now (area .entry)) 0 (frontNumbers levels items weights)) 16 (map ruleNumber (rulesAt g (now (src .entry)) place)) ⌝ }
+    ensures { λ _. ⌜ now (area .exit) ≡ sets (sets (now (area .entry)) 0 (frontNumbers levels items weights)) (rulesPart levels items) (map ruleNumber (rulesAt g (now (src .entry)) place)) ⌝ }
 {
     write_front(area, narrow(levels), narrow(items), narrow(weights));
     let p = Spot {
@@ -151,10 +172,11 @@ fn write_head(
         mode: 0,
         fresh: false,
     };
-    write_rules(src, g, p, area, 16);
+    let at = rules_part(levels, items);
+    write_rules(src, g, p, area, at);
 }
 
-// All numbers of the table but its permutation.
+// All numbers of the table but its listing and its starts.
 fn write_table(
     src: &[u8],
     g: Signs,
@@ -172,10 +194,11 @@ fn write_table(
     let all = all_items(items, supplied);
     let sum = all_weights(levels, weights, supplied);
     write_head(src, g, sh.rules, levels, all, sum, area);
-    let at = record_at(levels, all);
-    write_items(src, g, work, sh.order, levels, area, 16 + levels, at);
+    let chars = ends_at(levels, all);
+    let base = weights_part(levels, all);
+    write_items(src, g, work, sh.order, levels, area, 16, chars, base);
     if supplied {
-        supply(area, levels, items, weights, sh.order.count, at);
+        supply(area, levels, items, weights, sh.order.count, chars, base);
         return;
     }
 }
@@ -197,5 +220,5 @@ pub fn build_table(
     write_table(src, g, &work[..], sh, items, weights, supplied, area);
     let all = all_items(items, supplied);
     let mut buf = [0u32; 16384];
-    permute_items(area, sh.levels, all, work, &mut buf);
+    list_items(area, sh.levels, all, work, &mut buf);
 }

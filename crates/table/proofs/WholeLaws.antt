@@ -13,12 +13,12 @@ use Rattle.table.proofs.WalkLaws.{listing-take}
 
 -- ## items_pass
 
-module _ (t : List ℕ) (l n w : ℕ) {chars : ℕ} (at : chars ≡ endsAt l n) (zero-end : getD t 15 0 ≡ 0) {a : Bool}
-    (ends : a ≡ endsPass w (getD t 15 0) (take (chars - 16) (drop 16 t))) where
+module _ (t : List ℕ) (l n w : ℕ) {chars : ℕ} (at : chars ≡ endsAt l n) {a : Bool}
+    (ends : a ≡ endsPass w 0 (take (chars - 16) (drop 16 t))) where
   all-ends : a ≡ endsPass w 0 (take (n * l) (drop 16 t))
   all-ends =
       let e : chars - 16 ≡ n * l = omega (arith, at, endsAt-is l n) in
-      ends ∙ rw (zero-end, e)
+      ends ∙ rw e
 
   pub items-ends : a ≡ false → false ≡ itemsPass t l n w
   unfolding itemsPass

@@ -1,8 +1,9 @@
 -- The check of a table as straight passes over its parts, in the shape of the code. That it decides acceptance as the paper defines it is
 -- the law `accepted-checks` (proofs/CheckLaws); no public contract cites this file.
+use mathlib.Core.Path.{_≡_}
 use mathlib.Core.Bool.{Bool, true, _&&_}
 use mathlib.Core.List.{List, [], _∷_, map}
-use Prim.Native.Nat.{ℕ, zero, suc, _+_, _*_}
+use Prim.Native.Nat.{ℕ, zero, suc, _+_, _-_, _*_, _%_, _<_}
 use lib.ListN.{length, getD, take, drop}
 use lib.Dec.{leb, eqb}
 use Rattle.rules.specs.Text.{if_then_else_, within, every}
@@ -35,6 +36,11 @@ headPasses t =
 unfoldable pub endsPass : ℕ → ℕ → List ℕ → Bool
 endsPass w at [] = eqb at w
 endsPass w at (e ∷ es) = within at (at + 8) e && endsPass w e es
+
+-- Whether an end is the one before it or at most 8 more, told by their difference of 32 bits. Where that cannot wrap, it is what passes.
+pub record Apart (before e r : ℕ) : Type 0 where
+  pub is : r ≡ fault (leb ((e + (4294967296 - before)) % 4294967296) 8)
+  pub near : before + 8 < 4294967296 → r ≡ fault (within before (before + 8) e)
 
 -- ## Characters
 

@@ -10,7 +10,7 @@ ghost use Rattle.rules.specs.Table.{pad, mask, before, accepted};
 ghost use Rattle.rules.specs.Calls.{checkCall};
 ghost use Rattle.layout.specs.Starts.{startAll};
 ghost use Rattle.layout.specs.Parts.{charsPart, rulesPart, weightsPart};
-ghost use Rattle.table.specs.Checks.{fault, headPasses, endsPass, charsPass, allChars, listingIn, itemsPass, checks};
+ghost use Rattle.table.specs.Checks.{fault, Apart, headPasses, endsPass, charsPass, allChars, listingIn, itemsPass, checks};
 ghost use Rattle.table.specs.Walk.{toldWith, Bucket, Next};
 ghost use Rattle.table.specs.Answers.{checkedAs};
 use units::Refusal;
@@ -55,23 +55,20 @@ pub fn all_within(t: &[u32], from: usize, n: usize, low: u32, high: u32) -> bool
     faults == 0
 }
 
-// 1 for a number below the one before it, or more than 8 above that, else 0.
+// 0 for a number that is the one before it or at most 8 more, round the top of the 32 bits too, else 1.
 fn apart(before: u32, e: u32) -> u32
-    ensures { λ r. ⌜ r ≡ fault (within before (before + 8) e) ⌝ }
+    ensures { λ r. ⌜ Apart before e r ⌝ }
 {
-    if e < before {
-        return 1;
-    }
-    if 8 < e - before {
+    if 8 < std::num::wrapping_sub_u32(e, before) {
         return 1;
     }
     0
 }
 
-// Whether each number from 16 up to `end` is the one before it and at most 8 more, and the last one is `weights`.
+// Whether each number from 16 up to `end` is the one before it or at most 8 more, and the last one is `weights`.
 fn ends_pass(t: &[u32], end: usize, weights: u32) -> bool
-    requires { ⌜ (16 ≤ end) × (end ≤ length (now t)) ⌝ }
-    ensures { λ r. ⌜ r ≡ endsPass weights (getD (now (t .entry)) 15 0) (take (end - 16) (drop 16 (now (t .entry)))) ⌝ }
+    requires { ⌜ (getD (now t) 15 0 ≡ 0) × (16 ≤ end) × (end ≤ 262160) × (end ≤ length (now t)) ⌝ }
+    ensures { λ r. ⌜ r ≡ endsPass weights 0 (take (end - 16) (drop 16 (now (t .entry)))) ⌝ }
 {
     let mut i: usize = 16;
     let mut faults: u32 = 0;

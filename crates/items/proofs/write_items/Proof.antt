@@ -1,15 +1,16 @@
 -- `items::write_items` meets its contract. The invariant: what stands in the area, with the items of the lines that are left, is the whole. The measure is how many lines are left.
 use mathlib.Core.Logic.{⊎-elim}
-use Rattle.items.proofs.FillLaws.{Writing, writing-none, writing-small, writing-chars, writing-row, writing-inside, writing-wide, writing-room, writing-slot, writing-item, writing-other, writing-all}
+use Rattle.items.proofs.FillLaws.{Writing, writing-none, writing-chars, writing-row, writing-inside, writing-room, writing-slot, writing-place, writing-item, writing-other, writing-all}
 use borrow.Author.Needs.{needs}
 use Rattle.items.proofs.write_items.Statement.{statement}
 use Rattle.items.proofs.write_items.Tie as tie
 
 abbrev Inv-loop : tie.InvT-loop
-Inv-loop src g work levels area₀ from at v₀ left₀ slot₀ next₀ area v left slot next = Writing g src work levels area₀ from at v₀ area v left slot next
+Inv-loop src g work levels area₀ slots from base v₀ left₀ slot₀ place₀ next₀ area v left slot place next =
+    Writing g src work levels area₀ slots from base v₀ area v left slot place next
 
 abbrev μ-loop : tie.MeasureT-loop
-μ-loop src g work levels area₀ from at v₀ left₀ slot₀ next₀ area v left slot next = left
+μ-loop src g work levels area₀ slots from base v₀ left₀ slot₀ place₀ next₀ area v left slot place next = left
 
 loop-holds : tie.Need-loop-holds Inv-loop μ-loop
 loop-holds c = search writing-none
@@ -17,20 +18,14 @@ loop-holds c = search writing-none
 is-item-requires : tie.Need-is-item-requires Inv-loop μ-loop
 is-item-requires c κs = search writing-chars
 
-sub-narrow : tie.Need-sub-narrow Inv-loop μ-loop
-sub-narrow c = search needs
-
-narrow-requires : tie.Need-narrow-requires Inv-loop μ-loop
-narrow-requires c κs = search writing-small
-
 write-item-requires : tie.Need-write-item-requires Inv-loop μ-loop
 write-item-requires c κs = ((search writing-chars, search writing-row), (search needs, search writing-room))
 
 add-slot : tie.Need-add-slot Inv-loop μ-loop
-add-slot c = search writing-wide
+add-slot c = search writing-slot
 
-add-slot-2 : tie.Need-add-slot-2 Inv-loop μ-loop
-add-slot-2 c = search writing-slot
+add-place : tie.Need-add-place Inv-loop μ-loop
+add-place c = search writing-place
 
 told-requires : tie.Need-told-requires Inv-loop μ-loop
 told-requires c κs = (search needs, search writing-inside)
@@ -61,11 +56,9 @@ write-items-spec =
     μ-loop
     loop-holds
     is-item-requires
-    sub-narrow
-    narrow-requires
     write-item-requires
     add-slot
-    add-slot-2
+    add-place
     told-requires
     wide-requires
     sub-left

@@ -1,6 +1,6 @@
--- `stored::build_table` meets its contract: the table is stored but for its permutation, and then whole.
+-- `stored::build_table` meets its contract: the table is stored but for its listing and its starts, and then whole.
 use borrow.Author.Needs.{needs}
-use Rattle.stored.proofs.BuildLaws.{build-permute, build-whole}
+use Rattle.stored.proofs.BuildLaws.{build-listing, build-whole}
 use Rattle.stored.proofs.build_table.Statement.{statement}
 use Rattle.stored.proofs.build_table.Tie as tie
 
@@ -10,11 +10,11 @@ write-table-requires c κs = search needs
 all-items-requires : tie.Need-all-items-requires
 all-items-requires c κs = search needs
 
-slice-aggregate-permute-items : tie.Need-slice-aggregate-permute-items
-slice-aggregate-permute-items c = search needs
+slice-aggregate-list-items : tie.Need-slice-aggregate-list-items
+slice-aggregate-list-items c = search needs
 
-permute-items-requires : tie.Need-permute-items-requires
-permute-items-requires c κs = search (build-permute, needs)
+list-items-requires : tie.Need-list-items-requires
+list-items-requires c κs = search (build-listing, needs)
 
 same-length : tie.Need-same-length
 same-length c = search needs
@@ -31,8 +31,8 @@ build-table-spec =
     (tie.spec
     write-table-requires
     all-items-requires
-    slice-aggregate-permute-items
-    permute-items-requires
+    slice-aggregate-list-items
+    list-items-requires
     same-length
     same-length-2
     returns)

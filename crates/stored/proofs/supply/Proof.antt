@@ -4,8 +4,8 @@ use Rattle.stored.proofs.FrontLaws.{supply-written}
 use Rattle.stored.proofs.supply.Statement.{statement}
 use Rattle.stored.proofs.supply.Tie as tie
 
-record-at-requires : tie.Need-record-at-requires
-record-at-requires c κs = search needs
+ends-at-requires : tie.Need-ends-at-requires
+ends-at-requires c κs = search needs
 
 add-narrow : tie.Need-add-narrow
 add-narrow c = search needs
@@ -16,8 +16,14 @@ narrow-requires c κs = search needs
 narrow-requires-2 : tie.Need-narrow-requires-2
 narrow-requires-2 c κs = search needs
 
+mul-write-supplied : tie.Need-mul-write-supplied
+mul-write-supplied c = search needs
+
 add-write-supplied : tie.Need-add-write-supplied
 add-write-supplied c = search needs
+
+add-write-supplied-2 : tie.Need-add-write-supplied-2
+add-write-supplied-2 c = search needs
 
 write-supplied-requires : tie.Need-write-supplied-requires
 write-supplied-requires c κs = search needs
@@ -32,11 +38,13 @@ pub supply-spec : {M : Type 1} → statement M
 supply-spec =
     tie.close
     (tie.spec
-    record-at-requires
+    ends-at-requires
     add-narrow
     narrow-requires
     narrow-requires-2
+    mul-write-supplied
     add-write-supplied
+    add-write-supplied-2
     write-supplied-requires
     same-length
     returns)

@@ -7,8 +7,8 @@ use Rattle.stored.proofs.table_size.Tie as tie
 all-items-requires : tie.Need-all-items-requires
 all-items-requires c κs = search needs
 
-record-at-requires : tie.Need-record-at-requires
-record-at-requires c κs = search (needs, size-items)
+weights-part-requires : tie.Need-weights-part-requires
+weights-part-requires c κs = search (needs, size-items)
 
 all-weights-requires : tie.Need-all-weights-requires
 all-weights-requires c κs = search needs
@@ -22,4 +22,4 @@ returns c = search size-whole
 pub table-size-spec : {M : Type 1} → statement M
 table-size-spec =
     tie.close
-    (tie.spec all-items-requires record-at-requires all-weights-requires add-result returns)
+    (tie.spec all-items-requires weights-part-requires all-weights-requires add-result returns)

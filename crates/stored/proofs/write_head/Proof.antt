@@ -1,6 +1,6 @@
 -- `stored::write_head` meets its contract.
 use borrow.Author.Needs.{needs}
-use Rattle.stored.proofs.BuildLaws.{head-rules, head-written}
+use Rattle.stored.proofs.BuildLaws.{head-front, head-rules, head-written}
 use Rattle.stored.proofs.write_head.Statement.{statement}
 use Rattle.stored.proofs.write_head.Tie as tie
 
@@ -14,7 +14,10 @@ narrow-requires-3 : tie.Need-narrow-requires-3
 narrow-requires-3 c κs = search needs
 
 write-front-requires : tie.Need-write-front-requires
-write-front-requires c κs = search needs
+write-front-requires c κs = (search head-front, search needs)
+
+rules-part-requires : tie.Need-rules-part-requires
+rules-part-requires c κs = search needs
 
 write-rules-requires : tie.Need-write-rules-requires
 write-rules-requires c κs = (search needs, search head-rules)
@@ -33,6 +36,7 @@ write-head-spec =
     narrow-requires-2
     narrow-requires-3
     write-front-requires
+    rules-part-requires
     write-rules-requires
     same-length
     returns)

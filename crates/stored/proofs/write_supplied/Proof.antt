@@ -4,8 +4,11 @@ use Rattle.stored.proofs.FrontLaws.{supplied-written}
 use Rattle.stored.proofs.write_supplied.Statement.{statement}
 use Rattle.stored.proofs.write_supplied.Tie as tie
 
-write-record-requires : tie.Need-write-record-requires
-write-record-requires c κs = search needs
+fill-requires : tie.Need-fill-requires
+fill-requires c κs = search needs
+
+count-up-requires : tie.Need-count-up-requires
+count-up-requires c κs = search needs
 
 fill-rank-requires : tie.Need-fill-rank-requires
 fill-rank-requires c κs = search needs
@@ -17,4 +20,5 @@ returns : tie.Need-returns
 returns c = search supplied-written
 
 pub write-supplied-spec : {M : Type 1} → statement M
-write-supplied-spec = tie.close (tie.spec write-record-requires fill-rank-requires same-length returns)
+write-supplied-spec =
+    tie.close (tie.spec fill-requires count-up-requires fill-rank-requires same-length returns)

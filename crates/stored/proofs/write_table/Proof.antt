@@ -14,17 +14,17 @@ all-weights-requires c κs = search needs
 write-head-requires : tie.Need-write-head-requires
 write-head-requires c κs = search build-head
 
-record-at-requires : tie.Need-record-at-requires
-record-at-requires c κs = search (needs, size-items, build-items)
+ends-at-requires : tie.Need-ends-at-requires
+ends-at-requires c κs = search (needs, size-items, build-items)
 
-add-write-items : tie.Need-add-write-items
-add-write-items c = search needs
+weights-part-requires : tie.Need-weights-part-requires
+weights-part-requires c κs = search (needs, size-items, build-items)
 
 write-items-requires : tie.Need-write-items-requires
 write-items-requires c κs = search build-lines
 
 supply-requires : tie.Need-supply-requires
-supply-requires c κs = search (build-suppliable _ _ _ _ _ _ _ _ (c .before .before .before .before .before .before .before .before .before .before .before .before .before .before .before .before .pre))
+supply-requires c κs = search (build-suppliable _ _ _ _ _ _ _ _ (c .before .before .before .before .before .before .before .before .before .before .before .before .before .before .before .before .before .pre))
 
 same-length : tie.Need-same-length
 same-length c = search needs
@@ -45,8 +45,8 @@ write-table-spec =
     all-items-requires
     all-weights-requires
     write-head-requires
-    record-at-requires
-    add-write-items
+    ends-at-requires
+    weights-part-requires
     write-items-requires
     supply-requires
     same-length

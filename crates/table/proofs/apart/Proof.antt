@@ -1,16 +1,17 @@
 -- `table::apart` meets its contract: one law for each return.
-use Rattle.table.proofs.EndLaws.{apart-falls, apart-far, apart-none}
+use borrow.Author.Needs.{needs}
+use Rattle.table.proofs.EndLaws.{apart-far, apart-near}
 use Rattle.table.proofs.apart.Statement.{statement}
 use Rattle.table.proofs.apart.Tie as tie
 
+wrapping-sub-u32-requires : tie.Need-wrapping-sub-u32-requires
+wrapping-sub-u32-requires c κs = search needs
+
 returns : tie.Need-returns
-returns c = search apart-falls
+returns c = search apart-far
 
 returns-2 : tie.Need-returns-2
-returns-2 c = search apart-far
-
-returns-3 : tie.Need-returns-3
-returns-3 c = search apart-none
+returns-2 c = search apart-near
 
 pub apart-spec : {M : Type 1} → statement M
-apart-spec = tie.close (tie.spec returns returns-2 returns-3)
+apart-spec = tie.close (tie.spec wrapping-sub-u32-requires returns returns-2)

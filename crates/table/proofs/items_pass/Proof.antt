@@ -1,7 +1,7 @@
 -- `table::items_pass` meets its contract: one law for each return.
 use borrow.Author.Needs.{needs}
 use native.Mathlib.Omega.{arith}
-use Rattle.layout.proofs.LayoutLaws.{endsAt-least}
+use Rattle.layout.proofs.LayoutLaws.{endsAt-least, endsAt-bound}
 use Rattle.table.proofs.WholeLaws.{items-ends, items-chars, items-listing}
 use Rattle.table.proofs.items_pass.Statement.{statement}
 use Rattle.table.proofs.items_pass.Tie as tie
@@ -10,7 +10,9 @@ ends-at-requires : tie.Need-ends-at-requires
 ends-at-requires c κs = search needs
 
 ends-pass-requires : tie.Need-ends-pass-requires
-ends-pass-requires c κs = omega (arith, endsAt-least (c .before .before .args .levels) (c .before .before .args .items))
+ends-pass-requires c κs =
+    let a = c .before .before .args in
+    omega (arith, endsAt-least (a .levels) (a .items), endsAt-bound (a .levels) (a .items) (search needs) (search needs))
 
 chars-pass-requires : tie.Need-chars-pass-requires
 chars-pass-requires c κs = search needs
