@@ -144,8 +144,9 @@ module _ {src w : List ℕ} {g : Signs} {sh : Sheet} (v : RanksGiven src w g sh)
           let i = u .items-are (v .meant .marks) (v .meant .lines) (v .meant .n) (v .meant .ds) (v .meant .holds) in
           let n : length (meant .items) ≡ allItems b items =
           items-all b is (rulesAt g src (sh .rules)) (sh .order .count) ∙ ap (allItems b) (sym i) in
-          let some : 1 ≤ length (meaningOf (v .last) .items) = some-one (meaningOf (v .last) .items) (good-parts (meaningOf (v .last)) good-meant .undefined) in
-          omega (arith, some, n, ap (λ (m : Meaning). length (m .items)) same-meaning)
+          let m : Meaning = meaningOf (v .last) in
+          let some : 1 ≤ length (m .items) = some-one (m .items) (good-parts m good-meant .undefined) in
+          omega (arith, some, n, ap (λ (x : Meaning). length (x .items)) same-meaning)
 
     module _ {b : Bool} {size : ℕ} {area : List ℕ} (f : TableFits src w sh items weights b size area) where
       pub table-buildable : Buildable g src w sh items weights b area

@@ -18,8 +18,8 @@ use Rattle.rules.specs.OrderLines.{ruleOf, ruleCodes, operandList}
 use Rattle.rules.specs.Compile.{levelsOfRank}
 use Rattle.rules.proofs.StorableLaws.{AllStored}
 use Rattle.rules.proofs.SizeLaws.{flatten-length}
-use Rattle.layout.specs.Parts.{endsAt, charsPart, listingPart, rulesPart, weightsPart}
-use Rattle.layout.proofs.LayoutLaws.{endsAt-is, endsAt-room, endsAt-suc, weightsPart-bound}
+use Rattle.layout.specs.Parts.{endsAt, listingPart, rulesPart, weightsPart}
+use Rattle.layout.proofs.LayoutLaws.{endsAt-is, endsAt-room, weightsPart-bound}
 use Rattle.lines.specs.declared.Signs.{Signs}
 use Rattle.tokens.specs.Left.{tokensLeft}
 use Rattle.rows.specs.Cells.{cell}
@@ -36,7 +36,7 @@ use Rattle.writes.proofs.LineLaws.{levelRanks-length}
 use Rattle.permute.specs.Permuted.{storedWith, Room, Permuted}
 use Rattle.items.specs.Items.{isItem, itemOf, itemsOf, LinesReady}
 use Rattle.items.specs.Filling.{Fillable, Filled}
-use Rattle.stored.specs.Building.{suppliedItems, meaningBy, allItems, allWeights, tableSize, frontNumbers, suppliedEnds, unlisted, HeadFits, Suppliable, Buildable, Tabled, Built}
+use Rattle.stored.specs.Building.{suppliedItems, meaningBy, allItems, allWeights, tableSize, frontNumbers, suppliedEnds, withSupplied, unlisted, HeadFits, Suppliable, Buildable, Tabled, Built}
 use Rattle.stored.proofs.FrontLaws.{all-near, all-weights-few, size-is, size-items}
 use Rattle.stored.proofs.TableLaws.{Levelled, parts-written}
 
@@ -167,7 +167,8 @@ module _ (g : Signs) (src w : List ℕ) (sh : Sheet) (items weights : ℕ) (supp
     }
 
     module _ {head : List ℕ}
-        (p : head ≡ sets (sets area 0 (frontNumbers (sh .levels) all sum)) (rulesPart (sh .levels) all) (map ruleNumber (rulesAt g src (sh .rules)))) {chars base : ℕ}
+        (p : head ≡ sets (sets area 0 (frontNumbers (sh .levels) all sum)) (rulesPart (sh .levels) all) (map ruleNumber (rulesAt g src (sh .rules))))
+        {chars base : ℕ}
         (q : chars ≡ endsAt (sh .levels) all) (o : base ≡ weightsPart (sh .levels) all) where
       head-long : length head ≡ length area
       head-long =
@@ -206,20 +207,22 @@ module _ (g : Signs) (src w : List ℕ) (sh : Sheet) (items weights : ℕ) (supp
             ∙ head-long
 
         whole : {after : List ℕ}
-            → after ≡ sets (sets (sets filled (chars + 4 * items) (charNumbers js [])) (endsAt (sh .levels) items) (sums weights (counts (weightLists js)))) (base + weights)
-            (weightNumbers js [])
+            → after
+            ≡ sets (sets (sets filled (chars + 4 * items) (charNumbers js [])) (endsAt (sh .levels) items) (sums weights (counts (weightLists js))))
+            (base + weights) (weightNumbers js [])
             → Tabled g src w sh items weights supplied area after
         unfolding meaningBy
         whole z = record {
           is = λ vs ls n ds h.
               let is : List Item = itemsOf g src w (sh .levels) (rankIn w ds) vs in
+              let m : Meaning = record { rules = rs; items = is ++ js } in
               let i : items ≡ length is = b .sums .items-are vs ls n ds h in
               let c : weights ≡ weightCount is = b .sums .weights-are vs ls n ds h in
               parts-written rs is js area (sym (b .levels)) i c (all-are ∙ ap (λ (m : ℕ). m + length js) i)
               (sum-are ∙ ap (λ (m : ℕ). m + weightCount js) c) q o (items-levelled g src w (sh .levels) (rankIn w ds) vs)
               (supplied-levelled rs (sh .order .count) supplied) room p (r .is vs ls n ds h) z
-              ∙ ap (λ (m : ℕ). storedWith (unlisted (sh .levels) m area) (record { rules = rs; items = is ++ js }) (drop (weightsPart (sh .levels) all + sum) area)) e
-              ∙ ap (λ (m : ℕ). storedWith (unlisted (sh .levels) (allItems supplied items) area) (record { rules = rs; items = is ++ js }) (drop m area)) size-are;
+              ∙ ap (λ (x : ℕ). storedWith (unlisted (sh .levels) x area) m (drop (weightsPart (sh .levels) all + sum) area)) e
+              ∙ ap (λ (x : ℕ). storedWith (unlisted (sh .levels) (allItems supplied items) area) m (drop x area)) size-are;
         }
 
         pub build-plain : supplied ≡ false → Tabled g src w sh items weights supplied area filled
@@ -242,21 +245,22 @@ module _ (g : Signs) (src w : List ℕ) (sh : Sheet) (items weights : ℕ) (supp
             }
 
         pub build-supplied : supplied ≡ true → {after : List ℕ}
-            → after ≡ sets (sets (sets filled (chars + 4 * items) (padded [] [])) (endsAt (sh .levels) items) (suppliedEnds (sh .levels) weights)) (base + weights)
-            (replicate (sh .levels) (sh .order .count + 1))
+            → after ≡ withSupplied filled (sh .levels) weights (sh .order .count + 1) (endsAt (sh .levels) items) (chars + 4 * items) (base + weights)
             → Tabled g src w sh items weights supplied area after
         build-supplied s z =
             let count : ℕ = sh .order .count in
             let j : js ≡ suppliedItems true rs count = rw s in
             let x : padded [] [] ≡ charNumbers js [] = rw j (sym (supplied-chars rs count)) in
-            let y : suppliedEnds (sh .levels) weights ≡ sums weights (counts (weightLists js)) = rw (← b .levels, j) (sym (supplied-ends rs count weights)) in
-            let v : replicate (sh .levels) (count + 1) ≡ weightNumbers js [] = rw (add-one count, ← b .levels, j) (sym (supplied-ranks rs count)) in
+            let es : List ℕ = suppliedEnds (sh .levels) weights in
+            let ranks : List ℕ = replicate (sh .levels) (count + 1) in
+            let y : es ≡ sums weights (counts (weightLists js)) = rw (← b .levels, j) (sym (supplied-ends rs count weights)) in
+            let v : ranks ≡ weightNumbers js [] = rw (add-one count, ← b .levels, j) (sym (supplied-ranks rs count)) in
             let from : ℕ = chars + 4 * items in
             let slots : ℕ = endsAt (sh .levels) items in
             whole
             (z
-            ∙ ap (λ (cs : List ℕ). sets (sets (sets filled from cs) slots (suppliedEnds (sh .levels) weights)) (base + weights) (replicate (sh .levels) (count + 1))) x
-            ∙ ap (λ (es : List ℕ). sets (sets (sets filled from (charNumbers js [])) slots es) (base + weights) (replicate (sh .levels) (count + 1))) y
+            ∙ ap (λ (a : List ℕ). sets (sets (sets filled from a) slots es) (base + weights) ranks) x
+            ∙ ap (λ (a : List ℕ). sets (sets (sets filled from (charNumbers js [])) slots a) (base + weights) ranks) y
             ∙ ap (sets (sets (sets filled from (charNumbers js [])) slots (sums weights (counts (weightLists js)))) (base + weights)) v)
 
 -- ## The listing and the starts

@@ -10,11 +10,11 @@ use mir.Syntax.{w64}
 use mir.Val.{Fits}
 use lib.ListN.{length, set, replicate, length-set}
 use lib.Seq.{sets, length-sets}
-use Rattle.rules.specs.Table.{sums, mask, padded}
+use Rattle.rules.specs.Table.{sums, mask}
 use Rattle.layout.specs.Parts.{endsAt, weightsPart}
 use Rattle.layout.proofs.LayoutLaws.{endsAt-is, weightsPart-bound}
 use Rattle.writes.specs.Writing.{Puts}
-use Rattle.stored.specs.Building.{allItems, allWeights, tableSize, frontNumbers, suppliedEnds}
+use Rattle.stored.specs.Building.{allItems, allWeights, tableSize, frontNumbers, suppliedEnds, withSupplied}
 
 -- ## How many
 
@@ -150,13 +150,12 @@ module _ (area : List ℕ) (levels items weights : ℕ) {buckets : ℕ} (m : buc
 
 pub supplied-written : (area : List ℕ) (levels rank weights slots from at : ℕ) {a b after : List ℕ} → a ≡ sets area from (replicate 4 0x110000)
     → b ≡ sets a slots (suppliedEnds levels weights) → after ≡ sets b at (replicate levels rank)
-    → after ≡ sets (sets (sets area from (padded [] [])) slots (suppliedEnds levels weights)) at (replicate levels rank)
+    → after ≡ withSupplied area levels weights rank slots from at
 supplied-written area levels rank weights slots from at p q r = r ∙ rw (q, p)
 
 -- behind so many items, with a rank one above the last line's
 pub supply-written : (area : List ℕ) (levels items weights count chars base : ℕ) {slots rank start : ℕ} {after : List ℕ} → slots ≡ endsAt levels items
     → rank ≡ count + 1 → start ≡ weights
-    → after ≡ sets (sets (sets area (chars + 4 * items) (padded [] [])) slots (suppliedEnds levels start)) (base + weights) (replicate levels rank)
-    → after ≡ sets (sets (sets area (chars + 4 * items) (padded [] [])) (endsAt levels items) (suppliedEnds levels weights)) (base + weights)
-    (replicate levels (count + 1))
+    → after ≡ withSupplied area levels start rank slots (chars + 4 * items) (base + weights)
+    → after ≡ withSupplied area levels weights (count + 1) (endsAt levels items) (chars + 4 * items) (base + weights)
 supply-written area levels items weights count chars base f r s e = e ∙ rw (f, r, s)

@@ -48,7 +48,8 @@ ends-two is js =
 weights-two : (is js : List Item) → weightNumbers is [] ++ weightNumbers js [] ≡ weightNumbers (is ++ js) []
 unfolding weightNumbers
 weights-two [] js = refl
-weights-two (i ∷ is) js = append-assoc (flatten (i .weights)) (weightNumbers is []) (weightNumbers js []) ∙ ap (λ (r : List ℕ). flatten (i .weights) ++ r) (weights-two is js)
+weights-two (i ∷ is) js =
+    append-assoc (flatten (i .weights)) (weightNumbers is []) (weightNumbers js []) ∙ ap (λ (r : List ℕ). flatten (i .weights) ++ r) (weights-two is js)
 
 -- ## Items with weights for l levels
 
@@ -183,8 +184,8 @@ parts-stored rs is area h room =
     let rules : List ℕ = map ruleNumber rs in
     let rest : List ℕ = drop (weightsPart l n + weightCount is) area in
     let e : weightsPart l n + length (weightNumbers is []) ≡ weightsPart l n + weightCount is = omega (arith, weights-long is) in
-    sets-six area front (ends is) (charNumbers is []) xs rules (weightNumbers is []) 16 (charsPart l n) (listingPart l n) (rulesPart l n) (weightsPart l n) refl
-    (omega (arith, endsAt-is l n, ends-long l is h)) (omega (arith, chars-long is)) (omega (arith, lx)) (omega (arith, length-map rs ruleNumber))
+    sets-six area front (ends is) (charNumbers is []) xs rules (weightNumbers is []) 16 (charsPart l n) (listingPart l n) (rulesPart l n) (weightsPart l n)
+    refl (omega (arith, endsAt-is l n, ends-long l is h)) (omega (arith, chars-long is)) (omega (arith, lx)) (omega (arith, length-map rs ruleNumber))
     (omega (arith, e, room)) (sets-kept area (listingPart l n) (2 * n) (omega (arith, room)))
     ∙ ap (λ (o : ℕ). front ++ (ends is ++ (charNumbers is [] ++ (xs ++ (rules ++ (weightNumbers is [] ++ drop o area)))))) e
     ∙ rw (weights-append is [] rest, chars-append is [] (xs ++ (rules ++ weightNumbers is rest)))
@@ -196,8 +197,8 @@ module _ (rs : List Rule) (is js : List Item) (area : List ℕ) {levels items we
     (room : weightsPart levels all + sum ≤ length area) where
   pub parts-written : {head filled after : List ℕ} → head ≡ sets (sets area 0 (frontNumbers levels all sum)) (rulesPart levels all) (map ruleNumber rs)
       → filled ≡ sets (sets (sets head chars (charNumbers is [])) 16 (ends is)) base (weightNumbers is [])
-      → after ≡ sets (sets (sets filled (chars + 4 * items) (charNumbers js [])) (endsAt levels items) (sums weights (counts (weightLists js)))) (base + weights)
-      (weightNumbers js [])
+      → after ≡ sets (sets (sets filled (chars + 4 * items) (charNumbers js [])) (endsAt levels items) (sums weights (counts (weightLists js))))
+      (base + weights) (weightNumbers js [])
       → after ≡ storedWith (unlisted levels all area) (record { rules = rs; items = is ++ js }) (drop (weightsPart levels all + sum) area)
   parts-written {head} {filled} {after} eh ed ez =
       let g : All (Levelled (length rs)) is = subst (λ (n : ℕ). All (Levelled n) is) el h in

@@ -4,10 +4,11 @@ use mathlib.Core.Bool.{Bool}
 use mathlib.Core.List.{List, [], _∷_, _++_}
 use Prim.Native.Nat.{ℕ, suc, _+_, _*_, _≤_}
 use lib.ListN.{length, take, drop, replicate}
+use lib.Seq.{sets}
 use Rattle.rules.specs.Text.{if_then_else_}
 use Rattle.rules.specs.Tokens.{operands}
 use Rattle.rules.specs.Meaning.{Rule, Item, item, Meaning}
-use Rattle.rules.specs.Table.{sums, mask, storedForm}
+use Rattle.rules.specs.Table.{padded, sums, mask, storedForm}
 use Rattle.rules.specs.State.{Subject}
 use Rattle.rules.specs.Compile.{levelsOfRank}
 use Rattle.rules.proofs.StorableLaws.{AllStored}
@@ -61,6 +62,10 @@ frontNumbers levels items weights = levels ∷ items ∷ weights ∷ mask items 
 -- where the weights of UNDEFINED end, where it is supplied: one at each level, behind so many others
 abbrev pub suppliedEnds : ℕ → ℕ → List ℕ
 suppliedEnds levels weights = sums weights (replicate levels 1)
+
+-- the area with UNDEFINED supplied in it: no characters, where its weights end, and its rank at each level
+abbrev pub withSupplied : List ℕ → ℕ → ℕ → ℕ → ℕ → ℕ → ℕ → List ℕ
+withSupplied area levels weights rank slots from at = sets (sets (sets area from (padded [] [])) slots (suppliedEnds levels weights)) at (replicate levels rank)
 
 -- the numbers in the place of the listing and the starts, of so many items
 abbrev pub unlisted : ℕ → ℕ → List ℕ → List ℕ

@@ -1,13 +1,13 @@
 // The whole table: its size, its front, the rules of its levels, its items, UNDEFINED where it is supplied, the listing and the starts.
 ghost use mathlib.Core.Path.{_≡_};
-ghost use mathlib.Core.List.{[], map};
+ghost use mathlib.Core.List.{map};
 ghost use Prim.Native.Nat.{_+_, _*_, _≤_, _<_};
 ghost use lib.ListN.{length, replicate};
 ghost use lib.Seq.{sets};
-ghost use Rattle.rules.specs.Table.{padded, ruleNumber};
+ghost use Rattle.rules.specs.Table.{ruleNumber};
 ghost use Rattle.layout.specs.Parts.{endsAt, rulesPart};
 ghost use Rattle.sheet.specs.Sheets.{rulesAt};
-ghost use Rattle.stored.specs.Building.{allItems, allWeights, tableSize, frontNumbers, suppliedEnds, HeadFits, Suppliable, Buildable, Tabled, Built};
+ghost use Rattle.stored.specs.Building.{allItems, allWeights, tableSize, frontNumbers, suppliedEnds, withSupplied, HeadFits, Suppliable, Buildable, Tabled, Built};
 use items::write_items;
 use layout::ends_at;
 use layout::mask_for;
@@ -117,9 +117,17 @@ fn write_front(area: &mut [u32], levels: u32, items: u32, weights: u32)
 }
 
 // UNDEFINED where it is supplied: no characters, one weight for each level, which end behind so many others, and its rank at each level.
-fn write_supplied(area: &mut [u32], levels: usize, rank: Rank, weights: u32, slots: usize, from: usize, at: usize)
+fn write_supplied(
+    area: &mut [u32],
+    levels: usize,
+    rank: Rank,
+    weights: u32,
+    slots: usize,
+    from: usize,
+    at: usize,
+)
     requires { ⌜ (slots + levels ≤ from) × (from + 4 ≤ at) × (at + levels ≤ length (now area)) × (weights + levels < 4294967296) ⌝ }
-    ensures { λ _. ⌜ now (area .exit) ≡ sets (sets (sets (now (area .entry)) from (padded [] [])) slots (suppliedEnds levels weights)) at (replicate levels (rank .0)) ⌝ }
+    ensures { λ _. ⌜ now (area .exit) ≡ withSupplied (now (area .entry)) levels weights (rank .0) slots from at ⌝ }
 {
     fill(area, from, 4, 0x110000);
     count_up(area, slots, levels, weights);
@@ -138,7 +146,7 @@ fn supply(
     base: usize,
 )
     requires { ⌜ Suppliable levels items weights count chars base (now area) ⌝ }
-    ensures { λ _. ⌜ now (area .exit) ≡ sets (sets (sets (now (area .entry)) (chars + 4 * items) (padded [] [])) (endsAt levels items) (suppliedEnds levels weights)) (base + weights) (replicate levels (count + 1)) ⌝ }
+    ensures { λ _. ⌜ now (area .exit) ≡ withSupplied (now (area .entry)) levels weights (count + 1) (endsAt levels items) (chars + 4 * items) (base + weights) ⌝ }
 {
     let slots = ends_at(levels, items);
     let rank = narrow(count + 1);
