@@ -1,18 +1,17 @@
 -- The table after the ranks: its size, and that what is built is what the paper compiles.
 use mathlib.Core.Path.{_≡_, refl, sym, ap, _∙_, subst}
-use mathlib.Core.Bool.{Bool, true, false, false≢true}
+use mathlib.Core.Bool.{Bool, true, false}
 use mathlib.Core.List.{List, [], _∷_, _++_, append-nil}
 use Prim.Native.Nat.{ℕ, suc, _+_, _≤_, _<_}
 use native.Mathlib.Omega.{arith}
 use lib.ListN.{length, drop, length-append}
 use lib.Dec.{eqb}
-use Rattle.rules.specs.Text.{every, oneOf, refused}
-use Rattle.rules.specs.Meaning.{Rule, Item, Meaning, hasChars, countAll, weightCount, sizeOf, good}
+use Rattle.rules.specs.Text.{every, refused}
+use Rattle.rules.specs.Meaning.{Rule, Item, Meaning, countAll, weightCount, sizeOf, good}
 use Rattle.rules.specs.Table.{storedForm}
 use Rattle.rules.specs.State.{OrderLine, undefined}
 use Rattle.rules.specs.OrderLines.{rankOf}
 use Rattle.rules.specs.Compile.{levelsOfRank, supplied, meaningOf, isRanked}
-use Rattle.rules.proofs.MeaningLaws.{good-parts}
 use Rattle.rules.proofs.StorableLaws.{AllStored, meaning-stored}
 use Rattle.rules.proofs.SizeLaws.{stored-size}
 use Rattle.rules.proofs.TableLaws.{stored-append}
@@ -51,11 +50,6 @@ weights-all : (b : Bool) (is : List Item) (rs : List Rule) (k : ℕ) → weightC
 unfolding suppliedItems weightCount
 weights-all true is rs k = let e = weightCount-append is (suppliedItems true rs k) in let c = levels-count (suc k) rs in omega (arith, e, c)
 weights-all false is rs k = ap weightCount (append-nil is)
-
-some-one : (is : List Item) → oneOf (hasChars []) is ≡ true → 1 ≤ length is
-unfolding oneOf
-some-one [] h = absurd (false≢true h)
-some-one (i ∷ is) h = omega arith
 
 -- it is supplied as the paper does
 supplied-as : (b : Bool) (rs qs : List Rule) (count : ℕ) (ls : List OrderLine) → b ≡ eqb (rankOf ls undefined) 0 → rs ≡ qs → count ≡ length ls
@@ -136,18 +130,6 @@ module _ {src w : List ℕ} {g : Signs} {sh : Sheet} (v : RanksGiven src w g sh)
           subst (λ (l : ℕ). AllStored l (meant .items)) (v .meant .many)
           (subst (λ (m : Meaning). AllStored (length (v .last .ordered .rules)) (m .items)) (sym same-meaning) (meaning-stored (meaningOf (v .last)) good-meant))
 
-      -- UNDEFINED is an item
-      some-meant : 1 ≤ allItems b items
-      unfolding meaningBy
-      some-meant =
-          let is : List Item = itemsOf g src w (sh .levels) (rankIn w (v .meant .ds)) (v .meant .marks) in
-          let i = u .items-are (v .meant .marks) (v .meant .lines) (v .meant .n) (v .meant .ds) (v .meant .holds) in
-          let n : length (meant .items) ≡ allItems b items =
-          items-all b is (rulesAt g src (sh .rules)) (sh .order .count) ∙ ap (allItems b) (sym i) in
-          let m : Meaning = meaningOf (v .last) in
-          let some : 1 ≤ length (m .items) = some-one (m .items) (good-parts m good-meant .undefined) in
-          omega (arith, some, n, ap (λ (x : Meaning). length (x .items)) same-meaning)
-
     module _ {b : Bool} {size : ℕ} {area : List ℕ} (f : TableFits src w sh items weights b size area) where
       pub table-buildable : Buildable g src w sh items weights b area
       table-buildable = record {
@@ -157,7 +139,6 @@ module _ {src w : List ℕ} {g : Signs} {sh : Sheet} (v : RanksGiven src w g sh)
         levels = rules-many;
         few = v .few;
         sums = u;
-        some-item = some-meant b (f .flag);
         room = let h = f .room in let z = f .size-is in omega (arith, h, z);
         places = let a = u .few-items in let c = v .meant .places in omega (arith, a, c);
       }

@@ -2,7 +2,7 @@
 -- contract, word for word. `Contracts` in proofs/ shows that the contracts say this and nothing else, and that none asks anything of its caller.
 use mathlib.Core.Path.{_≡_}
 use mathlib.Core.List.{List, [], _∷_}
-use Prim.Native.Nat.{ℕ, _+_, _*_}
+use Prim.Native.Nat.{ℕ, _*_}
 use lib.ListN.{getD, take, drop}
 use lib.Dec.{eqb}
 use Rattle.rules.specs.Text.{if_then_else_}

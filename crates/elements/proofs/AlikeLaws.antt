@@ -4,19 +4,16 @@ use mathlib.Core.Path.{_≡_, refl, ap, _∙_}
 use mathlib.Core.Bool.{Bool, true, _&&_}
 use mathlib.Core.List.{List, [], _∷_, _++_}
 use Prim.Native.Nat.{ℕ, suc, _+_, _≤_}
-use native.Mathlib.Nat.{add-zero}
-use native.Mathlib.Numerals.{add-one}
 use native.Mathlib.Omega.{arith}
 use lib.ListN.{length}
 use lib.Dec.{leb}
 use Rattle.rules.specs.Text.{if_then_else_, every, begins}
 use Rattle.rules.specs.Meaning.{Item, countAll, goodItem}
-use Rattle.rules.specs.Order.{Step, longest, undefinedFrom, stepOf, Entry, more, entriesFrom}
+use Rattle.rules.specs.Order.{Step, longest, undefinedFrom, stepOf, Entry, entriesFrom}
 use Rattle.rules.proofs.TextLaws.{every-head, every-tail}
 use Rattle.rules.proofs.MeaningLaws.{item-parts}
-use Rattle.rules.proofs.SignLaws.{orders-entry}
 use Rattle.rules.proofs.EntryLaws.{entries-length}
-use Rattle.rules.proofs.PassedLaws.{seen, seen-passed}
+use Rattle.rules.proofs.PassedLaws.{seen}
 use Rattle.entries.specs.Walk.{skippedAfter}
 use Rattle.entries.proofs.BothLaws.{own, own-length, own-before, seen-alike}
 

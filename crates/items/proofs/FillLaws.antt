@@ -114,14 +114,6 @@ module _ (g : Signs) (src w : List ℕ) (levels : ℕ) where
 
 -- ## Running sums
 
-sums-length : (at : ℕ) (ns : List ℕ) → length (sums at ns) ≡ length ns
-unfolding sums
-sums-length at [] = refl
-sums-length at (n ∷ ns) = ap suc (sums-length (at + n) ns)
-
-pub counts-length : (at : ℕ) (ws : List (List ℕ)) → length (sums at (counts ws)) ≡ length ws
-counts-length at ws = sums-length at (counts ws) ∙ length-map ws length
-
 -- behind some of them, they go on from all of these
 pub sums-append : (at : ℕ) (ws vs : List (List ℕ)) → sums at (counts (ws ++ vs)) ≡ sums at (counts ws) ++ sums (at + countAll ws) (counts vs)
 unfolding sums countAll

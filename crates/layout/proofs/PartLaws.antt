@@ -1,7 +1,7 @@
 -- Where the parts of an accepted table stand: its rules, the end of each item's weights at each level, the weights.
 use mathlib.Core.Path.{_≡_, refl, sym, ap, _∙_}
 use mathlib.Core.Bool.{Bool, true, false}
-use mathlib.Core.List.{List, [], _∷_, _++_, map, flatten, append-assoc, map-append}
+use mathlib.Core.List.{List, [], _∷_, _++_, map, flatten, append-assoc}
 use Prim.Native.Nat.{ℕ, zero, suc, pred, _+_, _-_, _*_, _≤_, _<_}
 use native.Mathlib.Numerals.{sub-one}
 use native.Mathlib.Nat.{min-le-right, suc-mul, zero-mul, mul-le-mul-right}
@@ -17,10 +17,10 @@ use Rattle.rules.proofs.EntryLaws.{weightsAt-good}
 use Rattle.rules.proofs.WidthLaws.{good-count, countAll-bound}
 use Rattle.rules.proofs.MeaningLaws.{item-parts, Good, good-parts}
 use Rattle.rules.proofs.StorableLaws.{AllStored, meaning-stored, rule-back, rules-drop}
-use Rattle.rules.proofs.SizeLaws.{lists-length, ends-length, stored-size, flatten-length}
+use Rattle.rules.proofs.SizeLaws.{lists-length, ends-length, stored-size}
 use Rattle.rules.proofs.TableLaws.{accepted-stored, lists-flat, parts-drop}
 use Rattle.layout.specs.Parts.{endsAt, rulesPart, weightsPart, ruleAt, Within, Before, Holds, Many, ManyAll}
-use Rattle.layout.proofs.LayoutLaws.{endsAt-is, endsAt-bound, endsAt-room, endsAt-least, endsAt-suc}
+use Rattle.layout.proofs.LayoutLaws.{endsAt-is, endsAt-bound, endsAt-least}
 
 -- ## Running sums
 

@@ -5,7 +5,7 @@ use mathlib.Core.List.{List, [], _∷_}
 use Prim.Native.Nat.{ℕ, zero, suc, pred, _*_, _≤_, _<_}
 use native.Mathlib.Omega.{arith}
 use lib.Dec.{ltb}
-use lib.Bits.{bitAnd, and-le-r}
+use lib.Bits.{and-le-r}
 use borrow.Author.Tests.{ltb-true}
 use Rattle.lists.proofs.Bools.{cond-by}
 use Rattle.rules.specs.Text.{same}

@@ -21,10 +21,14 @@ weights-length [] rest = omega arith
 weights-length (i ∷ is) rest =
     omega (arith, length-append (flatten (i .weights)) (weightNumbers is rest), flatten-length (i .weights), weights-length is rest)
 
-pub sums-length : (at : ℕ) (ns : List ℕ) → length (sums at ns) ≡ length ns
+sums-length : (at : ℕ) (ns : List ℕ) → length (sums at ns) ≡ length ns
 unfolding sums
 sums-length at [] = refl
 sums-length at (n ∷ ns) = ap suc (sums-length (at + n) ns)
+
+-- as many ends as lists of weights
+pub counts-length : (at : ℕ) (ws : List (List ℕ)) → length (sums at (counts ws)) ≡ length ws
+counts-length at ws = sums-length at (counts ws) ∙ length-map ws length
 
 pub lists-length : (l : ℕ) (is : List Item) → AllStored l is → length (weightLists is) ≡ length is * l
 unfolding weightLists
@@ -35,7 +39,7 @@ lists-length l (i ∷ is) h =
 
 pub ends-length : (l : ℕ) (is : List Item) → AllStored l is → length (ends is) ≡ length is * l
 unfolding ends
-ends-length l is h = sums-length 0 (counts (weightLists is)) ∙ length-map (weightLists is) length ∙ lists-length l is h
+ends-length l is h = counts-length 0 (weightLists is) ∙ lists-length l is h
 
 pub chars-length : (is : List Item) (rest : List ℕ) → length (charNumbers is rest) ≡ 4 * length is + length rest
 unfolding charNumbers

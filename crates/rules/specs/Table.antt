@@ -70,7 +70,7 @@ doubled (suc n) i =
     let p : ℕ = doubled n i in
     if ltb p i then 2 * p else p
 
--- one less than how many buckets characters have, where there are i items: that is the least power of two not below i, so below 2 x i
+-- one less than how many buckets characters have, where there are i items, 1 to 32,768: that is the least power of two not below i, so below 2 x i
 unfoldable pub mask : ℕ → ℕ
 mask i = pred (doubled 15 i)
 

@@ -272,7 +272,6 @@ module _ (g : Signs) (src w : List ℕ) (sh : Sheet) (items weights : ℕ) (supp
       let few : all ≤ 32768 = size-items supplied items e (build-items g src w sh items weights supplied area b) in
       record {
         few-levels = b .few;
-        some-item = omega (arith, e, b .some-item);
         few-items = few;
         parts = omega (arith, b .room, l, size-is (sh .levels) items weights supplied, ap (rulesPart (sh .levels)) e);
         places = omega (arith, b .places, e, all-near supplied items);

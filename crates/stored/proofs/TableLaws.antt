@@ -10,14 +10,14 @@ use Rattle.lists.proofs.Lists.{All, sets-append}
 use Rattle.rules.specs.Meaning.{Rule, Item, countAll, weightCount}
 use Rattle.rules.specs.Table.{padded, sums, counts, weightLists, ends, charNumbers, ruleNumber, weightNumbers}
 use Rattle.rules.proofs.StorableLaws.{weights-append}
-use Rattle.rules.proofs.SizeLaws.{chars-length, weights-length}
+use Rattle.rules.proofs.SizeLaws.{chars-length, weights-length, counts-length}
 use Rattle.rules.proofs.TableLaws.{chars-append}
 use Rattle.rules.proofs.WidthLaws.{lists-count}
 use Rattle.layout.specs.Parts.{endsAt, charsPart, listingPart, rulesPart, weightsPart}
 use Rattle.layout.proofs.LayoutLaws.{endsAt-is}
 use Rattle.writes.proofs.StoreLaws.{sets-swap}
 use Rattle.permute.specs.Permuted.{storedWith}
-use Rattle.items.proofs.FillLaws.{counts-length, sums-append, three-rows}
+use Rattle.items.proofs.FillLaws.{sums-append, three-rows}
 use Rattle.stored.specs.Building.{frontNumbers, unlisted}
 
 -- ## Two lists of items

@@ -102,7 +102,6 @@ pub record Buildable (g : Signs) (src w : List ℕ) (sh : Sheet) (items weights 
   pub levels : length (rulesAt g src (sh .rules)) ≡ sh .levels
   pub few : sh .levels ≤ 8
   pub sums : WholeSums g src w (sh .order) (sh .levels) items weights
-  pub some-item : 1 ≤ allItems supplied items
   pub room : tableSize (sh .levels) items weights supplied ≤ length area
   pub places : items + 1 ≤ length w
 

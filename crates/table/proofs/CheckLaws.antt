@@ -7,7 +7,7 @@ use native.Mathlib.Omega.{arith}
 use native.Mathlib.Nat.{mul-add}
 use lib.ListN.{length, getD, take, drop, length-drop, length-map, take-append-drop, replicate}
 use lib.Seq.{length-take-le, take-at, drop-at, drop-drop}
-use lib.Dec.{leb, eqb}
+use lib.Dec.{leb}
 use borrow.Author.Tests.{leb-true, le-leb, eq-eqb}
 use Rattle.lists.proofs.Bools.{and-left, and-right, and-intro, by, clash}
 use Rattle.rules.specs.Text.{within, every, oneOf}
@@ -20,7 +20,7 @@ use Rattle.rules.proofs.StorableLaws.{items-stored, meaning-stored, rules-drop,
 use Rattle.rules.proofs.SizeLaws.{weights-length, ends-length, chars-length, listing-length, starts-length, stored-size}
 use Rattle.rules.proofs.TableLaws.{lists-flat, chars-append, parts-drop, accepted-stored, stored-accepted}
 use Rattle.rules.proofs.WidthLaws.{good-range}
-use Rattle.layout.specs.Parts.{endsAt, charsPart, listingPart, startsPart, rulesPart, weightsPart}
+use Rattle.layout.specs.Parts.{charsPart, listingPart, startsPart, rulesPart, weightsPart}
 use Rattle.layout.proofs.LayoutLaws.{endsAt-is}
 use Rattle.layout.proofs.ToldLaws.{listingPasses, passes-fits, fits-passes}
 use Rattle.table.specs.Checks.{headPasses, endsPass, allChars, listingIn, itemsPass, checks}

@@ -1,25 +1,24 @@
 -- Each part of a table alone: what passes is stored again as it stands, and the keys that the check compares are those of the items.
 use mathlib.Core.Path.{_≡_, refl, sym, ap, _∙_}
-use mathlib.Core.Bool.{Bool, true, false, _&&_}
-use mathlib.Core.List.{List, [], _∷_, _++_, map}
-use Prim.Native.Nat.{ℕ, zero, suc, pred, _+_, _-_, _*_, _≤_, _<_}
+use mathlib.Core.Bool.{true}
+use mathlib.Core.List.{List, [], _∷_, map}
+use Prim.Native.Nat.{ℕ, zero, suc, _+_, _-_, _*_, _≤_}
 use native.Mathlib.Omega.{arith}
 use native.Mathlib.Nat.{suc-mul, zero-mul}
 use lib.ListN.{length, getD, take, drop, length-drop, take-append-drop}
 use lib.Seq.{length-take-le, drop-drop}
-use lib.Dec.{leb, eqb, leb·zero}
+use lib.Dec.{leb, leb·zero}
 use borrow.Author.Tests.{leb-true, le-leb, eqb-true, eq-eqb}
 use Rattle.lists.proofs.Bools.{and-left, and-right, and-intro, by}
 use Rattle.lists.proofs.Lists.{length-zero}
 use Rattle.rules.specs.Text.{within, every}
-use Rattle.rules.specs.Names.{isCharacter}
-use Rattle.rules.specs.Meaning.{Item, item, countAll, weightCount, goodWeights, goodItem}
-use Rattle.rules.specs.Table.{pad, unpadded, counts, sums, gaps, weightLists, charNumbers, itemsAt}
+use Rattle.rules.specs.Meaning.{Item, item, weightCount, goodWeights, goodItem}
+use Rattle.rules.specs.Table.{unpadded, counts, sums, gaps, weightLists, charNumbers, itemsAt}
 use Rattle.rules.proofs.TextLaws.{every-head, every-tail, every-both}
 use Rattle.rules.proofs.MeaningLaws.{item-parts, item-whole}
 use Rattle.rules.proofs.StorableLaws.{AllStored}
 use Rattle.rules.proofs.WidthLaws as width
-use Rattle.layout.specs.Starts.{bucketIn, told}
+use Rattle.layout.specs.Starts.{bucketIn}
 use Rattle.table.specs.Checks.{endsPass, charsPass, allChars, risesIn, listingIn}
 use Rattle.table.proofs.ItemLaws.{total, unpadded-characters, unpadded-short, padded-passes, chars-whole, total-counts}
 use Rattle.rules.proofs.ListingLaws.{risesAfter, rises, listsAll}

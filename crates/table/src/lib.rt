@@ -9,7 +9,7 @@ ghost use Rattle.rules.specs.Names.{isCharacter};
 ghost use Rattle.rules.specs.Table.{pad, mask, before, accepted};
 ghost use Rattle.rules.specs.Calls.{checkCall};
 ghost use Rattle.layout.specs.Starts.{startAll};
-ghost use Rattle.layout.specs.Parts.{charsPart, rulesPart, weightsPart};
+ghost use Rattle.layout.specs.Parts.{rulesPart};
 ghost use Rattle.table.specs.Checks.{fault, Apart, headPasses, endsPass, charsPass, allChars, listingIn, itemsPass, checks};
 ghost use Rattle.table.specs.Walk.{toldWith, Bucket, Next};
 ghost use Rattle.table.specs.Answers.{checkedAs};
@@ -41,7 +41,7 @@ fn outside(x: u32, low: u32, high: u32) -> u32
 }
 
 // Whether each of n numbers from a place on lies from low to high. Faults are gathered, so that the loop has no way out before its end.
-pub fn all_within(t: &[u32], from: usize, n: usize, low: u32, high: u32) -> bool
+fn all_within(t: &[u32], from: usize, n: usize, low: u32, high: u32) -> bool
     requires { ⌜ from + n ≤ length (now t) ⌝ }
     ensures { λ r. ⌜ r ≡ every (within low high) (take n (drop from (now (t .entry)))) ⌝ }
 {

@@ -8,7 +8,7 @@ use lib.ListN.{length, set, length-set, length-map}
 use lib.Seq.{sets, length-sets}
 use Rattle.lists.proofs.Lists.{sets-append}
 use Rattle.rules.specs.State.{Subject}
-use Rattle.rules.proofs.SizeLaws.{sums-length}
+use Rattle.rules.proofs.SizeLaws.{counts-length}
 use Rattle.rules.specs.Meaning.{countAll}
 use Rattle.rules.specs.Table.{sums, counts}
 use Rattle.rules.specs.Tokens.{Token}
@@ -80,10 +80,6 @@ levelRanks-length f own zero ws = refl
 levelRanks-length f own (suc l) [] = ap suc (levelRanks-length f own l [])
 levelRanks-length f own (suc l) (w ∷ ws) = ap suc (levelRanks-length f own l ws)
 
--- as many ends as levels
-ends-length : (at : ℕ) (rs : List (List ℕ)) → length (sums at (counts rs)) ≡ length rs
-ends-length at rs = sums-length at (counts rs) ∙ length-map rs length
-
 -- ## Level by level
 
 -- one level's weights and their end first, then the others
@@ -95,7 +91,7 @@ fill-step now slot base next r rs h b =
     let e : ℕ = next - base + length r in
     let es : List ℕ = e ∷ sums e (counts rs) in
     let z : next + length r - base ≡ e = omega arith in
-    let l : slot + length es ≤ next = omega (arith, ends-length e rs) in
+    let l : slot + length es ≤ next = omega (arith, counts-length e rs) in
     ap (λ (x : ℕ). sets (sets (set (sets now next r) slot x) (slot + 1) (sums x (counts rs))) (next + length r) (flatten rs)) z
     ∙ ap (λ (i : ℕ). sets (sets (set (sets now next r) slot e) i (sums e (counts rs))) (next + length r) (flatten rs)) (add-one slot)
     ∙ ap (λ (a : List ℕ). sets a (next + length r) (flatten rs)) (sets-swap now slot es next r l)

@@ -1,6 +1,5 @@
 -- `layout::count_all` meets its contract: from the end before its first level to the end of its last stand all weights of the item.
 use Rattle.layout.proofs.PartLaws.{many-all}
-use native.Mathlib.Omega.{arith}
 use borrow.Author.Needs.{needs}
 use Rattle.layout.proofs.count_all.Statement.{statement}
 use Rattle.layout.proofs.count_all.Tie as tie

@@ -1,6 +1,5 @@
 -- `layout::count_at` meets its contract: from the end before to the end of the level stand the level's weights.
 use Rattle.layout.proofs.PartLaws.{table-good, within-first, many-at}
-use Prim.Native.Nat.{_+_}
 use native.Mathlib.Omega.{arith}
 use Rattle.layout.proofs.count_at.Statement.{statement}
 use Rattle.layout.proofs.count_at.Tie as tie

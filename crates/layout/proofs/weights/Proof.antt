@@ -1,6 +1,5 @@
 -- `layout::weights` meets its contract: an item's weights at a level stand from the end before them to their own.
 use Rattle.layout.proofs.PartLaws.{table-good, table-sizes, within-first, many-at, weights-held}
-use Prim.Native.Nat.{_+_}
 use native.Mathlib.Omega.{arith}
 use borrow.Author.Needs.{needs}
 use Rattle.layout.proofs.LayoutLaws.{weightsPart-bound}
