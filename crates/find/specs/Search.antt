@@ -29,7 +29,7 @@ keyIn t at = getD t at 0 ∷ getD t (at + 1) 0 ∷ getD t (at + 2) 0 ∷ getD t 
 abbrev pub listedKey : List Item → ℕ → List ℕ
 listedKey is k = listKey (length is) (listedChars is k)
 
--- what an item of these four numbers is listed by
+-- what an item of these four numbers is listed by, where they begin with a character
 abbrev pub bucketed : List Item → List ℕ → List ℕ
 bucketed is key = bucket (length is) key ∷ key
 

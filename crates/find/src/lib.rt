@@ -1,10 +1,10 @@
 // The element that begins at a place of a string: the longest listed item that stands there, else one character as UNDEFINED.
 //
 // A table lists the items by their buckets, then by their four numbers, and padding is above every character: items that begin with the same
-// character stand in one bucket, of two that begin alike the longer is listed first, and UNDEFINED is last of all. So where the first item of a
+// character stand in one bucket, a longer item before its own beginnings, and UNDEFINED is last of all. So where the first item of a
 // character's bucket is that character alone, it is the element whatever follows. Else halving finds the first listed item of the bucket that
 // does not come before the next four characters. It is the element if the string begins with all of it; else no item that stands there is longer
-// than what the two share, and the search goes on for that beginning. Most places need one search, none more than four.
+// than what the two share, and the search goes on for that beginning. Most places need no search, none more than four.
 ghost use mathlib.Core.Path.{_≡_};
 ghost use mathlib.Core.Bool.{true};
 ghost use mathlib.Core.List.{[]};
