@@ -17,7 +17,7 @@ use Rattle.rules.specs.Table.{padded, sums, counts, weightLists, ends, charNumb
 use Rattle.rules.specs.State.{Subject}
 use Rattle.rules.specs.OrderLines.{subjectOf, isNames, operandList}
 use Rattle.rules.proofs.TextLaws.{lower-none, lowest-unless}
-use Rattle.rules.proofs.SizeLaws.{flatten-length, chars-length}
+use Rattle.rules.proofs.SizeLaws.{flatten-length, chars-length, counts-length}
 use Rattle.lines.specs.declared.Signs.{Signs}
 use Rattle.rows.specs.Cells.{cell}
 use Rattle.subjects.specs.Keys.{keyAt}
