@@ -1,3 +1,4 @@
 pub mod CompareLaws
 pub mod CodeLaws
 pub mod WalkLaws
+pub mod PackLaws

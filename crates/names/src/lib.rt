@@ -1,10 +1,12 @@
 // Names in a source, each from the spot right after its `<`: beside other bytes or another name, as a character by its code, as a number.
 ghost use mathlib.Core.Path.{_≡_};
 ghost use mathlib.Core.List.{[]};
-ghost use Prim.Native.Nat.{_≤_, _<_};
-ghost use lib.ListN.{length};
+ghost use Prim.Native.Nat.{_+_, _*_, _%_, _^_, _≤_, _<_};
+ghost use lib.ListN.{length, replicate};
 ghost use Rattle.rules.specs.Text.{same};
+ghost use Rattle.rules.specs.Names.{isVisible};
 ghost use Rattle.names.specs.Named.{nameLeft, hexOf, MadeIs, DigitsAre, CodeIs, hashOf, NamedIs};
+ghost use Rattle.names.specs.Packed.{PackedIs, Begun, PutIs, PackedOn};
 use lines::Signs;
 use lines::Spot;
 use lines::Step;
@@ -23,6 +25,12 @@ pub enum Code {
 pub enum Named {
     Name(Spot),
     Close,
+}
+
+// What a name's bytes make: its hash, and whether it can be declared.
+pub struct Pack {
+    pub hash: usize,
+    pub plain: bool,
 }
 
 // Whether a name has these bytes.
@@ -166,6 +174,103 @@ pub fn name_hash(src: &[u8], g: Signs, p: Spot) -> usize
             NameStep::Open => return h,
         }
     }
+}
+
+// The hash h with a byte more.
+fn mixed(h: usize, b: u8) -> usize
+    requires { ⌜ h < 16777216 ⌝ }
+    ensures { λ r. ⌜ (r ≡ (h * 10368889 + b) % 16777216) × (r < 16777216) ⌝ }
+{
+    let x = number(b);
+    (h * 10368889 + x) % 16777216
+}
+
+// Whether a byte may stand in a name that is declared.
+fn visible(b: u8) -> bool
+    ensures { λ r. ⌜ r ≡ isVisible b ⌝ }
+{
+    if b < 33 {
+        return false;
+    }
+    b <= 126
+}
+
+// What a byte adds to its number, from place k of four.
+fn placed(b: u8, k: usize) -> u32
+    requires { ⌜ k < 4 ⌝ }
+    ensures { λ r. ⌜ (r ≡ b * 256 ^ k) × (b < 256) ⌝ }
+{
+    let x = wide(b);
+    if k == 0 {
+        return x;
+    }
+    if k == 1 {
+        return x * 256;
+    }
+    if k == 2 {
+        return x * 65536;
+    }
+    x * 16777216
+}
+
+// A byte more of a name that has n so far: how many it has then, or 33 where it cannot be declared.
+fn put(key: &mut [u32], n: usize, b: u8) -> usize
+    requires { ⌜ Begun (now key) n ⌝ }
+    ensures { λ r. ⌜ PutIs (now (key .entry)) n b (now (key .exit)) r ⌝ }
+{
+    if n < 32 {
+        if visible(b) {
+            let i = n / 4;
+            let x = placed(b, n % 4);
+            key[i] = key[i] + x;
+            return n + 1;
+        }
+        return 33;
+    }
+    33
+}
+
+// The rest of a name from a spot on, behind n bytes (33: it cannot be declared) that make h.
+fn pack_from(src: &[u8], g: Signs, p: Spot, key: &mut [u32], before: usize, passed: usize) -> Pack
+    requires { ⌜ p .at ≤ length (now src) ⌝ }
+    requires { ⌜ Begun (now key) passed ⌝ }
+    requires { ⌜ before < 16777216 ⌝ }
+    ensures { λ r. ⌜ PackedOn (nameLeft g (now (src .entry)) p) (now (key .entry)) before passed (now (key .exit)) r ⌝ }
+{
+    let mut q = p;
+    let mut h = before;
+    let mut n = passed;
+    loop {
+        let s = name_byte(src, g, q);
+        match s {
+            NameStep::Byte(b, r) => {
+                n = put(key, n, b);
+                h = mixed(h, b);
+                q = r;
+            }
+            NameStep::Close(_) => {
+                return Pack {
+                    hash: h,
+                    plain: n <= 32,
+                };
+            }
+            NameStep::Open => {
+                return Pack {
+                    hash: h,
+                    plain: n <= 32,
+                };
+            }
+        }
+    }
+}
+
+// A name in its numbers, and its hash.
+pub fn pack_name(src: &[u8], g: Signs, p: Spot, key: &mut [u32]) -> Pack
+    requires { ⌜ p .at ≤ length (now src) ⌝ }
+    requires { ⌜ now key ≡ replicate 8 0 ⌝ }
+    ensures { λ r. ⌜ PackedIs (nameLeft g (now (src .entry)) p) (now (key .exit)) r ⌝ }
+{
+    pack_from(src, g, p, key, 0, 0)
 }
 
 // Whether a name has no byte more.
