@@ -1,3 +1,5 @@
+pub mod WayLaws
+pub mod SlotLaws
 pub mod AreaLaws
 pub mod SeekLaws
 pub mod DeclareLaws

@@ -1,5 +1,5 @@
 -- For callers: what the list says after a declaration and after a number is set, and how marks and keys go together.
-use mathlib.Core.Path.{_≡_, refl, sym, _∙_}
+use mathlib.Core.Path.{_≡_, refl, sym, ap, _∙_}
 use mathlib.Core.Bool.{true, false, false≢true}
 use mathlib.Core.List.{List, [], _∷_}
 use Prim.Native.Nat.{ℕ, _/_, _≤_, _<_}
@@ -7,10 +7,11 @@ use native.Mathlib.Omega.{arith}
 use lib.Dec.{eqb}
 use borrow.Author.Tests.{eq-eqb, eqb-true, eqb-false}
 use Rattle.lists.proofs.Bools.{by}
+use Rattle.lists.proofs.Lists.{All}
 use Rattle.subjects.specs.Keys.{Key, sameKey}
-use Rattle.subjects.proofs.KeyLaws.{sameKey-true, sameKey-refl}
+use Rattle.subjects.proofs.KeyLaws.{sameKey-true, sameKey-refl, sameKey-equal}
 use Rattle.store.specs.declared.Found.the-variants.{At, Nothing}
-use Rattle.store.specs.Store.{Decl, first, isPlace, fresh, Nodes, none, more, Holds}
+use Rattle.store.specs.Store.{Decl, first, isPlace, Once, another, fresh, Nodes, none, more, Holds}
 use Rattle.store.proofs.AreaLaws.{placed, placed-within}
 
 -- ## Nothing declared
@@ -46,6 +47,24 @@ module _ (key : ℕ → Key) (v : ℕ) (ds : List Decl) where
   isPlace-older p h = by (eqb v p) (λ t. rw t) (λ t. rw t h)
 
 -- ## Marks and keys
+
+-- each has the key of its mark
+pub nodes-keyed : {key : ℕ → Key} {len : ℕ} {w : List ℕ} {n : ℕ} {ds : List Decl} → Nodes key len w n ds → All (λ (d : Decl). key (d .place) ≡ d .key) ds
+nodes-keyed none = tt
+nodes-keyed (more a ns) = (a .keyed, nodes-keyed ns)
+
+-- what is declared once is found at its mark
+pub once-found : (key : ℕ → Key) (u : ℕ) (ds : List Decl) → All (λ (d : Decl). key (d .place) ≡ d .key) ds → Once ds → isPlace u ds ≡ true → first (key u) ds ≡ At u
+unfolding first isPlace
+once-found key u [] a o h = absurd (false≢true h)
+once-found key u (d ∷ ds) a (another x o) h =
+    by (eqb (d .place) u)
+    (λ t. let e = eqb-true (d .place) u t in
+    let k : sameKey (d .key) (key u) ≡ true = sameKey-equal (sym (a .0) ∙ ap key e) in rw k (ap At e))
+    (λ t. let r = once-found key u ds (a .1) o (rw t at h) in
+    by (sameKey (d .key) (key u))
+    (λ s. let z : At u ≡ Nothing = sym r ∙ ap (λ (k : Key). first k ds) (sym (sameKey-true (d .key) (key u) s)) ∙ x in absurd (let y : _≡_ {A = ℕ} 0 1 = cc in omega (arith, y)))
+    (λ s. rw s r))
 
 module _ {key : ℕ → Key} {len : ℕ} {w : List ℕ} where
   first-low : {n : ℕ} {ds : List Decl} (k : Key) (p : ℕ) → Nodes key len w n ds → first k ds ≡ At p → (p / 16 < n) × (p / 2 ≤ len)

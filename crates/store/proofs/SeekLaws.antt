@@ -1,115 +1,207 @@
--- Following a chain: the turns of find.
-use mathlib.Core.Path.{_≡_, refl, sym, ap, _∙_}
+-- Following the way of a key: the turns of find.
+use mathlib.Core.Path.{_≡_, refl, sym, ap, _∙_, subst}
 use mathlib.Core.Bool.{Bool, true, false}
-use mathlib.Core.List.{List, _∷_}
-use Prim.Native.Nat.{ℕ, suc, _+_, _-_, _*_, _/_, _≤_, _<_}
+use mathlib.Core.List.{List, [], _∷_}
+use Prim.Native.Nat.{ℕ, zero, suc, _+_, _-_, _*_, _/_, _%_, _≤_, _<_}
+use native.Mathlib.Numerals.{add-one}
 use native.Mathlib.Omega.{arith}
-use lib.ListN.{length, getD}
+use lib.ListN.{length, getD, set, length-set}
 use lib.Dec.{eqb}
 use borrow.Author.Tests.{eqb-true, eqb-false}
-use Rattle.lists.proofs.Bools.{by}
+use Rattle.lists.proofs.Bools.{by, clash}
 use Rattle.subjects.specs.Keys.{Key, sameKey}
+use Rattle.names.specs.declared.Pack.{Pack}
+use Rattle.subjects.specs.Numbers.{isDeclarable, numbersOf, shed, bitOf, NumbersAre}
+use Rattle.subjects.proofs.KeyLaws.{sameKey-true}
 use Rattle.store.specs.declared.Found.the-variants.{At, Nothing}
-use Rattle.store.specs.Store.{Decl, first, headsOf, chainOf, latest, Node, Nodes, none, more, Holds, Sound, Finds}
-use Rattle.store.proofs.AreaLaws.{chain-apart, latest-le, latest-in}
+use Rattle.store.specs.Store.{Decl, first, isPlace, headsOf, chainOf, together, depthOf, nodeOf, sideOf, slotOf, pointed, markIn, Nodes, none, more, Holds, Sound, Finds, SideIs}
+use Rattle.store.proofs.WayLaws.{together-refl, depth-on, depth-more, node-by, node-deep, node-none}
+use Rattle.store.proofs.AreaLaws.{chain-is, depth-in, node-in, node-place}
+use Rattle.store.proofs.ListLaws.{nodes-keyed, once-found, place-within}
 
--- the node that a link to the chain of k points to, and what is declared before it
-record Hit (key : ℕ → Key) (len : ℕ) (w : List ℕ) (k : Key) (l : ℕ) (ds : List Decl) : Type 0 where
-  d : Decl
-  rest : List Decl
-  m : ℕ
-  node : Node key len w m d rest
-  nodes : Nodes key len w (d .place / 16) rest
-  here : l ≡ suc (d .place / 16)
-  chain : chainOf (headsOf len) (d .key) ≡ chainOf (headsOf len) k
-  same : first k ds ≡ first k (d ∷ rest)
+-- ## Other keys
 
-hit : {key : ℕ → Key} {len : ℕ} {w : List ℕ} {n : ℕ} {ds : List Decl} (k : Key) (l : ℕ) → Nodes key len w n ds
-    → l ≡ latest (headsOf len) (chainOf (headsOf len) k) ds → 0 < l → Hit key len w k l ds
-unfolding latest first
-hit k l none e h = absurd (omega arith)
-hit {len = len} {n = n} k l (more {d = d} {ds = ds} a ns) e h = by (eqb (chainOf (headsOf len) (d .key)) (chainOf (headsOf len) k))
-    (λ t. record { d = d; rest = ds; m = n; node = a; nodes = ns; here = rw t at e; chain = eqb-true (chainOf (headsOf len) (d .key)) (chainOf (headsOf len) k) t; same = refl })
-    (λ t. let r = hit k l ns (rw t at e) h in
-    record {
-      d = r .d;
-      rest = r .rest;
-      m = r .m;
-      node = r .node;
-      nodes = r .nodes;
-      here = r .here;
-      chain = r .chain;
-      same = rw (chain-apart (headsOf len) (d .key) k (eqb-false (chainOf (headsOf len) (d .key)) (chainOf (headsOf len) k) t)) (r .same);
-    })
+-- What stands on the way of k before depth m has other keys.
+pub data Differs (hs : ℕ) (k : Key) (m : ℕ) : List Decl → Type 0 where
+  nothing : Differs hs k m []
+  besides : {d : Decl} {ds : List Decl} → (depthOf hs k ds < m → together hs (depthOf hs k ds) k (d .key) ≡ true → sameKey (d .key) k ≡ false)
+      → Differs hs k m ds → Differs hs k m (d ∷ ds)
 
-missing : {key : ℕ → Key} {len : ℕ} {w : List ℕ} {n : ℕ} {ds : List Decl} (k : Key) → Nodes key len w n ds
-    → 0 ≡ latest (headsOf len) (chainOf (headsOf len) k) ds → first k ds ≡ Nothing
-unfolding latest first
-missing k none e = refl
-missing {len = len} k (more {d = d} {ds = ds} a ns) e = by (eqb (chainOf (headsOf len) (d .key)) (chainOf (headsOf len) k))
-    (λ t. let z : 0 ≡ suc (d .place / 16) = rw t at e in absurd (omega arith))
-    (λ t. rw (chain-apart (headsOf len) (d .key) k (eqb-false (chainOf (headsOf len) (d .key)) (chainOf (headsOf len) k) t)) (missing k ns (rw t at e)))
+module _ (hs : ℕ) (k : Key) where
+  differs-start : (ds : List Decl) → Differs hs k 0 ds
+  differs-start [] = nothing
+  differs-start (d ∷ ds) = besides {d = d} {ds = ds} (λ l t. absurd (omega (arith, l))) (differs-start ds)
 
--- the key is not among those passed, whatever list the area holds
-pub record Left (key : ℕ → Key) (len : ℕ) (w : List ℕ) (k : Key) (l : ℕ) (all : List Decl) : Type 0 where
-  pub m : ℕ
-  pub rest : List Decl
-  pub nodes : Nodes key len w m rest
-  pub link : l ≡ latest (headsOf len) (chainOf (headsOf len) k) rest
-  pub same : first k all ≡ first k rest
+  differs-deeper : (m : ℕ) (ds : List Decl) → depthOf hs k ds ≤ m → Differs hs k m ds → Differs hs k (suc m) ds
+  differs-deeper m ds h nothing = nothing
+  differs-deeper m ds h (besides {d = d} {ds = es} x r) = let o = depth-more hs k d es in
+      besides (λ l t. let e = depth-on hs k d es t in x (omega (arith, e, h)) t) (differs-deeper m es (omega (arith, o, h)) r)
 
--- l is where the search has come to
-pub record Seek (key : ℕ → Key) (len : ℕ) (w : List ℕ) (s : Key) (l : ℕ) : Type 0 where
-  pub bound : 8 * l ≤ len + 8
+  -- a key whose way is passed whole is not declared
+  differs-none : (m : ℕ) (ds : List Decl) → depthOf hs k ds ≤ m → Differs hs k m ds → first k ds ≡ Nothing
+  unfolding first
+  differs-none m ds h nothing = refl
+  differs-none m ds h (besides {d = d} {ds = es} x r) =
+      let o = depth-more hs k d es in
+      let i = differs-none m es (omega (arith, o, h)) r in
+      by (sameKey (d .key) k)
+      (λ t. let z = sameKey-true (d .key) k t in
+      let s : together hs (depthOf hs k es) k (d .key) ≡ true = subst (λ (q : Key). together hs (depthOf hs k es) k q ≡ true) (sym z) (together-refl hs (depthOf hs k es) k) in
+      let e = depth-on hs k d es s in
+      clash t (x (omega (arith, e, h)) s))
+      (λ t. rw t i)
+
+  module _ {key : ℕ → Key} {len : ℕ} {w : List ℕ} where
+    differs-on : {n : ℕ} (m r : ℕ) (ds : List Decl) → Nodes key len w n ds → nodeOf hs k m ds ≡ suc r → sameKey (key (markIn w r)) k ≡ false
+        → Differs hs k m ds → Differs hs k (suc m) ds
+    differs-on m r ds none e z nothing = nothing
+    differs-on m r ds (more {d = d} {ds = es} a ns) e z (besides x q) =
+        node-by hs k m d es
+        (λ i s u.
+          let row : r ≡ d .place / 16 = omega (arith, u, e) in
+          let f : key (markIn w r) ≡ d .key = ap (λ (y : ℕ). key (markIn w y)) row ∙ ap key (a .place) ∙ a .keyed in
+          besides (λ l t. ap (λ (y : Key). sameKey y k) (sym f) ∙ z) (differs-deeper m es (omega (arith, i)) q))
+        (λ u v. besides
+          (λ l t. by (eqb (depthOf hs k es) m)
+          (λ y. let c = eqb-true (depthOf hs k es) m y in absurd (v c (subst (λ (b : ℕ). together hs b k (d .key) ≡ true) c t)))
+          (λ y. x (below (depthOf hs k es) m l (eqb-false (depthOf hs k es) m y)) t))
+          (differs-on m r es ns (sym u ∙ e) z q))
+      where
+        below : (a b : ℕ) → a < suc b → (a ≡ b → ⊥) → a < b
+        below zero zero h n = absurd (n refl)
+        below zero (suc b) h n = omega arith
+        below (suc a) zero h n = absurd (omega (arith, h))
+        below (suc a) (suc b) h n = let i = below a b (omega (arith, h)) (λ e. n (ap suc e)) in omega (arith, i)
+
+-- ## What cannot be declared
+
+strange-none : {key : ℕ → Key} {len : ℕ} {w : List ℕ} {n : ℕ} (k : Key) (ds : List Decl) → isDeclarable k ≡ false → Nodes key len w n ds → first k ds ≡ Nothing
+unfolding first
+strange-none k ds s none = refl
+strange-none k ds s (more {d = d} {ds = es} a ns) =
+    by (sameKey (d .key) k)
+    (λ t. clash (ap isDeclarable (sym (sameKey-true (d .key) k t)) ∙ a .plain) s)
+    (λ t. rw t (strange-none k es s ns))
+
+pub strange-nowhere : {key : ℕ → Key} {len : ℕ} {w : List ℕ} {k : Key} {left : List ℕ} {r : Pack} → NumbersAre k left r → r .plain ≡ false → Finds key len w k Nothing
+strange-nowhere {k = k} a f = record { is = λ n ds o. sym (strange-none k ds (sym (a .plain) ∙ f) (o .nodes)) }
+
+-- ## The search
+
+-- It has come to depth m, and l is what stands there.
+pub record Left (key : ℕ → Key) (len : ℕ) (w : List ℕ) (k : Key) (l m : ℕ) (n : ℕ) (ds : List Decl) : Type 0 where
+  pub nodes : Nodes key len w n ds
+  pub link : nodeOf (headsOf len) k m ds ≡ l
+  pub differs : Differs (headsOf len) k m ds
+  pub to : m ≤ depthOf (headsOf len) k ds
+
+-- So it is whatever list the area holds.
+pub record Seek (key : ℕ → Key) (len : ℕ) (w : List ℕ) (k : Key) (l m : ℕ) : Type 0 where
+  pub bound : l ≤ len / 8 + 1
+  pub deep : m ≤ len / 8 + 1
   pub few : len ≤ 1048576
   pub room : len + 64 ≤ length w
-  pub left : (n : ℕ) (ds : List Decl) → Holds key len w n ds → Left key len w s l ds
+  pub left : (n : ℕ) (ds : List Decl) → Holds key len w n ds → Left key len w k l m n ds
 
-module _ {key : ℕ → Key} {len : ℕ} {w : List ℕ} {s : Key} where
-  -- what is left of any list that the area holds bounds the link
-  seek : (l : ℕ) → Sound key len w → ((n : ℕ) (ds : List Decl) → Holds key len w n ds → Left key len w s l ds) → Seek key len w s l
-  seek l o f = let r = f (o .n) (o .ds) (o .holds) in
-      record { bound = omega (arith, r .link, latest-in (headsOf len) (chainOf (headsOf len) s) (r .nodes)); few = o .holds .roomy .few; room = o .holds .roomy .room; left = f }
+-- And of its numbers the first m bits are taken off.
+pub record Seeking (key : ℕ → Key) (len : ℕ) (w : List ℕ) (k : Key) (l m : ℕ) (left : List ℕ) : Type 0 where
+  pub seek : Seek key len w k l m
+  pub bits : left ≡ shed m (numbersOf k)
+  pub long : length left ≡ 8
 
-  pub seek-start : {h l : ℕ} → Sound key len w → h ≡ chainOf (headsOf len) s → 8 * h ≤ len → l ≡ getD w (8 * h + 1) 0 → Seek key len w s l
-  seek-start {h} {l} o e lt is = seek l o (λ n ds v. record { m = n; rest = ds; nodes = v .nodes; link = is ∙ v .heads h lt ∙ ap (λ x. latest (headsOf len) x ds) e; same = refl })
+module _ {key : ℕ → Key} {len : ℕ} {w : List ℕ} {k : Key} where
+  seek : (l m : ℕ) → Sound key len w → ((n : ℕ) (ds : List Decl) → Holds key len w n ds → Left key len w k l m n ds) → Seek key len w k l m
+  seek l m o f = let r = f (o .n) (o .ds) (o .holds) in
+      let a = r .link in
+      let b = node-in (headsOf len) k m (r .nodes) in
+      let c = r .to in
+      let d = depth-in (headsOf len) k (r .nodes) in
+      record { bound = omega (arith, a, b); deep = omega (arith, c, d); few = o .holds .roomy .few; room = o .holds .roomy .room; left = f }
 
-  pub seek-none : {l : ℕ} → Seek key len w s l → l ≤ 0 → Finds key len w s Nothing
-  seek-none v h = record { is = λ n ds o. let f = v .left n ds o in sym (f .same ∙ missing s (f .nodes) (omega (arith, f .link))) }
+  pub seek-start : {h l : ℕ} → Sound key len w → h ≡ chainOf (headsOf len) k → l ≡ pointed w (8 * h + 1) → Seek key len w k l 0
+  unfolding slotOf
+  seek-start {h} {l} o e is = seek l 0 o (λ n ds v. record {
+    nodes = v .nodes;
+    link = sym (v .points k 0 (omega arith)) ∙ sym (is ∙ ap (λ (x : ℕ). pointed w (8 * x + 1)) e);
+    differs = differs-start (headsOf len) k ds;
+    to = omega arith;
+  })
 
-  module _ {l : ℕ} (v : Seek key len w s l) (h : 0 < l) where
-    -- what the link points to
-    struck : {n : ℕ} {ds : List Decl} (o : Holds key len w n ds) → Hit key len w s l (v .left n ds o .rest)
-    struck {n} {ds} o = let f = v .left n ds o in hit s l (f .nodes) (f .link) h
+  pub seek-none : {l m : ℕ} → Seek key len w k l m → l ≤ 0 → Finds key len w k Nothing
+  seek-none {l} {m} v h = record {
+    is = λ n ds o. let f = v .left n ds o in
+        let z = f .link in
+        sym (differs-none (headsOf len) k m ds (node-none (headsOf len) k m ds (omega (arith, z, h))) (f .differs));
+  }
 
-    row : {n : ℕ} {ds : List Decl} (o : Holds key len w n ds) → 8 * (l - 1) ≡ 8 * (struck o .d .place / 16)
-    row o = omega (arith, struck o .here)
+  module _ {l m : ℕ} (v : Seek key len w k l m) (h : 0 < l) where
+    struck : {n : ℕ} {ds : List Decl} → Left key len w k l m n ds → nodeOf (headsOf len) k m ds ≡ suc (l - 1)
+    struck f = let z = f .link in omega (arith, z, h)
 
-    placed-at : {n : ℕ} {ds : List Decl} {p : ℕ} (o : Holds key len w n ds) → p ≡ getD w (8 * (l - 1) + 2) 0 → p ≡ struck o .d .place
-    placed-at o is = is ∙ rw (row o) (struck o .node .place)
+    pub seek-in : {p : ℕ} → Sound key len w → p ≡ markIn w (l - 1) → p / 2 ≤ len
+    seek-in o is =
+        let f = v .left (o .n) (o .ds) (o .holds) in
+        let i = place-within (o .holds) (markIn w (l - 1)) (node-place (headsOf len) k m (l - 1) (f .nodes) (struck f)) in
+        subst (λ (x : ℕ). x / 2 ≤ len) (sym is) i
 
-    pub seek-in : {p : ℕ} → Sound key len w → p ≡ getD w (8 * (l - 1) + 2) 0 → p / 2 ≤ len
-    seek-in o is = omega (arith, placed-at (o .holds) is, struck (o .holds) .node .within)
-
-    -- whether its key is the one that is sought
-    asked : {t : Bool} {n p : ℕ} {ds : List Decl} (o : Holds key len w n ds) → p ≡ getD w (8 * (l - 1) + 2) 0 → t ≡ sameKey (key p) s
-        → sameKey (struck o .d .key) s ≡ t
-    asked o is q = let r = struck o in rw (← r .node .keyed, ← placed-at o is) (sym q)
-
-    pub seek-on : {t : Bool} {k p : ℕ} → Sound key len w → p ≡ getD w (8 * (l - 1) + 2) 0 → t ≡ sameKey (key p) s → t ≡ false
-        → k ≡ getD w (8 * (l - 1)) 0 → Seek key len w s k
-    unfolding first
-    seek-on {k = k} o pl q f0 is = seek k o (λ n ds u. let f = v .left n ds u in let r = struck u in
-        let z = asked u pl q ∙ f0 in
-        record { m = r .d .place / 16; rest = r .rest; nodes = r .nodes; link = is ∙ rw (row u, ← r .chain) (r .node .link); same = f .same ∙ r .same ∙ simp z })
-
-    pub seek-less : {k : ℕ} → Sound key len w → k ≡ getD w (8 * (l - 1)) 0 → k < l
-    seek-less o is = let r = struck (o .holds) in
-        omega (arith, rw (row (o .holds)) at is, r .node .link, latest-le (headsOf len) (chainOf (headsOf len) (r .d .key)) (r .nodes), r .here)
-
-    pub seek-found : {t : Bool} {p : ℕ} → p ≡ getD w (8 * (l - 1) + 2) 0 → t ≡ sameKey (key p) s → t ≡ true → Finds key len w s (At p)
-    unfolding first
-    seek-found pl q t0 = record {
-      is = λ n ds u. let f = v .left n ds u in let r = struck u in
-          let z = asked u pl q ∙ t0 in sym (f .same ∙ r .same ∙ simp (z, placed-at u pl));
+    pub seek-found : {t : Bool} {p : ℕ} → p ≡ markIn w (l - 1) → t ≡ sameKey (key p) k → t ≡ true → Finds key len w k (At p)
+    seek-found {p = p} is q t0 = record {
+      is = λ n ds o. let f = v .left n ds o in
+          let place = subst (λ (x : ℕ). isPlace x ds ≡ true) (sym is) (node-place (headsOf len) k m (l - 1) (f .nodes) (struck f)) in
+          let e : key p ≡ k = sameKey-true (key p) k (sym q ∙ t0) in
+          sym (ap (λ (x : Key). first x ds) (sym e) ∙ once-found key p ds (nodes-keyed (o .nodes)) (o .once) place);
     }
+
+    pub seek-on : {t : Bool} {p side j : ℕ} → Sound key len w → p ≡ markIn w (l - 1) → t ≡ sameKey (key p) k → t ≡ false
+        → side ≡ sideOf (bitOf k m) → j ≡ pointed w (8 * (l - 1) + side) → Seek key len w k j (m + 1)
+    unfolding slotOf
+    seek-on {p = p} {side = side} {j = j} o is q f0 s at = seek j (m + 1) o (λ n ds u.
+      let f = v .left n ds u in
+      let e = struck f in
+      let deeper : suc m ≤ depthOf (headsOf len) k ds = on f in
+      let c : sameKey (key (markIn w (l - 1))) k ≡ false = ap (λ (x : ℕ). sameKey (key x) k) (sym is) ∙ sym q ∙ f0 in
+      subst (λ (x : ℕ). Left key len w k j x n ds) (sym (add-one m)) (record {
+        nodes = f .nodes;
+        link = sym (u .points k (suc m) deeper) ∙ ap (λ (x : ℕ). pointed w (8 * (x - 1) + sideOf (bitOf k m))) (f .link) ∙ sym (at ∙ ap (λ (x : ℕ). pointed w (8 * (l - 1) + x)) s);
+        differs = differs-on (headsOf len) k m (l - 1) ds (f .nodes) e c (f .differs);
+        to = deeper;
+      }))
+      where
+        on : {n : ℕ} {ds : List Decl} → Left key len w k l m n ds → suc m ≤ depthOf (headsOf len) k ds
+        on {ds = ds} f = by (eqb m (depthOf (headsOf len) k ds))
+            (λ t. let c = eqb-true m (depthOf (headsOf len) k ds) t in let z = node-deep (headsOf len) k m ds (omega (arith, c)) in let y = f .link in absurd (omega (arith, z, y, h)))
+            (λ t. let c = eqb-false m (depthOf (headsOf len) k ds) t in let y = f .to in less m (depthOf (headsOf len) k ds) y c)
+          where
+            less : (a b : ℕ) → a ≤ b → (a ≡ b → ⊥) → suc a ≤ b
+            less zero zero h n = absurd (n refl)
+            less zero (suc b) h n = omega arith
+            less (suc a) zero h n = absurd (omega (arith, h))
+            less (suc a) (suc b) h n = let i = less a b (omega (arith, h)) (λ e. n (ap suc e)) in omega (arith, i)
+
+  -- ## The same with the bits that are left
+
+  pub seeking-start : {h l : ℕ} {left : List ℕ} → Sound key len w → h ≡ chainOf (headsOf len) k → left ≡ numbersOf k → length left ≡ 8 → l ≡ pointed w (8 * h + 1)
+      → Seeking key len w k l 0 left
+  unfolding shed
+  seeking-start o e b i is = record { seek = seek-start o e is; bits = b; long = i }
+
+  pub seeking-on : {l m : ℕ} {left after : List ℕ} (v : Seeking key len w k l m left) (h : 0 < l) {t : Bool} {p side j : ℕ} → Sound key len w → p ≡ markIn w (l - 1)
+      → t ≡ sameKey (key p) k → t ≡ false → SideIs left m after side
+      → j ≡ pointed w (8 * (l - 1) + side) → Seeking key len w k j (m + 1) after
+  unfolding shed bitOf
+  seeking-on {m = m} {left = left} v h o is q f u at = record {
+    seek = seek-on (v .seek) h o is q f (u .side ∙ ap (λ (x : List ℕ). sideOf (getD x (m / 32) 0 % 2)) (v .bits)) at;
+    bits = u .taken ∙ ap (λ (x : List ℕ). set x (m / 32) (getD x (m / 32) 0 / 2)) (v .bits) ∙ ap (λ (x : ℕ). shed x (numbersOf k)) (sym (add-one m));
+    long = ap length (u .taken) ∙ length-set left (m / 32) (getD left (m / 32) 0 / 2) ∙ v .long;
+  }
+
+-- ## What find asks of the search
+
+pub found-chain : (len : ℕ) {k : Key} {left : List ℕ} {r : Pack} {h : ℕ} → NumbersAre k left r → h ≡ r .hash % headsOf len → h ≡ chainOf (headsOf len) k
+found-chain len {k} {r = r} a e = e ∙ chain-is len k (r .hash) (a .hash)
+
+pub found-numbers : {k : Key} {left : List ℕ} {r : Pack} → NumbersAre k left r → r .plain ≡ true → left ≡ numbersOf k
+found-numbers a t = a .numbers (sym (a .plain) ∙ t)
+
+pub found-long : {k : Key} {left : List ℕ} {r : Pack} → NumbersAre k left r → length left ≡ 8
+found-long a = a .long

@@ -1,14 +1,15 @@
 -- What is declared, as a list, latest first, and how the work area holds it. key gives what stands at a mark of the source
 -- (Rattle.subjects.specs.Keys), len is the source's length.
 use mathlib.Core.Path.{_≡_}
-use mathlib.Core.Bool.{Bool, true, false}
+use mathlib.Core.Bool.{Bool, true, false, _&&_}
 use mathlib.Core.List.{List, [], _∷_}
-use Prim.Native.Nat.{ℕ, suc, _+_, _*_, _/_, _%_, _≤_, _<_}
-use lib.ListN.{length, getD}
+use Prim.Native.Nat.{ℕ, zero, suc, _+_, _-_, _*_, _/_, _%_, _≤_, _<_}
+use lib.ListN.{length, getD, set}
 use lib.Dec.{eqb}
 use Rattle.rules.specs.Text.{if_then_else_}
 use Rattle.rows.specs.Cells.{cell}
 use Rattle.subjects.specs.Keys.{Key, sameKey, hashKey}
+use Rattle.subjects.specs.Numbers.{isDeclarable, numbersOf, bitOf}
 use Rattle.store.specs.declared.Found.{Found}
 use Rattle.store.specs.declared.Found.the-variants.{At, Nothing}
 
@@ -42,11 +43,17 @@ isPlace p (d ∷ ds) =
     let r : Bool = isPlace p ds in
     if eqb (d .place) p then true else r
 
+-- No key is declared twice.
+pub data Once : List Decl → Type 0 where
+  nothing : Once []
+  another : {d : Decl} {ds : List Decl} → first (d .key) ds ≡ Nothing → Once ds → Once (d ∷ ds)
+
 -- what is declared at a mark
 abbrev pub fresh : (ℕ → Key) → ℕ → Decl
 fresh key v = record { key = key v; place = v }
 
--- ## How the area holds a list: callers look no further than the record Holds
+-- ## The way of a key. The chains are trees: at depth n a way goes on to the left or to the right by bit n of the key. Where it goes is told of the
+-- list of what is declared alone, and holds for every key, declared or not.
 
 -- how many rows, and so chains, there are
 abbrev pub headsOf : ℕ → ℕ
@@ -59,24 +66,59 @@ undefinedMark len = 16 * headsOf len
 unfoldable pub chainOf : ℕ → Key → ℕ
 chainOf heads k = hashKey k % heads
 
--- what the head of chain h, or a link on it before these, points to: 0, or one more than the row of the first on that chain
-unfoldable pub latest : ℕ → ℕ → List Decl → ℕ
-latest heads h [] = 0
-latest heads h (d ∷ ds) =
-    let r : ℕ = latest heads h ds in
-    if eqb (chainOf heads (d .key)) h then suc (d .place / 16) else r
+-- two keys go the same way as far as depth n: they have one chain, and their first n bits are the same
+unfoldable pub together : ℕ → ℕ → Key → Key → Bool
+together heads zero a b = eqb (chainOf heads a) (chainOf heads b)
+together heads (suc n) a b = together heads n a b && eqb (bitOf a n) (bitOf b n)
 
--- The node of d, with ds declared before it, in a row below n.
-pub record Node (key : ℕ → Key) (len : ℕ) (w : List ℕ) (n : ℕ) (d : Decl) (ds : List Decl) : Type 0 where
+-- how deep the way of a key goes: of what is declared, the eldest first, each stands on it that goes the same way as far as it has come
+unfoldable pub depthOf : ℕ → Key → List Decl → ℕ
+depthOf heads k [] = 0
+depthOf heads k (d ∷ ds) =
+    let r : ℕ = depthOf heads k ds in
+    if together heads r k (d .key) then suc r else r
+
+-- what stands on it at depth n: 0 for nothing, or one more than its row
+unfoldable pub nodeOf : ℕ → Key → ℕ → List Decl → ℕ
+nodeOf heads k n [] = 0
+nodeOf heads k n (d ∷ ds) =
+    let r : ℕ = nodeOf heads k n ds in
+    if eqb (depthOf heads k ds) n && together heads n k (d .key) then suc (d .place / 16) else r
+
+-- ## How the area holds a list: callers look no further than the record Holds
+
+-- which number of a row is its link on the side of a bit
+abbrev pub sideOf : ℕ → ℕ
+sideOf b = if eqb b 0 then 0 else 2
+
+-- the number of the area that leads to depth n on the way of a key
+unfoldable pub slotOf : ℕ → Key → ℕ → List Decl → ℕ
+slotOf heads k zero ds = 8 * chainOf heads k + 1
+slotOf heads k (suc n) ds = 8 * (nodeOf heads k n ds - 1) + sideOf (bitOf k n)
+
+-- what a slot leads to: number 2 of a row shares its place with the last bits of the row's mark
+unfoldable pub pointed : List ℕ → ℕ → ℕ
+pointed w s = if eqb (s % 8) 2 then getD w s 0 / 16 else getD w s 0
+
+-- the area with a slot that leads to x
+unfoldable pub pointing : List ℕ → ℕ → ℕ → List ℕ
+pointing w s x = if eqb (s % 8) 2 then set w s (16 * x + getD w s 0 % 16) else set w s x
+
+-- the mark in a row
+unfoldable pub markIn : List ℕ → ℕ → ℕ
+markIn w r = 16 * r + getD w (8 * r + 2) 0 % 16
+
+-- The row of d, below n.
+pub record Node (key : ℕ → Key) (len : ℕ) (w : List ℕ) (n : ℕ) (d : Decl) : Type 0 where
   pub below : d .place / 16 < n
   pub within : d .place / 2 ≤ len
   pub keyed : key (d .place) ≡ d .key
-  pub link : getD w (8 * (d .place / 16)) 0 ≡ latest (headsOf len) (chainOf (headsOf len) (d .key)) ds
-  pub place : getD w (8 * (d .place / 16) + 2) 0 ≡ d .place
+  pub plain : isDeclarable (d .key) ≡ true
+  pub place : markIn w (d .place / 16) ≡ d .place
 
 pub data Nodes (key : ℕ → Key) (len : ℕ) (w : List ℕ) : ℕ → List Decl → Type 0 where
   none : {n : ℕ} → Nodes key len w n []
-  more : {n : ℕ} {d : Decl} {ds : List Decl} → Node key len w n d ds → Nodes key len w (d .place / 16) ds → Nodes key len w n (d ∷ ds)
+  more : {n : ℕ} {d : Decl} {ds : List Decl} → Node key len w n d → Nodes key len w (d .place / 16) ds → Nodes key len w n (d ∷ ds)
 
 -- One number for each byte of the source and 64 more.
 pub record Roomy (len : ℕ) (w : List ℕ) : Type 0 where
@@ -86,8 +128,9 @@ pub record Roomy (len : ℕ) (w : List ℕ) : Type 0 where
 -- The area holds ds in the rows below n.
 pub record Holds (key : ℕ → Key) (len : ℕ) (w : List ℕ) (n : ℕ) (ds : List Decl) : Type 0 where
   pub roomy : Roomy len w
-  pub heads : (h : ℕ) → 8 * h ≤ len → getD w (8 * h + 1) 0 ≡ latest (headsOf len) h ds
+  pub points : (k : Key) (m : ℕ) → m ≤ depthOf (headsOf len) k ds → pointed w (slotOf (headsOf len) k m ds) ≡ nodeOf (headsOf len) k m ds
   pub nodes : Nodes key len w n ds
+  pub once : Once ds
 
 -- ## What the functions give
 
@@ -101,9 +144,22 @@ pub record Sound (key : ℕ → Key) (len : ℕ) (w : List ℕ) : Type 0 where
 pub record Finds (key : ℕ → Key) (len : ℕ) (w : List ℕ) (k : Key) (r : Found) : Type 0 where
   pub is : (n : ℕ) (ds : List Decl) → Holds key len w n ds → r ≡ first k ds
 
--- What stands at the mark v is declared; the five numbers of every row stay, and so does what is behind the rows.
+-- The side on which a way goes on at depth m, by what is left of the key's numbers; that bit is taken off.
+pub record SideIs (left : List ℕ) (m : ℕ) (after : List ℕ) (r : ℕ) : Type 0 where
+  pub side : r ≡ sideOf (getD left (m / 32) 0 % 2)
+  pub taken : after ≡ set left (m / 32) (getD left (m / 32) 0 / 2)
+  pub low : r ≤ 2
+
+-- s is the slot where the way of a key with these numbers, on the chain h, ends, whatever list the area holds.
+pub record WayEnds (heads : ℕ) (w : List ℕ) (h : ℕ) (left : List ℕ) (s : ℕ) : Type 0 where
+  pub inside : s < 8 * heads
+  pub number : s % 8 < 3
+  pub is : (key : ℕ → Key) (len : ℕ) (k : Key) (n : ℕ) (ds : List Decl) → heads ≡ headsOf len → h ≡ chainOf heads k → left ≡ numbersOf k
+      → Holds key len w n ds → s ≡ slotOf heads k (depthOf heads k ds) ds
+
+-- What stands at the mark v is declared, if it can be and was not yet; the five numbers of every row stay, and so does what is behind the rows.
 pub record Declares (key : ℕ → Key) (len : ℕ) (w : List ℕ) (v : ℕ) (w′ : List ℕ) : Type 0 where
-  pub is : (n : ℕ) (ds : List Decl) → Holds key len w n ds → n ≤ v / 16 → Holds key len w′ (v / 16 + 1) (fresh key v ∷ ds)
+  pub is : (n : ℕ) (ds : List Decl) → Holds key len w n ds → n ≤ v / 16 → isDeclarable (key v) ≡ true → first (key v) ds ≡ Nothing → Holds key len w′ (v / 16 + 1) (fresh key v ∷ ds)
   pub long : length w′ ≡ length w
   pub five : (u k : ℕ) → k < 5 → cell w′ u k ≡ cell w u k
   pub beyond : (i : ℕ) → 8 * headsOf len ≤ i → getD w′ i 0 ≡ getD w i 0

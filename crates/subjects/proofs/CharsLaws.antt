@@ -86,10 +86,10 @@ module _ (g : Signs) (src : List ℕ) (p : Spot) {n : Named} (w : NamedIs g src 
 -- ## The turns of the loops
 
 module _ (g : Signs) (src : List ℕ) (q : Spot) {s : NextChar} (w : NextIs g src q s) where
-  step-char : {c : CodePoint} {r : Spot} → s ≡ Char c r → CharNext g src q (c .0) r
+  pub step-char : {c : CodePoint} {r : Spot} → s ≡ Char c r → CharNext g src q (c .0) r
   step-char e = subst (NextIs g src q) e w
 
-  step-end : s ≡ End → charsLeft g src q ≡ []
+  pub step-end : s ≡ End → charsLeft g src q ≡ []
   step-end e = subst (NextIs g src q) e w
 
   pub step-less : {c : CodePoint} {r : Spot} → s ≡ Char c r → length (charsLeft g src r) < length (charsLeft g src q)

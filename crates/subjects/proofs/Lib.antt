@@ -2,3 +2,4 @@ pub mod SpotLaws
 pub mod SubjectLaws
 pub mod CharsLaws
 pub mod KeyLaws
+pub mod NumberLaws

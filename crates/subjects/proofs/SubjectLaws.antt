@@ -31,11 +31,11 @@ module _ (n : List ℕ) {c : Code} (w : CodeIs n c) where
   unfolding charOf
   char-none e = sym (rw (other e))
 
-  subject-char : {x : CodePoint} → c ≡ Char x → subjectOf n ≡ character (x .0)
+  pub subject-char : {x : CodePoint} → c ≡ Char x → subjectOf n ≡ character (x .0)
   unfolding subjectOf
   subject-char e = let k = shaped e in rw (k .shaped) (ap character (sym (k .code)))
 
-  subject-name : c ≡ Other → subjectOf n ≡ named n
+  pub subject-name : c ≡ Other → subjectOf n ≡ named n
   unfolding subjectOf
   subject-name e = rw (other e)
 

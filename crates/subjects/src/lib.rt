@@ -1,22 +1,24 @@
-// What stands at a mark of the source: a name's subject, or the characters of quotes; its number for chains, and whether two are the same.
+// What stands at a mark of the source: a name's subject, or the characters of quotes; its numbers, and whether two are the same.
 ghost use mathlib.Core.Path.{_≡_};
 ghost use mathlib.Core.Bool.{true};
 ghost use mathlib.Core.List.{[]};
 ghost use Prim.Native.Nat.{_/_, _≤_, _<_};
-ghost use lib.ListN.{length};
+ghost use lib.ListN.{length, replicate};
 ghost use Rattle.rules.specs.Text.{same};
 ghost use Rattle.rules.specs.Lines.{quoted};
 ghost use Rattle.rules.specs.OrderLines.{sameSubject};
 ghost use Rattle.tokens.specs.Left.{isInside};
-ghost use Rattle.names.specs.Named.{nameLeft, hashOf};
-ghost use Rattle.subjects.specs.Keys.{nameSpot, quoteSpot, charOf, charsLeft, subjectLeft, AfterName, NextIs, keyAt, hashSubject, hashKey, sameKey};
+ghost use Rattle.names.specs.Named.{nameLeft};
+ghost use Rattle.subjects.specs.Keys.{nameSpot, quoteSpot, charOf, charsLeft, subjectLeft, item, chars, AfterName, NextIs, keyAt, sameKey};
+ghost use Rattle.subjects.specs.Numbers.{NumbersAre, CodePut};
 use lines::Signs;
 use lines::Spot;
 use names::Code;
 use names::Named;
+use names::Pack;
 use names::name_char;
-use names::name_hash;
 use names::next_name;
+use names::pack_name;
 use names::same_name;
 use tokens::Closing;
 use tokens::end_of_name;
@@ -102,22 +104,44 @@ pub fn next_char(src: &[u8], g: Signs, p: Spot) -> NextChar
     }
 }
 
-// A number that is the same for the same characters in quotes, below 2 to the 24th.
-fn chars_hash(src: &[u8], g: Signs, p: Spot) -> usize
-    requires { ⌜ (p .at ≤ length (now src)) × (p .mode ≡ quoted) ⌝ }
-    ensures { λ r. ⌜ r ≡ hashOf (charsLeft g (now (src .entry)) p) ⌝ }
+// The numbers of characters in quotes, of which n are passed, with one more; how many are passed then, 5 where there are too many or one of them is none.
+fn put_code(key: &mut [u32], n: usize, c: CodePoint) -> usize
+    requires { ⌜ length (now key) ≡ 8 ⌝ }
+    ensures { λ r. ⌜ CodePut (now (key .entry)) n (c .0) (now (key .exit)) r ⌝ }
+{
+    if n < 4 {
+        if c.0 < 0x110000 {
+            key[n] = c.0 + 1;
+            return n + 1;
+        }
+        return 5;
+    }
+    5
+}
+
+// The numbers of the characters in quotes.
+fn chars_numbers(src: &[u8], g: Signs, p: Spot, key: &mut [u32]) -> Pack
+    requires { ⌜ (p .at ≤ length (now src)) × (p .mode ≡ quoted) × (now key ≡ replicate 8 0) ⌝ }
+    ensures { λ r. ⌜ NumbersAre (chars (charsLeft g (now (src .entry)) p)) (now (key .exit)) r ⌝ }
 {
     let mut q = p;
+    let mut n: usize = 0;
     let mut h: usize = 0;
     loop {
         let s = next_char(src, g, q);
         match s {
             NextChar::Char(c, r) => {
                 let x = wide(c);
+                n = put_code(key, n, c);
                 h = (h * 10368889 + x) % 16777216;
                 q = r;
             }
-            NextChar::End => return h,
+            NextChar::End => {
+                return Pack {
+                    hash: h,
+                    plain: n <= 4,
+                };
+            }
         }
     }
 }
@@ -163,27 +187,33 @@ fn same_chars(src: &[u8], g: Signs, p: Spot, q: Spot) -> bool
     }
 }
 
-// The number of what the name at a spot means.
-fn subject_hash(src: &[u8], g: Signs, p: Spot) -> usize
-    requires { ⌜ p .at ≤ length (now src) ⌝ }
-    ensures { λ r. ⌜ r ≡ hashSubject (subjectLeft g (now (src .entry)) p) ⌝ }
+// The numbers of what the name at a spot means.
+fn subject_numbers(src: &[u8], g: Signs, p: Spot, key: &mut [u32]) -> Pack
+    requires { ⌜ (p .at ≤ length (now src)) × (now key ≡ replicate 8 0) ⌝ }
+    ensures { λ r. ⌜ NumbersAre (item (subjectLeft g (now (src .entry)) p)) (now (key .exit)) r ⌝ }
 {
     let c = name_char(src, g, p);
     match c {
-        Code::Char(x) => return wide(x) % 16777216,
-        Code::Other => return name_hash(src, g, p),
+        Code::Char(x) => {
+            key[0] = x.0;
+            return Pack {
+                hash: wide(x) % 16777216,
+                plain: x.0 < 0x110000,
+            };
+        }
+        Code::Other => return pack_name(src, g, p, key),
     }
 }
 
-// The number of what stands at a mark.
-pub fn key_hash(src: &[u8], g: Signs, v: usize) -> usize
-    requires { ⌜ v / 2 ≤ length (now src) ⌝ }
-    ensures { λ r. ⌜ r ≡ hashKey (keyAt g (now (src .entry)) v) ⌝ }
+// The numbers of what stands at a mark, its hash, and whether it can be declared.
+pub fn key_numbers(src: &[u8], g: Signs, v: usize, key: &mut [u32]) -> Pack
+    requires { ⌜ (v / 2 ≤ length (now src)) × (now key ≡ replicate 8 0) ⌝ }
+    ensures { λ r. ⌜ NumbersAre (keyAt g (now (src .entry)) v) (now (key .exit)) r ⌝ }
 {
     if v % 2 == 0 {
-        return subject_hash(src, g, name_spot(v));
+        return subject_numbers(src, g, name_spot(v), key);
     }
-    chars_hash(src, g, quote_spot(v))
+    chars_numbers(src, g, quote_spot(v), key)
 }
 
 // Whether the names at two spots mean the same.

@@ -1,19 +1,20 @@
--- `subjects::chars_hash` meets its contract. The invariant: the characters passed make the number so far. The measure is how many are left.
+-- `subjects::chars_numbers` meets its contract. The invariant: the characters passed make the numbers so far. The measure is how many are left.
 use lib.ListN.{length}
 use Rattle.subjects.specs.Keys.{charsLeft}
-use Rattle.subjects.proofs.CharsLaws.{Summing, summing-none, summing-more, summing-end, step-less}
+use Rattle.subjects.proofs.CharsLaws.{step-less}
+use Rattle.subjects.proofs.NumberLaws.{Numbering, numbering-none, numbering-more, numbering-end}
 use borrow.Author.Needs.{needs}
-use Rattle.subjects.proofs.chars_hash.Statement.{statement}
-use Rattle.subjects.proofs.chars_hash.Tie as tie
+use Rattle.subjects.proofs.chars_numbers.Statement.{statement}
+use Rattle.subjects.proofs.chars_numbers.Tie as tie
 
 abbrev Inv-loop : tie.InvT-loop
-Inv-loop src g q₀ h₀ q h = Summing g src q₀ q h
+Inv-loop src g key₀ q₀ n₀ h₀ key q n h = Numbering g src q₀ q key n h
 
 abbrev μ-loop : tie.MeasureT-loop
-μ-loop src g q₀ h₀ q h = length (charsLeft g src q)
+μ-loop src g key₀ q₀ n₀ h₀ key q n h = length (charsLeft g src q)
 
 loop-holds : tie.Need-loop-holds Inv-loop μ-loop
-loop-holds c = search summing-none
+loop-holds c = search numbering-none
 
 next-char-requires : tie.Need-next-char-requires Inv-loop μ-loop
 next-char-requires c κs = search needs
@@ -23,6 +24,9 @@ enum-known-s c = search needs
 
 wide-requires : tie.Need-wide-requires Inv-loop μ-loop
 wide-requires c κs = search needs
+
+put-code-requires : tie.Need-put-code-requires Inv-loop μ-loop
+put-code-requires c κs = search needs
 
 mul-h : tie.Need-mul-h Inv-loop μ-loop
 mul-h c = search needs
@@ -34,16 +38,19 @@ loop-less : tie.Need-loop-less Inv-loop μ-loop
 loop-less c = search step-less
 
 loop-again : tie.Need-loop-again Inv-loop μ-loop
-loop-again c = search summing-more
+loop-again c = search numbering-more
 
 enum-told : tie.Need-enum-told Inv-loop μ-loop
 enum-told c = search needs
 
-returns : tie.Need-returns Inv-loop μ-loop
-returns c = search summing-end
+same-length : tie.Need-same-length Inv-loop μ-loop
+same-length c = search needs
 
-pub chars-hash-spec : {M : Type 1} → statement M
-chars-hash-spec =
+returns : tie.Need-returns Inv-loop μ-loop
+returns c = search numbering-end
+
+pub chars-numbers-spec : {M : Type 1} → statement M
+chars-numbers-spec =
     tie.close
     (tie.spec
     Inv-loop
@@ -52,9 +59,11 @@ chars-hash-spec =
     next-char-requires
     enum-known-s
     wide-requires
+    put-code-requires
     mul-h
     add-h
     loop-less
     loop-again
     enum-told
+    same-length
     returns)
