@@ -28,7 +28,7 @@ module _ {key : ℕ → Key} {len : ℕ} {w w₁ w₂ : List ℕ} {v q : ℕ} (r
   declares-both : v / 16 + 1 ≤ q / 16 → DeclaresBoth key len w v q (set w₂ (cellAt v 0) q)
   declares-both later =
       record {
-        is = λ n ds h l. holds-told v 0 q (omega arith) (e .is (v / 16 + 1) (fresh key v ∷ ds) (d .is n ds h l) later);
+        is = λ n ds h l a b c f. holds-told v 0 q (omega arith) (e .is (v / 16 + 1) (fresh key v ∷ ds) (d .is n ds h l a b) later c f);
         long = length-set w₂ (cellAt v 0) q ∙ e .long ∙ d .long;
         chars = cell-told w₂ v 0 q (omega arith) both-row;
         five = λ u k c n. other w₂ (cellAt v 0) (cellAt u k) q (λ z. n (omega (arith, z, c)) (omega (arith, z, c))) ∙ e .five u k c ∙ d .five u k c;

@@ -5,7 +5,7 @@ use mathlib.Core.List.{List, [], _∷_, map}
 use Prim.Native.Nat.{ℕ, _+_, _/_, _≤_, _<_}
 use native.Mathlib.Omega.{arith}
 use lib.ListN.{length}
-use lib.Dec.{eqb}
+use lib.Dec.{eqb, leb}
 use borrow.Author.Tests.{eqb-true}
 use Rattle.lists.proofs.Bools.{by, clash, and-left, and-right}
 use Rattle.rules.specs.Text.{bytes, within, every, _unless_, lower, lowest}
@@ -21,13 +21,15 @@ use Rattle.lines.specs.declared.Spot.{Spot}
 use Rattle.lines.specs.declared.LineEnd.{LineEnd}
 use Rattle.tokens.specs.Left.{tokensLeft}
 use Rattle.subjects.specs.Keys.{Key, item, chars, keyAt, sameKey}
+use Rattle.subjects.specs.Numbers.{isDeclarable}
+use Rattle.subjects.proofs.NumberLaws.{chars-declarable}
 use Rattle.store.specs.Store.{Decl, first, knownIn, isPlace, fresh, Holds, Sound}
 use Rattle.store.specs.declared.Found.the-variants.{Nothing}
 use Rattle.store.proofs.ListLaws.{first-fresh-other, isPlace-older, place-new}
 use Rattle.rows.specs.Cells.{cell}
 use Rattle.listed.specs.declared.Order.{Order}
 use Rattle.listed.specs.Listed.{charsNumber}
-use Rattle.known.specs.Known.{declaredAt, Says, elements, another, Known}
+use Rattle.known.specs.Known.{declaredAt, Says, elements, Known}
 use Rattle.known.proofs.GrownLaws.{known-grown}
 use Rattle.known.proofs.NewLaws.{says-on}
 use Rattle.symbols.specs.Symbols.{isNewIn}
@@ -43,7 +45,7 @@ use Rattle.sheet.proofs.OrderLaws.{open-declared}
 use Rattle.declaring.specs.Worded.{Opened, Writes}
 use Rattle.declaring.proofs.RefusalLaws.{Fair, bounded-clean, bounded-three, fair-element}
 use Rattle.declaring.proofs.OpenedLaws.{line-moves, line-accepted, line-refused, line-foul}
-use Rattle.declaring.proofs.DeclareLaws.{says-alike, first-none, new-unknown, positive, line-reaches}
+use Rattle.declaring.proofs.DeclareLaws.{says-alike, first-none, new-unknown, first-declarable, positive, line-reaches}
 
 -- ## What is known after it
 
@@ -74,17 +76,19 @@ module _ (g : Signs) (src w : List ℕ) (o : Order) (rs : List Rule) (n : ℕ) (
       d .five u charsNumber (omega arith) (λ z i. false≢true (sym (place-new (k .holds) u (omega (arith, z, room))) ∙ p))
 
   pub known-element-new : (m xs : List ℕ) → keyAt g src v ≡ item (named m) → keyAt g src q ≡ chars xs → 1 ≤ q
-      → first (item (named m)) (k .ds) ≡ Nothing → first (chars xs) (k .ds) ≡ Nothing → Known g src w′ o rs (q / 16 + 1) (element m xs ∷ cs) ls
+      → isDeclarable (item (named m)) ≡ true → isDeclarable (chars xs) ≡ true → first (item (named m)) (k .ds) ≡ Nothing → first (chars xs) (k .ds) ≡ Nothing → Known g src w′ o rs (q / 16 + 1) (element m xs ∷ cs) ls
   unfolding sameKey
-  known-element-new m xs e f some a b =
+  known-element-new m xs e f some fit fits a b =
       let key = keyAt g src in
+      let can = ap isDeclarable e ∙ fit in
+      let new = ap (λ (x : Key). first x (k .ds)) e ∙ a in
+      let more = ap isDeclarable f ∙ fits in
+      let later-new = ap (λ (x : Key). first x (fresh key v ∷ k .ds)) f ∙ first-fresh-other key v (k .ds) (chars xs) (rw e) ∙ b in
       let before = says-on w w′ (k .ds) cs kept (k .says) in
       known-grown g src w o rs n cs ls k w′ (q / 16 + 1) (fresh key q ∷ fresh key v ∷ k .ds) (element m xs ∷ cs)
-      (d .is n (k .ds) (k .holds) room)
+      (d .is n (k .ds) (k .holds) room can new more later-new)
       (subst (λ (x : Key). Says w′ (declaredAt x q ∷ fresh key v ∷ k .ds) (element m xs ∷ cs)) (sym f)
       (subst (λ (x : Key). Says w′ (declaredAt (chars xs) q ∷ declaredAt x v ∷ k .ds) (element m xs ∷ cs)) (sym e) (elements (d .chars) some before)))
-      (another (ap (λ (x : Key). first x (fresh key v ∷ k .ds)) f ∙ first-fresh-other key v (k .ds) (chars xs) (rw e) ∙ b)
-      (another (ap (λ (x : Key). first x (k .ds)) e ∙ a) (k .once)))
       (record {
         long = d .long;
         four = λ u j h i c. d .five u j c (λ z y. omega (arith, y, i));
@@ -95,9 +99,11 @@ module _ (g : Signs) (src w : List ℕ) (o : Order) (rs : List Rule) (n : ℕ) (
         newer = λ u p z. two-newer key v q (k .ds) u n p z room (omega (arith, later));
       })
 
--- ## What is accepted is new
+-- ## What is accepted is new and can be declared
 
 pub record Fresh (ds : List Decl) (n xs : List ℕ) : Type 0 where
+  pub fit : isDeclarable (item (named n)) ≡ true
+  pub fits : isDeclarable (chars xs) ≡ true
   pub name : knownIn (item (named n)) ds ≡ false
   pub quotes : knownIn (chars xs) ds ≡ false
 
@@ -115,11 +121,17 @@ element-new ds os h =
     let fit = every isCharName ns in
     let b = not (fit && knownIn (chars xs) ds) in
     let few = within 2 4 (length xs) in
-    let z = lower-none (tokensRefusal os) (lowest (3 unless elementFormed os ∷ 5 unless (a && b) ∷ 6 unless fit ∷ 7 unless few ∷ [])) h .1 in
-    let y = lowest-unless 3 (elementFormed os) (5 unless (a && b) ∷ 6 unless fit ∷ 7 unless few ∷ []) (omega arith) z .1 in
+    let z = lower-none (tokensRefusal os) (lowest (3 unless elementFormed os ∷ 5 unless (a && b) ∷ 6 unless fit ∷ 7 unless few ∷ [])) h in
+    let y = lowest-unless 3 (elementFormed os) (5 unless (a && b) ∷ 6 unless fit ∷ 7 unless few ∷ []) (omega arith) (z .1) .1 in
     let x = lowest-unless 5 (a && b) (6 unless fit ∷ 7 unless few ∷ []) (omega arith) y in
-    let c = lowest-unless 6 fit (7 unless few ∷ []) (omega arith) (x .1) .0 in
-    record { name = new-unknown ds (theName (tokenAt os 0)) (and-left a b (x .0)); quotes = not-both fit (knownIn (chars xs) ds) c (and-right a b (x .0)) }
+    let c = lowest-unless 6 fit (7 unless few ∷ []) (omega arith) (x .1) in
+    let d = lowest-unless 7 few [] (omega arith) (c .1) .0 in
+    record {
+      fit = first-declarable os (z .0);
+      fits = chars-declarable ns (c .0) (and-right (leb 2 (length xs)) (leb (length xs) 4) d);
+      name = new-unknown ds (theName (tokenAt os 0)) (and-left a b (x .0));
+      quotes = not-both fit (knownIn (chars xs) ds) (c .0) (and-right a b (x .0));
+    }
 
 -- ## collating-element
 
@@ -198,7 +210,7 @@ module _ (g : Signs) (src : List ℕ) (at : ℕ) (p : Spot) (e : LineEnd) (l : O
                       held = open-declared g src w sh cs at s o (l .first .inside) (e .next) w′ (q / 16 + 1) (element m xs ∷ s .declared) declares (let i = line-moves l .on in omega (arith, i))
                           (known-element-new g src w (sh .order) (s .ordered .rules) (o .n) (s .declared) (s .ordered .lines) k v q w′ c
                           (omega (arith, rows, far)) (b .quotes .later) (let y = b .mark .behind in omega (arith, y)) m xs (b .mark .key) (b .quotes .key) (omega (arith, odd))
-                          (first-none (item (named m)) (k .ds) (n .name)) (first-none (chars xs) (k .ds) (n .quotes)))
+                          (n .fit) (n .fits) (first-none (item (named m)) (k .ds) (n .name)) (first-none (chars xs) (k .ds) (n .quotes)))
                           (c .long) (λ u j h i r. c .five u j r (λ z y. omega (arith, y, i))) (c .beyond) (λ h. let r = line-reaches l (b .quotes .room) h in omega (arith, r));
                     };
               };

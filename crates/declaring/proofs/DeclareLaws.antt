@@ -1,17 +1,17 @@
 -- collating-symbol: what it does where it may stand, and its refusal; and what both lines that declare share.
 use mathlib.Core.Path.{_≡_, refl, sym, ap, _∙_, subst}
-use mathlib.Core.Bool.{Bool, true, false, _||_, or-true, false≢true}
-use mathlib.Core.List.{List, [], _∷_}
+use mathlib.Core.Bool.{Bool, true, false, not, _&&_, _||_, or-true, false≢true}
+use mathlib.Core.List.{List, [], _∷_, map}
 use Prim.Native.Nat.{ℕ, _+_, _/_, _≤_, _<_}
 use Prim.Native.String.{String}
 use native.Mathlib.Omega.{arith}
-use lib.ListN.{length}
+use lib.ListN.{length, getD}
 use lib.Dec.{eqb}
 use borrow.Author.Tests.{eqb-true, eqb-false}
 use Rattle.lists.proofs.Bools.{by, clash}
 use Rattle.rules.specs.Text.{bytes, _unless_, lower, lowest}
-use Rattle.rules.specs.Names.{charShaped}
-use Rattle.rules.specs.Tokens.{name, Token, tokenAt, theName, single, operands, tokensRefusal}
+use Rattle.rules.specs.Names.{charShaped, nameRefusal, namesRefusal}
+use Rattle.rules.specs.Tokens.{broken, name, quote, Token, tokenAt, theName, single, operands, tokensRefusal}
 use Rattle.rules.specs.State.{beforeOrder, afterOrder, Chain, Declaration, symbol, character, named, State, withDeclared, Outcome}
 use Rattle.rules.specs.Declarations.{symbolLine}
 use Rattle.rules.specs.Source.{collateLine}
@@ -21,7 +21,10 @@ use Rattle.lines.specs.declared.Spot.{Spot}
 use Rattle.lines.specs.declared.LineEnd.{LineEnd}
 use Rattle.tokens.specs.Left.{tokensLeft}
 use Rattle.opening.proofs.OpenLaws.{left-some}
+use Rattle.names.specs.Packed.{isPlain}
 use Rattle.subjects.specs.Keys.{Key, item, chars, keyAt}
+use Rattle.subjects.specs.Numbers.{isDeclarable}
+use Rattle.subjects.proofs.NumberLaws.{name-declarable}
 use Rattle.store.specs.Store.{Decl, first, isFound, knownIn, Holds, Sound, Declares}
 use Rattle.store.specs.declared.Found.{Found}
 use Rattle.store.specs.declared.Found.the-variants.{At, Nothing}
@@ -82,13 +85,26 @@ module _ {g : Signs} {src : List ℕ} {at : ℕ} {p : Spot} {e : LineEnd} {key :
 -- ## collating-symbol
 
 -- a name that is accepted is new
-symbol-new : (ds : List Decl) (os : List Token) → symbolRefusal ds os ≡ 0 → isNewIn ds (theName (tokenAt os 0)) ≡ true
+named-declarable : (ns : List (List ℕ)) → namesRefusal ns ≡ 0 → isDeclarable (item (named (getD ns 0 []))) ≡ true
+unfolding namesRefusal isDeclarable isPlain
+named-declarable [] h = refl
+named-declarable (n ∷ ns) h = name-declarable n (lower-none (nameRefusal n) (lowest (map nameRefusal ns)) h .0)
+
+-- the first of operands that are not refused, if it is a name, can be declared
+pub first-declarable : (os : List Token) → tokensRefusal os ≡ 0 → isDeclarable (item (named (theName (tokenAt os 0)))) ≡ true
+unfolding tokensRefusal isDeclarable isPlain
+first-declarable [] h = refl
+first-declarable (t ∷ os) h =
+    let z = lower-none (3 unless not (eqb (t .kind) broken || (eqb (t .kind) quote && eqb (length (t .names)) 0))) (lowest (namesRefusal (t .names) ∷ tokensRefusal os ∷ [])) h .1 in
+    named-declarable (t .names) (lower-none (namesRefusal (t .names)) (lowest (tokensRefusal os ∷ [])) z .0)
+
+symbol-new : (ds : List Decl) (os : List Token) → symbolRefusal ds os ≡ 0 → (isNewIn ds (theName (tokenAt os 0)) ≡ true) × (isDeclarable (item (named (theName (tokenAt os 0)))) ≡ true)
 unfolding symbolRefusal
 symbol-new ds os h =
     let new = isNewIn ds (theName (tokenAt os 0)) in
-    let a = lower-none (tokensRefusal os) (lowest (3 unless single name os ∷ 5 unless new ∷ [])) h .1 in
-    let b = lowest-unless 3 (single name os) (5 unless new ∷ []) (omega arith) a .1 in
-    lowest-unless 5 new [] (omega arith) b .0
+    let a = lower-none (tokensRefusal os) (lowest (3 unless single name os ∷ 5 unless new ∷ [])) h in
+    let b = lowest-unless 3 (single name os) (5 unless new ∷ []) (omega arith) (a .1) .1 in
+    (lowest-unless 5 new [] (omega arith) b .0, first-declarable os (a .0))
 
 module _ (g : Signs) (src : List ℕ) (at : ℕ) (p : Spot) (e : LineEnd) (l : Opened g src at p e "collating-symbol") where
   abbrev left : List Token
@@ -154,14 +170,15 @@ module _ (g : Signs) (src : List ℕ) (at : ℕ) (p : Spot) (e : LineEnd) (l : O
                 moves = line-moves l;
                 leaves = λ cs s o d u.
                     let k = o .known in
-                    let n = new-unknown (k .ds) m (symbol-new (k .ds) left (b .refusal .is (o .n) (k .ds) (k .holds))) in
+                    let new = symbol-new (k .ds) left (b .refusal .is (o .n) (k .ds) (k .holds)) in
+                    let n = new-unknown (k .ds) m (new .0) in
                     let rows : o .n ≤ (at + 5) / 8 = rw declares at (o .rows (l .first .inside)) in
                     record {
                       after = withDeclared s (symbol m ∷ s .declared);
                       outcome = line-accepted l w sh number o u x (paper (b .refusal .is) number o) (symbol-state s number);
                       held = open-declared g src w sh cs at s o (l .first .inside) (e .next) w′ (v / 16 + 1) (symbol m ∷ s .declared) declares (let i = line-moves l .on in omega (arith, i))
                           (known-symbol-new g src w (sh .order) (s .ordered .rules) (o .n) (s .declared) (s .ordered .lines) k v w′ c
-                          (omega (arith, rows, far)) (b .mark .within) (first-none (keyAt g src v) (k .ds) (ap (λ (q : Key). knownIn q (k .ds)) (b .mark .key) ∙ n)) (let y = b .mark .behind in omega (arith, y)) m (b .mark .key))
+                          (omega (arith, rows, far)) (b .mark .within) (ap isDeclarable (b .mark .key) ∙ new .1) (first-none (keyAt g src v) (k .ds) (ap (λ (q : Key). knownIn q (k .ds)) (b .mark .key) ∙ n)) (let y = b .mark .behind in omega (arith, y)) m (b .mark .key))
                           (c .long) (λ u j h i r. c .five u j r) (c .beyond) (λ h. let q = line-reaches l (b .mark .room) h in omega (arith, q));
                     };
               };

@@ -17,13 +17,13 @@ use Rattle.names.specs.Named.{nameLeft}
 use Rattle.rows.specs.Cells.{cell}
 use Rattle.subjects.specs.Keys.{nameSpot, quoteSpot, charOf, charsLeft, Key, item, chars, keyAt}
 use Rattle.subjects.proofs.KeyLaws.{keyAt-name, keyAt-quotes}
-use Rattle.store.specs.Store.{Decl, first, isPlace, headsOf, Roomy, Holds, undefinedMark}
+use Rattle.store.specs.Store.{Decl, first, isPlace, Once, headsOf, Roomy, Holds, undefinedMark}
 use Rattle.store.specs.declared.Found.the-variants.{At}
-use Rattle.store.proofs.ListLaws.{place-within}
+use Rattle.store.proofs.ListLaws.{nodes-keyed, place-within}
 use Rattle.listed.specs.Listed.{charsNumber}
-use Rattle.known.specs.Known.{Says, Once, subjectAt, isRow, markOf}
+use Rattle.known.specs.Known.{Says, subjectAt, isRow, markOf}
 use Rattle.known.proofs.DeclaredLaws.{known-symbol, known-quotes, known-character}
-use Rattle.known.proofs.MarkLaws.{nodes-keyed, mark-name, below-undefined, at-undefined, at-source, subject-marked}
+use Rattle.known.proofs.MarkLaws.{mark-name, below-undefined, at-undefined, at-source, subject-marked}
 use Rattle.writes.specs.Writing.{itemChars, CharsReady}
 use Rattle.items.specs.Items.{isItem}
 

@@ -63,7 +63,7 @@ module _ (g : Signs) (src w : List ℕ) (o : Order) (rs : List Rule) (n : ℕ) (
 
   module _ (v : ℕ) (a : Mark v) where
     names : Names g src w′ cs v (subjectAt g src v)
-    names = mark-names g src w′ n (k .ds) cs (holds-ranked g src w o rs n cs ls k) says-ranked (k .once) v (a .row) (a .even)
+    names = mark-names g src w′ n (k .ds) cs (holds-ranked g src w o rs n cs ls k) says-ranked (k .holds .once) v (a .row) (a .even)
 
     pub mark-item : isItem g src w′ v ≡ not (isSymbol cs (subjectAt g src v))
     mark-item = names-item g src w′ cs v (subjectAt g src v) names

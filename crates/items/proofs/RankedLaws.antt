@@ -84,7 +84,7 @@ module _ (g : Signs) (src w : List ℕ) (o : Order) (rs : List Rule) (n : ℕ) (
   -- that of a line's own subject
   pub rank-own : (v : ℕ) → IsMark v → cell given v rankNumber ≡ rankOf ls (subjectAt g src v)
   rank-own v a =
-      rank-given g src w o rs n cs ls k (subjectAt g src v) (At v) (subject-marked g src w n (k .ds) (k .holds) (k .once) v (a .row) (a .even))
+      rank-given g src w o rs n cs ls k (subjectAt g src v) (At v) (subject-marked g src w n (k .ds) (k .holds) (k .holds .once) v (a .row) (a .even))
 
   -- UNDEFINED has one where it has a line
   pub rank-undefined : eqb (rankOf ls undefined) 0 ≡ eqb (cell given (undefinedMark (length src)) placeNumber) 0

@@ -16,11 +16,11 @@ use Rattle.rules.specs.Compile.{charsNamed}
 use Rattle.rules.proofs.TextLaws.{same-true}
 use Rattle.rows.specs.Cells.{cell}
 use Rattle.subjects.specs.Keys.{Key, item, chars, sameKey}
-use Rattle.store.specs.Store.{Decl, first, isPlace, isFound, knownIn}
+use Rattle.store.specs.Store.{Decl, first, isPlace, isFound, knownIn, Once, another}
 use Rattle.store.specs.declared.Found.the-variants.{At, Nothing}
 use Rattle.store.proofs.ListLaws.{isPlace-fresh, isPlace-older}
 use Rattle.listed.specs.Listed.{charsNumber}
-use Rattle.known.specs.Known.{declaredAt, Says, none, symbols, elements, characters, Once, another}
+use Rattle.known.specs.Known.{declaredAt, Says, none, symbols, elements, characters}
 
 same-swap : (a b : List ℕ) → same a b ≡ same b a
 same-swap a b =

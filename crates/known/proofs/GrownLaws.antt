@@ -23,7 +23,7 @@ use Rattle.store.proofs.ListLaws.{isPlace-none, place-within}
 use Rattle.listed.specs.declared.Order.{Order}
 use Rattle.listed.specs.Listed.{charsNumber, lineNumber, placeNumber, nextNumber, rankNumber, backNumber, Linked, ends, goes, Backed, begins, comes, Spread, lastOf}
 use Rattle.listed.proofs.ListLaws.{row-kept}
-use Rattle.known.specs.Known.{Says, none, Once, nothing, behind, lineAt, isRow, Accepted, IsListed, Known}
+use Rattle.known.specs.Known.{Says, none, behind, lineAt, isRow, Accepted, IsListed, Known}
 use Rattle.known.proofs.MarkLaws.{row-in}
 
 -- ## Before the first line
@@ -35,7 +35,6 @@ known-start g src w rs r = record {
   ds = [];
   holds = holds-none (keyAt g src) (length src) w r;
   says = none;
-  once = nothing;
   some = λ v h. absurd (false≢true (sym (isPlace-none v) ∙ h));
   marks = [];
   lines = record { linked = ends; spread = Spread.none; last = refl; count = refl };
@@ -66,7 +65,7 @@ pub record KnownAs (g : Signs) (src w : List ℕ) (o : Order) (rs : List Rule) (
   pub same : known .ds ≡ ds
 
 module _ (g : Signs) (src w : List ℕ) (o : Order) (rs : List Rule) (n : ℕ) (cs : List Declaration) (ls : List OrderLine) (k : Known g src w o rs n cs ls)
-    (w′ : List ℕ) (n′ : ℕ) (ds′ : List Decl) (cs′ : List Declaration) (h : Holds (keyAt g src) (length src) w′ n′ ds′) (s : Says w′ ds′ cs′) (c : Once ds′)
+    (w′ : List ℕ) (n′ : ℕ) (ds′ : List Decl) (cs′ : List Declaration) (h : Holds (keyAt g src) (length src) w′ n′ ds′) (s : Says w′ ds′ cs′)
     (v : Grown (length src) w w′ n n′ (k .ds) ds′) where
   row-older : (u : ℕ) → isRow (length src) (k .ds) u ≡ true → isRow (length src) ds′ u ≡ true
   row-older u r =
@@ -127,7 +126,6 @@ module _ (g : Signs) (src w : List ℕ) (o : Order) (rs : List Rule) (n : ℕ) (
       ds = ds′;
       holds = h;
       says = s;
-      once = c;
       some = λ u p. by (isPlace u (k .ds)) (λ t. k .some u t) (λ t. v .some u p t);
       marks = k .marks;
       lines = record { linked = linked-grown (o .first) (k .marks) (k .listed) (k .lines .linked); spread = k .lines .spread; last = k .lines .last; count = k .lines .count };

@@ -107,7 +107,7 @@ module _ (g : Signs) (src w : List ℕ) (o : Order) (rs : List Rule) (n : ℕ) (
 
   -- the row of another mark
   other : (x : ℕ) → isRow len ds x ≡ true → (x ≡ v → ⊥) → Apart v x
-  other x h e = rows-apart g src w n ds (k .holds) (k .once) v x row h (λ f. e (sym f))
+  other x h e = rows-apart g src w n ds (k .holds) (k .holds .once) v x row h (λ f. e (sym f))
 
   -- the line of another mark stays
   pub line-same : (x : ℕ) → Apart v x → lineAt g src rs w x ≡ lineAt g src rs w′ x
@@ -178,7 +178,7 @@ module _ (g : Signs) (src w : List ℕ) (o : Order) (rs : List Rule) (n : ℕ) (
   unlisted-apart : (x : ℕ) → isRow len ds x ≡ true → cell w x placeNumber ≡ 0 → All (λ (t : ℕ). Apart t x) (k .marks)
   unlisted-apart x h z =
       all-map (IsListed g src w ds) (λ (t : ℕ). Apart t x) (k .marks)
-      (λ t l. rows-apart g src w n ds (k .holds) (k .once) t x (l .row) h (λ e. let s = l .some in let i = ap (λ (q : ℕ). cell w q placeNumber) e in omega (arith, s, i, z)))
+      (λ t l. rows-apart g src w n ds (k .holds) (k .holds .once) t x (l .row) h (λ e. let s = l .some in let i = ap (λ (q : ℕ). cell w q placeNumber) e in omega (arith, s, i, z)))
       (k .listed)
 
   free-apart : (x : ℕ) → n ≤ x / 16 → x / 16 ≤ len / 8 → All (λ (t : ℕ). Apart t x) (k .marks)
@@ -199,7 +199,6 @@ module _ (g : Signs) (src w : List ℕ) (o : Order) (rs : List Rule) (n : ℕ) (
       ds = ds;
       holds = c .holds;
       says = says-kept w w′ ds cs (c .chars) (k .says);
-      once = k .once;
       some = k .some;
       marks = marks′;
       lines = c .lines;
@@ -236,7 +235,7 @@ module _ (g : Signs) (src w : List ℕ) (o : Order) (rs : List Rule) (n : ℕ) (
   pub unlisted-others : All (Apart v) (k .marks)
   unlisted-others =
       all-map (IsListed g src w (k .ds)) (Apart v) (k .marks)
-      (λ x a. rows-apart g src w n (k .ds) (k .holds) (k .once) v x (u .row) (a .row) (λ e. let s = a .some in let z = u .none in let y = ap (λ (q : ℕ). cell w q placeNumber) e in omega (arith, s, z, y)))
+      (λ x a. rows-apart g src w n (k .ds) (k .holds) (k .holds .once) v x (u .row) (a .row) (λ e. let s = a .some in let z = u .none in let y = ap (λ (q : ℕ). cell w q placeNumber) e in omega (arith, s, z, y)))
       (k .listed)
 
   long : length backed ≡ length w

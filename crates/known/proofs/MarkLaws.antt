@@ -18,31 +18,11 @@ use Rattle.names.specs.Named.{nameLeft}
 use Rattle.rows.proofs.CellLaws.{Apart}
 use Rattle.subjects.specs.Keys.{nameSpot, subjectLeft, Key, item, chars, keyAt, sameKey}
 use Rattle.subjects.proofs.KeyLaws.{sameKey-true, sameKey-equal, keyAt-name, keyAt-quotes}
-use Rattle.store.specs.Store.{Decl, first, isPlace, Nodes, none, more, Holds, undefinedMark}
+use Rattle.store.specs.Store.{Decl, first, isPlace, Once, Holds, undefinedMark}
 use Rattle.store.specs.declared.Found.{Found}
 use Rattle.store.specs.declared.Found.the-variants.{At, Nothing}
-use Rattle.store.proofs.ListLaws.{found-key, found-place, place-within, place-row}
-use Rattle.known.specs.Known.{Once, another, subjectAt, isRow, markOf}
-
--- ## What is declared
-
--- each has the key of its mark
-pub nodes-keyed : {key : ℕ → Key} {len : ℕ} {w : List ℕ} {n : ℕ} {ds : List Decl} → Nodes key len w n ds → All (λ (d : Decl). key (d .place) ≡ d .key) ds
-nodes-keyed none = tt
-nodes-keyed (more a ns) = (a .keyed, nodes-keyed ns)
-
--- what is declared once is found at its mark
-pub once-found : (key : ℕ → Key) (u : ℕ) (ds : List Decl) → All (λ (d : Decl). key (d .place) ≡ d .key) ds → Once ds → isPlace u ds ≡ true → first (key u) ds ≡ At u
-unfolding first isPlace
-once-found key u [] a o h = absurd (false≢true h)
-once-found key u (d ∷ ds) a (another x o) h =
-    by (eqb (d .place) u)
-    (λ t. let e = eqb-true (d .place) u t in
-    let k : sameKey (d .key) (key u) ≡ true = sameKey-equal (sym (a .0) ∙ ap key e) in rw k (ap At e))
-    (λ t. let r = once-found key u ds (a .1) o (rw t at h) in
-    by (sameKey (d .key) (key u))
-    (λ s. let z : At u ≡ Nothing = sym r ∙ ap (λ (k : Key). first k ds) (sym (sameKey-true (d .key) (key u) s)) ∙ x in absurd (let y : _≡_ {A = ℕ} 0 1 = cc in omega (arith, y)))
-    (λ s. rw s r))
+use Rattle.store.proofs.ListLaws.{nodes-keyed, once-found, found-key, found-place, place-within, place-row}
+use Rattle.known.specs.Known.{subjectAt, isRow, markOf}
 
 -- ## Marks
 

@@ -19,7 +19,7 @@ use Rattle.lines.specs.declared.Signs.{Signs}
 use Rattle.rows.specs.Cells.{cell}
 use Rattle.rows.proofs.CellLaws.{Apart}
 use Rattle.subjects.specs.Keys.{keyAt}
-use Rattle.store.specs.Store.{Decl, Holds}
+use Rattle.store.specs.Store.{Decl, Once, Holds}
 use Rattle.store.specs.declared.Found.{Found}
 use Rattle.store.specs.declared.Found.the-variants.{At, Nothing}
 use Rattle.store.proofs.AreaLaws.{holds-told}
@@ -27,7 +27,7 @@ use Rattle.listed.specs.declared.Order.{Order}
 use Rattle.listed.specs.Listed.{charsNumber, placeNumber, nextNumber, backNumber, Row, Backed, Lines, Spread, none, more, linkedTo, linkedBetween, withLineAfter, longerAfter, unlinked, shorter}
 use Rattle.listed.proofs.ListLaws.{row-kept, all-map, numbered-number, numbered-place, numbered-else, numbered-apart}
 use Rattle.listed.proofs.MoveLaws.{without, behindMark, one-has, all-one, linked-rows, next-has, back-has, without-all, without-apart, without-length, without-one, behind-all, behind-new, behind-one, out-length, out-else, out-next, out-back, lines-out, backed-out, put-length, put-else, next-kept, back-kept, lines-put, backed-put}
-use Rattle.known.specs.Known.{Once, subjectAt, lineAt, isRow, markOf, IsListed, Known}
+use Rattle.known.specs.Known.{subjectAt, lineAt, isRow, markOf, IsListed, Known}
 use Rattle.known.proofs.MarkLaws.{isAt, subject-marked, marked-subject, subject-mark, mark-row}
 use Rattle.known.proofs.RankLaws.{isOrdered, rank-none}
 use Rattle.known.proofs.LineLaws.{newLine, Unlisted, Follows, Changed, Came, holds-linked, holds-numbered, line-same, line-new, known-changed, unlisted-others}
@@ -103,7 +103,7 @@ module _ (g : Signs) (src w : List ℕ) (o : Order) (rs : List Rule) (n : ℕ) (
   pub taken-known : (v : ℕ) → oneOf (eqb v) (k .marks) ≡ true → takenOut (subjectAt g src v) ls ≡ map (lineAt g src rs w) (without v (k .marks))
   taken-known v m =
       let l = one-has (IsListed g src w (k .ds)) v (k .marks) (k .listed) m in
-      ap (takenOut (subjectAt g src v)) (k .are) ∙ taken-lines g src w rs n (k .ds) (k .holds) (k .once) v (l .row) (l .even) (k .marks) (k .listed) (k .lines .spread)
+      ap (takenOut (subjectAt g src v)) (k .are) ∙ taken-lines g src w rs n (k .ds) (k .holds) (k .holds .once) v (l .row) (l .even) (k .marks) (k .listed) (k .lines .spread)
 
   pub taken-count : (v : ℕ) → oneOf (eqb v) (k .marks) ≡ true → length (takenOut (subjectAt g src v) ls) ≡ o .count - 1
   taken-count v m =
@@ -119,9 +119,9 @@ module _ (g : Signs) (src w : List ℕ) (o : Order) (rs : List Rule) (n : ℕ) (
       by (eqb (cell w v placeNumber) 0)
       (λ t. rw t (ap length (taken-none x (rank-none g src w o rs n cs ls k x (At v) m ∙ rw t)) ∙ known-length))
       (λ t. let z = eqb-false (cell w v placeNumber) 0 t in
-      let s = marked-subject g src w n (k .ds) (k .holds) (k .once) v x m in
+      let s = marked-subject g src w n (k .ds) (k .holds) (k .holds .once) v x m in
       rw t (subst (λ (y : Subject). length (takenOut y ls) ≡ o .count - 1) s
-      (taken-count v (k .all v (mark-row g src w n (k .ds) (k .holds) (k .once) v x m) (positive (cell w v placeNumber) z)))))
+      (taken-count v (k .all v (mark-row g src w n (k .ds) (k .holds) (k .holds .once) v x m) (positive (cell w v placeNumber) z)))))
     where
       positive : (a : ℕ) → (a ≡ 0 → ⊥) → 1 ≤ a
       positive a z = omega (arith, z)
@@ -188,7 +188,7 @@ module _ (g : Signs) (src w : List ℕ) (o : Order) (rs : List Rule) (n : ℕ) (
         known-changed g src w o rs n cs ls k v number place (u .row) (u .even) p after (longerAfter w o a v) (behindMark a v marks) put-changed
         (putAfter (subjectAt g src a) (newLine g src rs v number place) ls)
         (ap (putAfter (subjectAt g src a) (newLine g src rs v number place)) (k .are)
-        ∙ put-lines g src w rs n ds (k .holds) (k .once) after a v (newLine g src rs v number place) (listed-a .row) (listed-a .even)
+        ∙ put-lines g src w rs n ds (k .holds) (k .holds .once) after a v (newLine g src rs v number place) (listed-a .row) (listed-a .even)
         (line-new g src w o rs n cs ls k v number place (u .row) (u .even) p after (longerAfter w o a v) (behindMark a v marks) put-changed)
         (line-same g src w o rs n cs ls k v number place (u .row) (u .even) p after (longerAfter w o a v) (behindMark a v marks) put-changed)
         marks (k .listed) others-apart)
@@ -286,7 +286,7 @@ module _ (g : Signs) (src w : List ℕ) (o : Order) (rs : List Rule) (n : ℕ) (
         known-changed g src w o rs n cs ls k v number place (listed-v .row) (listed-v .even) p after₂ order₂ (behindMark a v left) moved-changed
         (putAfter (subjectAt g src a) (newLine g src rs v number place) (takenOut (subjectAt g src v) ls))
         (ap (putAfter (subjectAt g src a) (newLine g src rs v number place)) (taken-known g src w o rs n cs ls k v own)
-        ∙ put-lines g src w rs n ds (k .holds) (k .once) after₂ a v (newLine g src rs v number place) (listed-a .row) (listed-a .even)
+        ∙ put-lines g src w rs n ds (k .holds) (k .holds .once) after₂ a v (newLine g src rs v number place) (listed-a .row) (listed-a .even)
         (line-new g src w o rs n cs ls k v number place (listed-v .row) (listed-v .even) p after₂ order₂ (behindMark a v left) moved-changed)
         (line-same g src w o rs n cs ls k v number place (listed-v .row) (listed-v .even) p after₂ order₂ (behindMark a v left) moved-changed)
         left (without-all (IsListed g src w ds) v marks (k .listed)) left-apart)

@@ -14,13 +14,14 @@ use Rattle.rules.specs.State.{Declaration, symbol, character, named, OrderLine}
 use Rattle.lines.specs.declared.Signs.{Signs}
 use Rattle.rows.specs.Cells.{cellAt, cell}
 use Rattle.subjects.specs.Keys.{Key, item, chars, keyAt}
+use Rattle.subjects.specs.Numbers.{isDeclarable}
 use Rattle.store.specs.Store.{Decl, first, isPlace, fresh, Declares}
 use Rattle.store.specs.declared.Found.the-variants.{Nothing}
 use Rattle.store.proofs.AreaLaws.{holds-beyond}
 use Rattle.store.proofs.ListLaws.{isPlace-older, place-within}
 use Rattle.listed.specs.declared.Order.{Order}
 use Rattle.listed.specs.Listed.{charsNumber}
-use Rattle.known.specs.Known.{declaredAt, Says, none, symbols, elements, characters, another, lineAt, Known}
+use Rattle.known.specs.Known.{declaredAt, Says, none, symbols, elements, characters, lineAt, Known}
 use Rattle.known.proofs.GrownLaws.{Grown, KnownAs, known-as, known-grown}
 
 -- ## Lists
@@ -64,7 +65,6 @@ module _ (g : Signs) (src w : List ℕ) (o : Order) (rs : List Rule) (n : ℕ) (
       known-grown g src w o rs n cs ls k w′ n (k .ds) cs
       (holds-beyond l (λ i h. e i (omega (arith, h))) (k .holds))
       (says-on w w′ (k .ds) cs (λ u p. let i = place-within (k .holds) u p in e (cellAt u charsNumber) (omega (arith, i))) (k .says))
-      (k .once)
       (record {
         long = l;
         four = λ u j a b c. e (cellAt u j) (omega (arith, a, c));
@@ -76,7 +76,7 @@ module _ (g : Signs) (src w : List ℕ) (o : Order) (rs : List Rule) (n : ℕ) (
       })
 
   module _ (v : ℕ) (w′ : List ℕ) (d : Declares (keyAt g src) (length src) w v w′) (room : n ≤ v / 16) (inside : v / 2 ≤ length src)
-      (new : first (keyAt g src v) (k .ds) ≡ Nothing) (some : 1 ≤ v) where
+      (can : isDeclarable (keyAt g src v) ≡ true) (new : first (keyAt g src v) (k .ds) ≡ Nothing) (some : 1 ≤ v) where
     grown : Grown (length src) w w′ n (v / 16 + 1) (k .ds) (fresh key v ∷ k .ds)
     grown = record {
       long = d .long;
@@ -89,7 +89,7 @@ module _ (g : Signs) (src w : List ℕ) (o : Order) (rs : List Rule) (n : ℕ) (
     }
 
     with-more : (cs′ : List Declaration) → Says w′ (fresh key v ∷ k .ds) cs′ → KnownAs g src w′ o rs (v / 16 + 1) cs′ ls (fresh key v ∷ k .ds)
-    with-more cs′ s = known-as g src w o rs n cs ls k w′ (v / 16 + 1) (fresh key v ∷ k .ds) cs′ (d .is n (k .ds) (k .holds) room) s (another new (k .once)) grown
+    with-more cs′ s = known-as g src w o rs n cs ls k w′ (v / 16 + 1) (fresh key v ∷ k .ds) cs′ (d .is n (k .ds) (k .holds) room can new) s grown
 
     says-before : Says w′ (k .ds) cs
     says-before = says-on w w′ (k .ds) cs (λ u p. d .five u charsNumber (omega arith)) (k .says)
@@ -115,7 +115,6 @@ known-rules g src w o rs qs n cs ls k z = record {
   ds = k .ds;
   holds = k .holds;
   says = k .says;
-  once = k .once;
   some = k .some;
   marks = k .marks;
   lines = k .lines;

@@ -18,13 +18,13 @@ use Rattle.lines.specs.declared.Signs.{Signs}
 use Rattle.rows.specs.Cells.{cellAt, cell}
 use Rattle.rows.proofs.CellLaws.{Apart, cell-told, cell-other, cell-apart}
 use Rattle.subjects.specs.Keys.{keyAt}
-use Rattle.store.specs.Store.{Decl, Holds}
+use Rattle.store.specs.Store.{Decl, Once, Holds}
 use Rattle.store.specs.declared.Found.{Found}
 use Rattle.store.specs.declared.Found.the-variants.{At, Nothing}
 use Rattle.listed.specs.declared.Order.{Order}
 use Rattle.listed.specs.Listed.{placeNumber, rankNumber, Row, Spread, more, ranked}
 use Rattle.listed.proofs.MoveLaws.{linked-rows}
-use Rattle.known.specs.Known.{Once, lineAt, isRow, markOf, IsListed, Known}
+use Rattle.known.specs.Known.{lineAt, isRow, markOf, IsListed, Known}
 use Rattle.known.proofs.MarkLaws.{isAt, subject-mark, mark-row, rows-apart}
 
 -- ## Marks in the list
@@ -116,7 +116,7 @@ module _ (g : Signs) (src w : List ℕ) (o : Order) (rs : List Rule) (n : ℕ) (
   rank-none x f m =
       ap (λ (ms : List OrderLine). eqb (rankOf ms x) 0) (k .are)
       ∙ rankFrom-zero 1 x (map (lineAt g src rs w) (k .marks)) (omega arith)
-      ∙ ap not (line-marks g src rs n (k .ds) w (k .holds) (k .once) x (k .marks) (k .listed)
+      ∙ ap not (line-marks g src rs n (k .ds) w (k .holds) (k .holds .once) x (k .marks) (k .listed)
       ∙ ap (λ (y : Found). oneOf (λ (u : ℕ). isAt u y) (k .marks)) m ∙ go f m)
     where
       positive : (a : ℕ) → (a ≡ 0 → ⊥) → 1 ≤ a
@@ -128,14 +128,14 @@ module _ (g : Signs) (src w : List ℕ) (o : Order) (rs : List Rule) (n : ℕ) (
           by (eqb (cell w v placeNumber) 0)
           (λ t. rw t (unlisted g src w (k .ds) v (k .marks) (k .listed) (eqb-true (cell w v placeNumber) 0 t)))
           (λ t. let z = eqb-false (cell w v placeNumber) 0 t in
-          rw t (k .all v (mark-row g src w n (k .ds) (k .holds) (k .once) v x m) (positive (cell w v placeNumber) z)))
+          rw t (k .all v (mark-row g src w n (k .ds) (k .holds) (k .holds .once) v x m) (positive (cell w v placeNumber) z)))
 
   -- the ranks that the rows are given are those of the paper
   pub rank-given : (x : Subject) (f : Found) → markOf (length src) (k .ds) x ≡ f → rankAt (ranked w 1 (k .marks)) f ≡ rankOf ls x
   rank-given x Nothing m = sym (eqb-true (rankOf ls x) 0 (rank-none x Nothing m))
   rank-given x (At v) m =
-      let r = mark-row g src w n (k .ds) (k .holds) (k .once) v x m in
-      rank-cell g src rs n (k .ds) w (k .holds) (k .once) x v m r w 1 (k .marks) (k .listed) (k .lines .spread)
+      let r = mark-row g src w n (k .ds) (k .holds) (k .holds .once) v x m in
+      rank-cell g src rs n (k .ds) w (k .holds) (k .holds .once) x v m r w 1 (k .marks) (k .listed) (k .lines .spread)
       (linked-rows w (o .first) (k .marks) (k .lines .linked))
       (λ f. k .unranked v r (by (eqb (cell w v placeNumber) 0) (λ t. eqb-true (cell w v placeNumber) 0 t)
       (λ t. let z = eqb-false (cell w v placeNumber) 0 t in clash (k .all v r (omega (arith, z))) f)))

@@ -39,11 +39,6 @@ pub data Says (w : List ℕ) : List Decl → List Declaration → Type 0 where
   characters : {c v : ℕ} {ds : List Decl} {cs : List Declaration} → cell w v charsNumber ≡ 0 → Says w ds cs
       → Says w (declaredAt (item (character c)) v ∷ ds) cs
 
--- No key is declared twice.
-pub data Once : List Decl → Type 0 where
-  nothing : Once []
-  another : {d : Decl} {ds : List Decl} → first (d .key) ds ≡ Nothing → Once ds → Once (d ∷ ds)
-
 -- ## Order lines
 
 -- what an order line's mark names
@@ -93,7 +88,6 @@ pub record Known (g : Signs) (src w : List ℕ) (o : Order) (rs : List Rule) (n 
   pub ds : List Decl
   pub holds : Holds (keyAt g src) (length src) w n ds
   pub says : Says w ds cs
-  pub once : Once ds
   pub some : (v : ℕ) → isPlace v ds ≡ true → 1 ≤ v
   pub marks : List ℕ
   pub lines : Lines w o marks

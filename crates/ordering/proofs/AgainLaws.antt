@@ -99,7 +99,7 @@ module _ (g : Signs) (src w : List ℕ) (o : Order) (rs : List Rule) (n : ℕ) (
       → oneOf (sameSubject x) (map (subjectAt g src) us) ≡ oneOf (λ (u : ℕ). isAt u (markOf (length src) (k .ds) x)) us
   unfolding oneOf
   subjects-marks x [] a = refl
-  subjects-marks x (u ∷ us) a = rw (subject-mark g src w n (k .ds) (k .holds) (k .once) u x (a .0 .row) (a .0 .even), subjects-marks x us (a .1))
+  subjects-marks x (u ∷ us) a = rw (subject-mark g src w n (k .ds) (k .holds) (k .holds .once) u x (a .0 .row) (a .0 .even), subjects-marks x us (a .1))
 
   module _ (b : Block) (xs : List Subject) (i : InBlock g src w (k .marks) b xs) where
     own-listed : All (IsListed g src w (k .ds)) (i .own ++ b .named ∷ [])
@@ -133,7 +133,7 @@ module _ (g : Signs) (src w : List ℕ) (o : Order) (rs : List Rule) (n : ℕ) (
       where
         go : (f : Found) → markOf (length src) (k .ds) x ≡ f → oneOf (λ (u : ℕ). isAt u f) (i .own ++ b .named ∷ []) ≡ isOwn w b f
         go Nothing m = none-of (i .own ++ b .named ∷ [])
-        go (At v) m = oneOf-append (eqb v) (i .own) (b .named ∷ []) ∙ own-or v (mark-row g src w n (k .ds) (k .holds) (k .once) v x m)
+        go (At v) m = oneOf-append (eqb v) (i .own) (b .named ∷ []) ∙ own-or v (mark-row g src w n (k .ds) (k .holds) (k .holds .once) v x m)
 
     -- ## The block with a line more
 
@@ -158,10 +158,10 @@ module _ (g : Signs) (src w : List ℕ) (o : Order) (rs : List Rule) (n : ℕ) (
       last-other = subst (λ (v : ℕ). v ≡ m → ⊥) (sym (i .last)) (first-has (λ (v : ℕ). v ≡ m → ⊥) (i .own) (b .named) own-other (λ e. not-named (sym e)))
 
       row : isRow (length src) (k .ds) m ≡ true
-      row = mark-row g src w n (k .ds) (k .holds) (k .once) m x mark
+      row = mark-row g src w n (k .ds) (k .holds) (k .holds .once) m x mark
 
       apart : (u : ℕ) → oneOf (eqb u) (k .marks) ≡ true → (u ≡ m → ⊥) → Apart m u
-      apart u h d = rows-apart g src w n (k .ds) (k .holds) (k .once) m u row (listed-one u h .row) (λ e. d (sym e))
+      apart u h d = rows-apart g src w n (k .ds) (k .holds) (k .holds .once) m u row (listed-one u h .row) (λ e. d (sym e))
 
       module _ (number place : ℕ) (w′ : List ℕ) (o′ : Order) (marks′ : List ℕ) (c : Changed g src w n (k .ds) (k .marks) m number place w′ o′ marks′) (late : b .from ≤ place) where
         place-kept : (u : ℕ) → oneOf (eqb u) (k .marks) ≡ true → (u ≡ m → ⊥) → cell w′ u placeNumber ≡ cell w u placeNumber
@@ -177,7 +177,7 @@ module _ (g : Signs) (src w : List ℕ) (o : Order) (rs : List Rule) (n : ℕ) (
           own = m ∷ i .own;
           subjects = ap (λ (ys : List Subject). blockWith ys x) (i .subjects)
               ∙ block-all (subjectAt g src) (i .own) (b .named) x
-              ∙ ap (λ (y : Subject). y ∷ map (subjectAt g src) (i .own ++ b .named ∷ [])) (sym (marked-subject g src w n (k .ds) (k .holds) (k .once) m x mark));
+              ∙ ap (λ (y : Subject). y ∷ map (subjectAt g src) (i .own ++ b .named ∷ [])) (sym (marked-subject g src w n (k .ds) (k .holds) (k .holds .once) m x mark));
           last = refl;
           named = c .old (b .named) (λ e. not-named (sym e)) (i .named);
           before = let e = place-kept (b .named) (i .named) (λ e. not-named (sym e)) in let a = i .before in omega (arith, e, a);

@@ -105,7 +105,7 @@ stands-known w ds cs s undefined = refl
 pub symbol-known : (g : Signs) (src w : List ℕ) (o : Order) (rs : List Rule) (n : ℕ) (cs : List Declaration) (ls : List OrderLine) (k : Known g src w o rs n cs ls)
     (m : List ℕ) (f : Found) → first (item (named m)) (k .ds) ≡ f → isSymbol cs (named m) ≡ isBare w f
 unfolding isSymbol knownIn
-symbol-known g src w o rs n cs ls k m (At v) e = known-symbol w m v (k .ds) cs (k .says) (k .once) e
+symbol-known g src w o rs n cs ls k m (At v) e = known-symbol w m v (k .ds) cs (k .says) (k .holds .once) e
 symbol-known g src w o rs n cs ls k m Nothing e = none-later m cs (sym (known-declared w m (k .ds) cs (k .says)) ∙ ap isFound e)
 
 -- how many lines there are without that of a subject

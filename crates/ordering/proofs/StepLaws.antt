@@ -128,7 +128,7 @@ module _ {g : Signs} {src w : List ℕ} {sh : Sheet} {x : Subject} {at next : �
   marks = k .known .marks
 
   placed-row : isRow (length src) (k .known .ds) m ≡ true
-  placed-row = mark-row g src w′ (k .n) (k .known .ds) (k .known .holds) (k .known .once) m x (k .mark)
+  placed-row = mark-row g src w′ (k .n) (k .known .ds) (k .known .holds) (k .known .holds .once) m x (k .mark)
 
   placed-in : Within m
   placed-in = row-in (k .known .holds) m placed-row
@@ -166,7 +166,7 @@ module _ {g : Signs} {src w : List ℕ} {sh : Sheet} {x : Subject} {at next : �
   placed-unlisted h = record { row = placed-row; even = k .even; none = eqb-true (cell w′ m placeNumber) 0 (not-false (eqb (cell w′ m placeNumber) 0) h) }
 
   placed-subject : subjectAt g src m ≡ x
-  placed-subject = marked-subject g src w′ (k .n) (k .known .ds) (k .known .holds) (k .known .once) m x (k .mark)
+  placed-subject = marked-subject g src w′ (k .n) (k .known .ds) (k .known .holds) (k .known .holds .once) m x (k .mark)
 
   in-block : sh .phase ≡ inBlock → InBlock g src w′ marks (sh .block) (s .ordered .block)
   in-block p = k .block (eq-eqb (sh .phase) inBlock p)
@@ -249,7 +249,7 @@ module _ {g : Signs} {src w : List ℕ} {sh : Sheet} {x : Subject} {at next : �
             (λ q. let was : oneOf (eqb v) marks ≡ true = rw q at (one-has (λ (u : ℕ). oneOf (eqb u) (m ∷ marks) ≡ true) v (came .known .marks) (c .from) y) in
             let a = k .places v was in
             let row = one-has (IsListed g src w′ (k .known .ds)) v marks (k .known .listed) was .row in
-            let far = rows-apart g src w′ (k .n) (k .known .ds) (k .known .holds) (k .known .once) m v placed-row row (λ e. eqb-false v m q (sym e)) in
+            let far = rows-apart g src w′ (k .n) (k .known .ds) (k .known .holds) (k .known .holds .once) m v placed-row row (λ e. eqb-false v m q (sym e)) in
             let d = c .others v placeNumber (omega arith) (λ e. omega (arith, e)) (λ e. omega (arith, e)) far in
             omega (arith, a, d, on))
 

@@ -89,10 +89,10 @@ module _ {g : Signs} {src w : List ℕ} {x : Subject} {m : ℕ} (l : LineOf g sr
   lined = found-lined w (markOf (length src) (k .ds) x) m (l .is o rs n cs ls k)
 
   pub line-listed : oneOf (eqb m) (k .marks) ≡ true
-  line-listed = k .all m (mark-row g src w n (k .ds) (k .holds) (k .once) m x (lined .same)) (lined .some)
+  line-listed = k .all m (mark-row g src w n (k .ds) (k .holds) (k .holds .once) m x (lined .same)) (lined .some)
 
   pub line-subject : subjectAt g src m ≡ x
-  line-subject = marked-subject g src w n (k .ds) (k .holds) (k .once) m x (lined .same)
+  line-subject = marked-subject g src w n (k .ds) (k .holds) (k .holds .once) m x (lined .same)
 
 -- ## What is found at a name
 

@@ -1,7 +1,7 @@
 -- The numbers of keys: of a name by its reader, of the characters of quotes one after the other.
 use mathlib.Core.Path.{_≡_, refl, sym, ap, _∙_, subst}
 use mathlib.Core.Bool.{Bool, true, false, _&&_}
-use mathlib.Core.List.{List, [], _∷_}
+use mathlib.Core.List.{List, [], _∷_, map}
 use Prim.Native.Nat.{ℕ, zero, suc, _+_, _*_, _/_, _%_, _≤_, _<_}
 use native.Mathlib.Nat.{add-suc}
 use native.Mathlib.Numerals.{add-one}
@@ -9,7 +9,10 @@ use native.Mathlib.Omega.{arith}
 use lib.ListN.{length, set, replicate, length-set, length-replicate}
 use lib.Dec.{leb, ltb}
 use borrow.Author.Tests.{lt-leb, le-ltb, lt-ltb, leb-true}
-use Rattle.rules.specs.Text.{every}
+use Rattle.lists.proofs.Bools.{and-left, and-right, and-intro}
+use Rattle.rules.specs.Text.{every, _unless_}
+use Rattle.rules.specs.Names.{isVisible, nameRefusal, charShaped, codeOf, isCharacter, isCharName}
+use Rattle.rules.proofs.TextLaws.{every-head, every-tail, unless-none, lower-none}
 use Rattle.rules.specs.State.{Subject, character, named}
 use Rattle.rules.specs.OrderLines.{subjectOf}
 use Rattle.rules.specs.Lines.{quoted}
@@ -20,7 +23,7 @@ use Rattle.names.specs.declared.Pack.{Pack}
 use Rattle.names.specs.declared.Code.{Code}
 use Rattle.names.specs.declared.Code.the-variants.{Char, Other}
 use Rattle.names.specs.Named.{nameLeft, CodeIs, hashOf}
-use Rattle.names.specs.Packed.{PackedIs}
+use Rattle.names.specs.Packed.{isPlain, PackedIs}
 use Rattle.subjects.specs.declared.NextChar.{NextChar}
 use Rattle.subjects.specs.declared.NextChar.the-variants as next
 use Rattle.subjects.specs.Keys.{nameSpot, quoteSpot, subjectLeft, charsLeft, Key, item, chars, keyAt, hashKey, hashSubject, CharNext, NextIs}
@@ -174,3 +177,24 @@ module _ (g : Signs) (src : List ℕ) (v : ℕ) {p : Spot} {key : List ℕ} {r :
 
   pub numbers-quotes : (v % 2 ≡ 0 → ⊥) → p ≡ quoteSpot (v / 2) → NumbersAre (chars (charsLeft g src p)) key r → NumbersAre (keyAt g src v) key r
   numbers-quotes n f h = subst (λ (k : Key). NumbersAre k key r) (ap (λ (x : Spot). chars (charsLeft g src x)) f ∙ sym (keyAt-quotes g src v n)) h
+
+-- ## What lines accept can be declared
+
+pub name-declarable : (n : List ℕ) → nameRefusal n ≡ 0 → isDeclarable (item (named n)) ≡ true
+unfolding nameRefusal isDeclarable isPlain
+name-declarable n e =
+    let z = lower-none (3 unless (leb 1 (length n) && every isVisible n)) (7 unless leb (length n) 32) e in
+    and-intro (unless-none 7 (leb (length n) 32) (omega arith) (z .1))
+    (and-right (leb 1 (length n)) (every isVisible n) (unless-none 3 (leb 1 (length n) && every isVisible n) (omega arith) (z .0)))
+
+pub char-declarable : (c : ℕ) → isCharacter c ≡ true → isDeclarable (item (character c)) ≡ true
+unfolding isDeclarable
+char-declarable c h = let l = leb-true c 0x10FFFF (and-left (leb c 0x10FFFF) _ h) in lt-ltb c 1114112 (omega (arith, l))
+
+pub chars-declarable : (ns : List (List ℕ)) → every isCharName ns ≡ true → leb (length (map codeOf ns)) 4 ≡ true → isDeclarable (chars (map codeOf ns)) ≡ true
+unfolding isDeclarable isCharName every
+chars-declarable ns h l = and-intro l (codes ns h)
+  where
+    codes : (ns : List (List ℕ)) → every isCharName ns ≡ true → every isCode (map codeOf ns) ≡ true
+    codes [] h = refl
+    codes (n ∷ ns) h = and-intro (char-declarable (codeOf n) (and-right (charShaped n) _ (every-head isCharName n ns h))) (codes ns (every-tail isCharName n ns h))
