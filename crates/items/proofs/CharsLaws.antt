@@ -1,12 +1,12 @@
 -- What the mark of an order line names: UNDEFINED, a character, a symbol or an element; so whether it gives an item, and of which characters.
 use mathlib.Core.Path.{_≡_, sym, ap, _∙_, subst}
 use mathlib.Core.Bool.{true, false, not}
-use mathlib.Core.List.{List}
-use Prim.Native.Nat.{ℕ, _*_, _/_, _%_, _≤_}
+use mathlib.Core.List.{List, [], _∷_}
+use Prim.Native.Nat.{ℕ, _+_, _-_, _*_, _/_, _%_, _≤_}
 use native.Mathlib.Omega.{arith}
 use lib.ListN.{length}
 use lib.Dec.{leb, eqb}
-use borrow.Author.Tests.{eqb-true, eqb-false, le-leb, lt-leb, leb-true}
+use borrow.Author.Tests.{eqb-true, eqb-false, eq-eqb, ne-eqb, le-leb, lt-leb, leb-true}
 use Rattle.lists.proofs.Bools.{by, clash}
 use Rattle.rules.specs.Names.{charShaped, codeOf}
 use Rattle.rules.specs.State.{Declaration, Subject, character, named, undefined}
@@ -15,7 +15,7 @@ use Rattle.rules.specs.Compile.{charsNamed, charsOf}
 use Rattle.lines.specs.declared.Signs.{Signs}
 use Rattle.names.specs.Named.{nameLeft}
 use Rattle.rows.specs.Cells.{cell}
-use Rattle.subjects.specs.Keys.{nameSpot, quoteSpot, charOf, charsLeft, Key, item, chars, keyAt}
+use Rattle.subjects.specs.Keys.{nameSpot, quoteSpot, charsLeft, Key, item, chars, keyAt}
 use Rattle.subjects.proofs.KeyLaws.{keyAt-name, keyAt-quotes}
 use Rattle.store.specs.Store.{Decl, first, isPlace, Once, headsOf, Roomy, Holds, undefinedMark}
 use Rattle.store.specs.declared.Found.the-variants.{At}
@@ -36,11 +36,12 @@ nameAt g src v = nameLeft g src (nameSpot (v / 2))
 -- A mark, its row in the area w, names this subject.
 pub data Names (g : Signs) (src w : List ℕ) (cs : List Declaration) (v : ℕ) : Subject → Type 0 where
   last : leb (undefinedMark (length src)) v ≡ true → v ≤ undefinedMark (length src) → Names g src w cs v undefined
-  single : leb (undefinedMark (length src)) v ≡ false → v / 2 ≤ length src → charShaped (nameAt g src v) ≡ true → cell w v charsNumber ≡ 0
+  single : leb (undefinedMark (length src)) v ≡ false → v / 2 ≤ length src → charShaped (nameAt g src v) ≡ true
+      → cell w v charsNumber ≡ 2 * codeOf (nameAt g src v) + 2
       → Names g src w cs v (character (codeOf (nameAt g src v)))
   alone : leb (undefinedMark (length src)) v ≡ false → v / 2 ≤ length src → charShaped (nameAt g src v) ≡ false → cell w v charsNumber ≡ 0
       → isSymbol cs (named (nameAt g src v)) ≡ true → Names g src w cs v (named (nameAt g src v))
-  several : leb (undefinedMark (length src)) v ≡ false → v / 2 ≤ length src → charShaped (nameAt g src v) ≡ false → eqb (cell w v charsNumber) 0 ≡ false
+  several : leb (undefinedMark (length src)) v ≡ false → v / 2 ≤ length src → charShaped (nameAt g src v) ≡ false → eqb (cell w v charsNumber % 2) 0 ≡ false
       → isSymbol cs (named (nameAt g src v)) ≡ false → cell w v charsNumber / 2 ≤ length src
       → charsLeft g src (quoteSpot (cell w v charsNumber / 2)) ≡ charsNamed (nameAt g src v) cs → Names g src w cs v (named (nameAt g src v))
 
@@ -50,17 +51,18 @@ module _ (g : Signs) (src w : List ℕ) (n : ℕ) (ds : List Decl) (cs : List De
   m = nameAt g src v
 
   -- the characters of quotes stand at an odd mark
-  quotes-odd : (q : ℕ) (xs : List ℕ) → keyAt g src q ≡ chars xs → charsLeft g src (quoteSpot (q / 2)) ≡ xs
-  quotes-odd q xs f =
-      by (eqb (q % 2) 0)
-      (λ t. absurd (apart (keyAt-name g src q (eqb-true (q % 2) 0 t)) f))
-      (λ t. same-chars (sym (keyAt-quotes g src q (eqb-false (q % 2) 0 t)) ∙ f))
-    where
-      apart : {k : Key} {x : Subject} → k ≡ item x → k ≡ chars xs → ⊥
-      apart a b = let z : _≡_ {A = ℕ} 0 1 = cc in omega (arith, z)
+  module _ (q : ℕ) (xs : List ℕ) (f : keyAt g src q ≡ chars xs) where
+    quotes-odd : eqb (q % 2) 0 ≡ false
+    quotes-odd = by (eqb (q % 2) 0) (λ t. absurd (apart (keyAt-name g src q (eqb-true (q % 2) 0 t)) f)) (λ t. t)
+      where
+        apart : {k : Key} {x : Subject} → k ≡ item x → k ≡ chars xs → ⊥
+        apart a b = let z : _≡_ {A = ℕ} 0 1 = cc in omega (arith, z)
 
-      same-chars : {ys : List ℕ} → chars ys ≡ chars xs → ys ≡ xs
-      same-chars a = cc
+    quotes-are : charsLeft g src (quoteSpot (q / 2)) ≡ xs
+    quotes-are = same-chars (sym (keyAt-quotes g src q (eqb-false (q % 2) 0 quotes-odd)) ∙ f)
+      where
+        same-chars : {ys : List ℕ} → chars ys ≡ chars xs → ys ≡ xs
+        same-chars a = cc
 
   module _ (p : isPlace v ds ≡ true) where
     there : first (item (subjectOf m)) ds ≡ At v
@@ -78,8 +80,8 @@ module _ (g : Signs) (src w : List ℕ) (n : ℕ) (ds : List Decl) (cs : List De
         (λ z. alone below (place-within h v p) t (eqb-true (cell w v charsNumber) 0 z) (known-symbol w m v ds cs s o f ∙ z))
         (λ z. let x = eqb-false (cell w v charsNumber) 0 z in
         let q = known-quotes w m v (keyAt g src) ds cs s (nodes-keyed (h .nodes)) f (positive (cell w v charsNumber) x) in
-        several below (place-within h v p) t z (known-symbol w m v ds cs s o f ∙ z) (place-within h (cell w v charsNumber) (q .place))
-        (quotes-odd (cell w v charsNumber) (charsNamed m cs) (q .are)))
+        several below (place-within h v p) t (quotes-odd (cell w v charsNumber) (charsNamed m cs) (q .are)) (known-symbol w m v ds cs s o f ∙ z)
+        (place-within h (cell w v charsNumber) (q .place)) (quotes-are (cell w v charsNumber) (charsNamed m cs) (q .are)))
       where
         positive : (a : ℕ) → (a ≡ 0 → ⊥) → 1 ≤ a
         positive a z = omega (arith, z)
@@ -102,20 +104,36 @@ module _ (g : Signs) (src w : List ℕ) (n : ℕ) (ds : List Decl) (cs : List De
 
 -- ## What it gives
 
+-- the number that tells a code is even, and gives it back
+module _ (x c : ℕ) (e : x ≡ 2 * c + 2) where
+  told-some : eqb x 0 ≡ false
+  told-some = ne-eqb x 0 (λ z. omega (arith, e, z))
+
+  told-even : eqb (x % 2) 0 ≡ true
+  told-even = eq-eqb (x % 2) 0 (omega (arith, e))
+
+  told-back : (x - 2) / 2 ≡ c
+  told-back = omega (arith, e)
+
+-- an odd number is not 0
+odd-some : (x : ℕ) → eqb (x % 2) 0 ≡ false → eqb x 0 ≡ false
+odd-some x h = let n = eqb-false (x % 2) 0 h in ne-eqb x 0 (λ z. n (omega (arith, z)))
+
 module _ (g : Signs) (src w : List ℕ) (cs : List Declaration) (v : ℕ) where
   -- an item, but for a symbol
-  pub names-item : (x : Subject) → Names g src w cs v x → isItem g src w v ≡ not (isSymbol cs x)
+  pub names-item : (x : Subject) → Names g src w cs v x → isItem (length src) w v ≡ not (isSymbol cs x)
   unfolding isItem isSymbol
   names-item x (last a b) = rw a
-  names-item x (single a b t z) = rw (a, z, t)
-  names-item x (alone a b t z y) = rw (a, z, t, y)
-  names-item x (several a b t z y i f) = rw (a, z, y)
+  names-item x (single a b t z) = rw (a, told-some (cell w v charsNumber) (codeOf (nameAt g src v)) z)
+  names-item x (alone a b t z y) = rw (a, z, y)
+  names-item x (several a b t z y i f) = rw (a, odd-some (cell w v charsNumber) z, y)
 
   -- its characters
   pub names-chars : (x : Subject) → Names g src w cs v x → isSymbol cs x ≡ false → itemChars g src w v ≡ charsOf cs x
-  unfolding itemChars charsOf charOf
+  unfolding itemChars charsOf
   names-chars x (last a b) n = rw a
-  names-chars x (single a b t z) n = rw (a, z, t)
+  names-chars x (single a b t z) n =
+      rw (a, told-even (cell w v charsNumber) (codeOf (nameAt g src v)) z) (ap (λ (c : ℕ). c ∷ []) (told-back (cell w v charsNumber) (codeOf (nameAt g src v)) z))
   names-chars x (alone a b t z y) n = clash y n
   names-chars x (several a b t z y i f) n = rw (a, z) f
 
@@ -130,7 +148,7 @@ module _ (g : Signs) (src w : List ℕ) (cs : List Declaration) (v : ℕ) where
   pub names-ready : (x : Subject) → Names g src w cs v x → Roomy (length src) w → CharsReady (length src) w v
   names-ready x (last a b) h =
       let l = leb-true (undefinedMark (length src)) v a in
-      record { roomy = h; name = λ i. absurd (omega (arith, l, i)); quotes = λ i. absurd (omega (arith, l, i)) }
-  names-ready x (single a b t z) h = record { roomy = h; name = λ i. b; quotes = λ i. omega (arith, z) }
-  names-ready x (alone a b t z y) h = record { roomy = h; name = λ i. b; quotes = λ i. omega (arith, z) }
-  names-ready x (several a b t z y i f) h = record { roomy = h; name = λ l. b; quotes = λ l. i }
+      record { roomy = h; name = λ i. absurd (omega (arith, l, i)); quotes = λ i n. absurd (omega (arith, l, i)) }
+  names-ready x (single a b t z) h = record { roomy = h; name = λ i. b; quotes = λ i n. absurd (n (omega (arith, z))) }
+  names-ready x (alone a b t z y) h = record { roomy = h; name = λ i. b; quotes = λ i n. omega (arith, z) }
+  names-ready x (several a b t z y i f) h = record { roomy = h; name = λ l. b; quotes = λ l n. i }

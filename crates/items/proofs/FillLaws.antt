@@ -80,31 +80,31 @@ module _ (g : Signs) (src w : List ℕ) (levels : ℕ) where
   unfolding itemRanks ranksAt
   ranks-count f h v = countAll-any f h (cell w v rankNumber) levels (operandList (lineOperands g src (cell w v placeNumber)))
 
-  items-item : (f : Subject → ℕ) (v : ℕ) (vs : List ℕ) → isItem g src w v ≡ true
+  items-item : (f : Subject → ℕ) (v : ℕ) (vs : List ℕ) → isItem (length src) w v ≡ true
       → itemsOf g src w levels f (v ∷ vs) ≡ itemOf g src w levels f v ∷ itemsOf g src w levels f vs
   unfolding itemsOf
   items-item f v vs e = rw e
 
-  items-other : (f : Subject → ℕ) (v : ℕ) (vs : List ℕ) → isItem g src w v ≡ false → itemsOf g src w levels f (v ∷ vs) ≡ itemsOf g src w levels f vs
+  items-other : (f : Subject → ℕ) (v : ℕ) (vs : List ℕ) → isItem (length src) w v ≡ false → itemsOf g src w levels f (v ∷ vs) ≡ itemsOf g src w levels f vs
   unfolding itemsOf
   items-other f v vs e = rw e
 
   items-count : (f h : Subject → ℕ) (vs : List ℕ) → length (itemsOf g src w levels f vs) ≡ length (itemsOf g src w levels h vs)
   unfolding itemsOf
   items-count f h [] = refl
-  items-count f h (v ∷ vs) = by (isItem g src w v) (λ e. rw e (ap suc (items-count f h vs))) (λ e. rw e (items-count f h vs))
+  items-count f h (v ∷ vs) = by (isItem (length src) w v) (λ e. rw e (ap suc (items-count f h vs))) (λ e. rw e (items-count f h vs))
 
   weights-count : (f h : Subject → ℕ) (vs : List ℕ) → weightCount (itemsOf g src w levels f vs) ≡ weightCount (itemsOf g src w levels h vs)
   unfolding itemsOf itemOf weightCount
   weights-count f h [] = refl
   weights-count f h (v ∷ vs) =
-      by (isItem g src w v) (λ e. rw e (omega (arith, ranks-count f h v, weights-count f h vs))) (λ e. rw e (weights-count f h vs))
+      by (isItem (length src) w v) (λ e. rw e (omega (arith, ranks-count f h v, weights-count f h vs))) (λ e. rw e (weights-count f h vs))
 
   lists-length : (f : Subject → ℕ) (vs : List ℕ) → length (weightLists (itemsOf g src w levels f vs)) ≡ length (itemsOf g src w levels f vs) * levels
   unfolding itemsOf itemOf weightLists
   lists-length f [] = simp native.Mathlib.Nat.zero-mul refl
   lists-length f (v ∷ vs) =
-      by (isItem g src w v)
+      by (isItem (length src) w v)
       (λ e.
       let R : List (List ℕ) = itemRanks g src w v levels f in
       let is : List Item = itemsOf g src w levels f vs in
@@ -241,7 +241,7 @@ module _ {g : Signs} {src w : List ℕ} {levels : ℕ} {area₀ : List ℕ} {slo
   counted = h .count ∙ ap length (ahead .is)
 
   -- the line of v gives an item
-  module _ {b : Bool} (j : b ≡ isItem g src w v) (t : b ≡ true) where
+  module _ {b : Bool} (j : b ≡ isItem (length src) w v) (t : b ≡ true) where
     items : (f : Subject → ℕ) → itemsOf g src w levels f (h .marks) ≡ itemOf g src w levels f v ∷ itemsOf g src w levels f (ahead .rest)
     items f = ap (itemsOf g src w levels f) (ahead .is) ∙ items-item g src w levels f v (ahead .rest) (sym j ∙ t)
 
@@ -323,7 +323,7 @@ module _ {g : Signs} {src w : List ℕ} {levels : ℕ} {area₀ : List ℕ} {slo
       writing-item ea es ep en = rw (ea, es, ep, en) with-item
 
   -- it gives none
-  module _ {b : Bool} (j : b ≡ isItem g src w v) (t : b ≡ false) {x y : ℕ} (d : x ≡ y) (n : y ≡ cell w v nextNumber) where
+  module _ {b : Bool} (j : b ≡ isItem (length src) w v) (t : b ≡ false) {x y : ℕ} (d : x ≡ y) (n : y ≡ cell w v nextNumber) where
     rest-items : (f : Subject → ℕ) → itemsOf g src w levels f (h .marks) ≡ itemsOf g src w levels f (ahead .rest)
     rest-items f = ap (itemsOf g src w levels f) (ahead .is) ∙ items-other g src w levels f v (ahead .rest) (sym j ∙ t)
 

@@ -65,7 +65,7 @@ module _ (g : Signs) (src w : List ℕ) (o : Order) (rs : List Rule) (n : ℕ) (
     names : Names g src w′ cs v (subjectAt g src v)
     names = mark-names g src w′ n (k .ds) cs (holds-ranked g src w o rs n cs ls k) says-ranked (k .holds .once) v (a .row) (a .even)
 
-    pub mark-item : isItem g src w′ v ≡ not (isSymbol cs (subjectAt g src v))
+    pub mark-item : isItem (length src) w′ v ≡ not (isSymbol cs (subjectAt g src v))
     mark-item = names-item g src w′ cs v (subjectAt g src v) names
 
     pub mark-chars : isSymbol cs (subjectAt g src v) ≡ false → itemChars g src w′ v ≡ charsOf cs (subjectAt g src v)

@@ -73,15 +73,15 @@ module _ (g : Signs) (src w : List ℕ) (levels : ℕ) (f : Subject → ℕ) (v 
   unfolding unweighed
   line-more = refl
 
-  items-more : isItem g src w v ≡ true → itemsOf g src w levels f (v ∷ vs) ≡ itemOf g src w levels f v ∷ itemsOf g src w levels f vs
+  items-more : isItem (length src) w v ≡ true → itemsOf g src w levels f (v ∷ vs) ≡ itemOf g src w levels f v ∷ itemsOf g src w levels f vs
   unfolding itemsOf
   items-more e = rw e
 
-  items-same : isItem g src w v ≡ false → itemsOf g src w levels f (v ∷ vs) ≡ itemsOf g src w levels f vs
+  items-same : isItem (length src) w v ≡ false → itemsOf g src w levels f (v ∷ vs) ≡ itemsOf g src w levels f vs
   unfolding itemsOf
   items-same e = rw e
 
-  weights-more : isItem g src w v ≡ true
+  weights-more : isItem (length src) w v ≡ true
       → weightCount (itemsOf g src w levels f (v ∷ vs)) ≡ countAll (itemRanks g src w v levels f) + weightCount (itemsOf g src w levels f vs)
   unfolding itemOf weightCount
   weights-more e = ap weightCount (items-more e)
@@ -136,7 +136,7 @@ module _ (g : Signs) (src w : List ℕ) (levels first count v left items weights
     weighed-is n ds h = sym (k .ranked n ds h)
 
     module _ {b : Bool} (i : b ≡ (whole && m .ranked)) {a : ℕ} (u : a ≡ (if m .ranked then line else lower line (cell w v lineNumber)))
-        {t : Bool} (j : t ≡ isItem g src w v) {x y : ℕ} (p : y ≡ x) (q : x ≡ cell w v nextNumber) where
+        {t : Bool} (j : t ≡ isItem (length src) w v) {x y : ℕ} (p : y ≡ x) (q : x ≡ cell w v nextNumber) where
       weighed-left : (vs : List ℕ) → Linked w first vs → (n : ℕ) (ds : List Decl) → Holds (keyAt g src) (length src) w n ds
           → every (isWeighed g src w levels (rankIn w ds)) vs ≡ (b && every (isWeighed g src w levels (rankIn w ds)) (here .rest))
       weighed-left vs d n ds h =
@@ -163,7 +163,7 @@ module _ (g : Signs) (src w : List ℕ) (levels first count v left items weights
 
       pub summing-item : {k′ c : ℕ} → t ≡ true → k′ ≡ items + 1 → c ≡ weights + m .weights → Summing g src w levels first count y (left - 1) k′ c b a
       summing-item o e f =
-          let z : isItem g src w v ≡ true = sym j ∙ o in
+          let z : isItem (length src) w v ≡ true = sym j ∙ o in
           record {
             marks = here .rest;
             linked = linked-left;
@@ -195,7 +195,7 @@ module _ (g : Signs) (src w : List ℕ) (levels first count v left items weights
 
       pub summing-other : {k′ c : ℕ} → t ≡ false → k′ ≡ items → c ≡ weights → Summing g src w levels first count y (left - 1) k′ c b a
       summing-other o e f =
-          let z : isItem g src w v ≡ false = sym j ∙ o in
+          let z : isItem (length src) w v ≡ false = sym j ∙ o in
           record {
             marks = here .rest;
             linked = linked-left;

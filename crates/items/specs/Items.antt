@@ -3,18 +3,16 @@
 use mathlib.Core.Path.{_≡_}
 use mathlib.Core.Bool.{Bool, true, false, not, _||_}
 use mathlib.Core.List.{List, [], _∷_}
-use Prim.Native.Nat.{ℕ, _*_, _/_, _≤_}
+use Prim.Native.Nat.{ℕ, _*_, _≤_}
 use lib.ListN.{length}
 use lib.Dec.{eqb, leb}
 use Rattle.lists.proofs.Lists.{All}
 use Rattle.rules.specs.Text.{if_then_else_, every, lower}
-use Rattle.rules.specs.Names.{charShaped}
 use Rattle.rules.specs.Meaning.{Item, item, weightCount}
 use Rattle.rules.specs.State.{Subject}
 use Rattle.lines.specs.declared.Signs.{Signs}
-use Rattle.names.specs.Named.{nameLeft}
 use Rattle.rows.specs.Cells.{cell}
-use Rattle.subjects.specs.Keys.{nameSpot, keyAt}
+use Rattle.subjects.specs.Keys.{keyAt}
 use Rattle.store.specs.Store.{Decl, Holds, Sound, undefinedMark}
 use Rattle.listed.specs.declared.Order.{Order}
 use Rattle.listed.specs.Listed.{charsNumber, lineNumber, Lines}
@@ -26,10 +24,10 @@ use Rattle.items.specs.declared.Sums.the-variants as sums
 
 -- ## Items, f giving the rank of a subject
 
--- The order line of a mark gives an item: that of UNDEFINED, of an element, which has characters, and of a character. A symbol's gives none.
-unfoldable pub isItem : Signs → List ℕ → List ℕ → ℕ → Bool
-isItem g src w v =
-    leb (undefinedMark (length src)) v || not (eqb (cell w v charsNumber) 0) || charShaped (nameLeft g src (nameSpot (v / 2)))
+-- The order line of a mark gives an item: that of UNDEFINED, and one whose row tells the characters of an element or the code of a character. A
+-- symbol's gives none. `mark-item` (Rattle.items.proofs.MeaningLaws) says that these are the paper's items.
+unfoldable pub isItem : ℕ → List ℕ → ℕ → Bool
+isItem len w v = leb (undefinedMark len) v || not (eqb (cell w v charsNumber) 0)
 
 -- its item
 unfoldable pub itemOf : Signs → List ℕ → List ℕ → ℕ → (Subject → ℕ) → ℕ → Item
@@ -40,7 +38,7 @@ unfoldable pub itemsOf : Signs → List ℕ → List ℕ → ℕ → (Subject �
 itemsOf g src w levels f [] = []
 itemsOf g src w levels f (v ∷ vs) =
     let r : List Item = itemsOf g src w levels f vs in
-    if isItem g src w v then itemOf g src w levels f v ∷ r else r
+    if isItem (length src) w v then itemOf g src w levels f v ∷ r else r
 
 -- every weight of a line has a rank
 unfoldable pub isWeighed : Signs → List ℕ → List ℕ → ℕ → (Subject → ℕ) → ℕ → Bool

@@ -4,19 +4,13 @@ ghost use mathlib.Core.Bool.{_&&_};
 ghost use lib.ListN.{length};
 ghost use Prim.Native.Nat.{_+_, _*_, _/_, _≤_};
 ghost use Rattle.rules.specs.Text.{if_then_else_, lower};
-ghost use Rattle.rules.specs.Names.{charShaped};
-ghost use Rattle.names.specs.Named.{nameLeft};
 ghost use Rattle.rows.specs.Cells.{cell};
-ghost use Rattle.subjects.specs.Keys.{nameSpot};
 ghost use Rattle.listed.specs.Listed.{lineNumber};
 ghost use Rattle.writes.specs.Writing.{CharsReady};
 ghost use Rattle.items.specs.Items.{isItem, LinesReady, SumsAre};
 ghost use Rattle.items.specs.Filling.{Fillable, Filled};
 use lines::Signs;
-use lines::Spot;
 use listed::Order;
-use names::Code;
-use names::name_char;
 use ranks::measure_item;
 use rows::told;
 use writes::write_item;
@@ -34,35 +28,18 @@ fn wide(x: u32) -> usize
     x as usize
 }
 
-// Whether the name at a mark is shaped as a character.
-fn is_shaped(src: &[u8], g: Signs, mark: usize) -> bool
-    requires { ⌜ mark / 2 ≤ length (now src) ⌝ }
-    ensures { λ r. ⌜ r ≡ charShaped (nameLeft g (now (src .entry)) (nameSpot (mark / 2))) ⌝ }
-{
-    let p = Spot {
-        at: mark / 2,
-        mode: 1,
-        fresh: false,
-    };
-    let c = name_char(src, g, p);
-    match c {
-        Code::Char(_) => return true,
-        Code::Other => return false,
-    }
-}
-
-// Whether the order line of a mark gives an item: a symbol's gives none.
-pub fn is_item(src: &[u8], g: Signs, work: &[u32], mark: usize) -> bool
+// Whether the order line of a mark gives an item: a symbol's, whose row tells neither characters nor a code, gives none.
+pub fn is_item(src: &[u8], work: &[u32], mark: usize) -> bool
     requires { ⌜ CharsReady (length (now src)) (now work) mark ⌝ }
-    ensures { λ r. ⌜ r ≡ isItem g (now (src .entry)) (now (work .entry)) mark ⌝ }
+    ensures { λ r. ⌜ r ≡ isItem (length (now (src .entry))) (now (work .entry)) mark ⌝ }
 {
     if mark >= 16 * (src.len() / 8 + 1) {
         return true;
     }
-    if told(work, mark, 0) != 0 {
-        return true;
+    if told(work, mark, 0) == 0 {
+        return false; // a symbol's
     }
-    is_shaped(src, g, mark)
+    true
 }
 
 fn both(a: bool, b: bool) -> bool
@@ -117,7 +94,7 @@ pub fn measure_lines(src: &[u8], g: Signs, work: &[u32], o: Order, levels: usize
         let m = measure_item(src, g, work, v, levels);
         whole = both(whole, m.ranked);
         line = least_line(work, v, m.ranked, line);
-        if is_item(src, g, work, v) {
+        if is_item(src, work, v) {
             items += 1;
             weights += m.weights;
         }
@@ -152,7 +129,7 @@ pub fn write_items(
     let mut place = from;
     let mut next = base;
     while 0 < left {
-        if is_item(src, g, work, v) {
+        if is_item(src, work, v) {
             next = write_item(src, g, work, v, levels, area, slot, place, base, next);
             slot += levels;
             place += 4;

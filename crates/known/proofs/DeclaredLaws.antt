@@ -2,10 +2,10 @@
 use mathlib.Core.Path.{_≡_, refl, sym, ap, _∙_, subst}
 use mathlib.Core.Bool.{true, false, _||_}
 use mathlib.Core.List.{List, [], _∷_}
-use Prim.Native.Nat.{ℕ, _≤_}
+use Prim.Native.Nat.{ℕ, _+_, _*_, _≤_}
 use native.Mathlib.Omega.{arith}
 use lib.Dec.{eqb}
-use borrow.Author.Tests.{ne-eqb}
+use borrow.Author.Tests.{ne-eqb, eqb-true}
 use Rattle.lists.proofs.Bools.{by, or-false-left, or-false-right}
 use Rattle.lists.proofs.Lists.{All}
 use Rattle.rules.specs.Text.{oneOf, same}
@@ -103,14 +103,14 @@ module _ (w : List ℕ) (n : List ℕ) where
   known-quotes v key ds cs (characters {c = c} {v = u} {ds = es} {cs = fs} z s) a e l =
       quotes-older v key es fs fs (declaredAt (item (character c)) u) refl (known-quotes v key es fs s (a .1) e l)
 
--- a character has none
+-- the row of a character tells its code
 pub known-character : (w : List ℕ) (c v : ℕ) (ds : List Decl) (cs : List Declaration) → Says w ds cs → first (item (character c)) ds ≡ At v
-    → cell w v charsNumber ≡ 0
+    → cell w v charsNumber ≡ 2 * c + 2
 unfolding sameKey sameSubject first
 known-character w c v ds cs none e = absurd (let z : _≡_ {A = ℕ} 0 1 = cc in omega (arith, z))
 known-character w c v ds cs (symbols {ds = es} {cs = fs} z s) e = known-character w c v es fs s e
 known-character w c v ds cs (elements {ds = es} {cs = fs} z l s) e = known-character w c v es fs s e
 known-character w c v ds cs (characters {c = b} {v = u} {ds = es} {cs = fs} z s) e =
     by (eqb b c)
-    (λ t. let p : At u ≡ At v = rw t at e in let q : u ≡ v = cc in rw (← q) z)
+    (λ t. let p : At u ≡ At v = rw t at e in let q : u ≡ v = cc in rw (← q, ← eqb-true b c t) z)
     (λ t. known-character w c v es fs s (rw t at e))

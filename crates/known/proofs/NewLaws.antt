@@ -4,7 +4,7 @@ use mathlib.Core.Bool.{true, false, false≢true}
 use mathlib.Core.List.{List, [], _∷_, map}
 use Prim.Native.Nat.{ℕ, _+_, _*_, _/_, _≤_, _<_}
 use native.Mathlib.Omega.{arith}
-use lib.ListN.{length, getD}
+use lib.ListN.{length, getD, set, length-set}
 use lib.Dec.{eqb}
 use borrow.Author.Tests.{eq-eqb, eqb-true}
 use Rattle.lists.proofs.Bools.{by}
@@ -13,12 +13,13 @@ use Rattle.rules.specs.Meaning.{Rule}
 use Rattle.rules.specs.State.{Declaration, symbol, character, named, OrderLine}
 use Rattle.lines.specs.declared.Signs.{Signs}
 use Rattle.rows.specs.Cells.{cellAt, cell}
+use Rattle.rows.proofs.CellLaws.{cell-told, cell-other, cell-apart}
 use Rattle.subjects.specs.Keys.{Key, item, chars, keyAt}
 use Rattle.subjects.specs.Numbers.{isDeclarable}
-use Rattle.store.specs.Store.{Decl, first, isPlace, fresh, Declares}
+use Rattle.store.specs.Store.{Decl, first, isPlace, fresh, Holds, Declares}
 use Rattle.store.specs.declared.Found.the-variants.{Nothing}
-use Rattle.store.proofs.AreaLaws.{holds-beyond}
-use Rattle.store.proofs.ListLaws.{isPlace-older, place-within}
+use Rattle.store.proofs.AreaLaws.{holds-beyond, holds-told}
+use Rattle.store.proofs.ListLaws.{isPlace-older, place-below, place-within}
 use Rattle.listed.specs.declared.Order.{Order}
 use Rattle.listed.specs.Listed.{charsNumber}
 use Rattle.known.specs.Known.{declaredAt, Says, none, symbols, elements, characters, lineAt, Known}
@@ -88,23 +89,49 @@ module _ (g : Signs) (src w : List ℕ) (o : Order) (rs : List Rule) (n : ℕ) (
       some = λ u p q. let e = fresh-newer key v (k .ds) u p q in omega (arith, e, some);
     }
 
-    with-more : (cs′ : List Declaration) → Says w′ (fresh key v ∷ k .ds) cs′ → KnownAs g src w′ o rs (v / 16 + 1) cs′ ls (fresh key v ∷ k .ds)
-    with-more cs′ s = known-as g src w o rs n cs ls k w′ (v / 16 + 1) (fresh key v ∷ k .ds) cs′ (d .is n (k .ds) (k .holds) room can new) s grown
-
-    says-before : Says w′ (k .ds) cs
-    says-before = says-on w w′ (k .ds) cs (λ u p. d .five u charsNumber (omega arith)) (k .says)
+    declared : Holds key (length src) w′ (v / 16 + 1) (fresh key v ∷ k .ds)
+    declared = d .is n (k .ds) (k .holds) room can new
 
     pub known-symbol-new : (m : List ℕ) → keyAt g src v ≡ item (named m) → Known g src w′ o rs (v / 16 + 1) (symbol m ∷ cs) ls
     known-symbol-new m e =
-        with-more (symbol m ∷ cs)
+        known-grown g src w o rs n cs ls k w′ (v / 16 + 1) (fresh key v ∷ k .ds) (symbol m ∷ cs) declared
         (subst (λ (x : Key). Says w′ (declaredAt x v ∷ k .ds) (symbol m ∷ cs)) (sym e)
-        (symbols (d .five v charsNumber (omega arith) ∙ k .free v charsNumber room (omega (arith, inside)) (omega arith)) says-before)) .known
+        (symbols (d .five v charsNumber (omega arith) ∙ k .free v charsNumber room (omega (arith, inside)) (omega arith))
+        (says-on w w′ (k .ds) cs (λ u p. d .five u charsNumber (omega arith)) (k .says))))
+        grown
 
-    pub known-character-new : (c : ℕ) → keyAt g src v ≡ item (character c) → KnownAs g src w′ o rs (v / 16 + 1) cs ls (fresh key v ∷ k .ds)
-    known-character-new c e =
-        with-more cs
-        (subst (λ (x : Key). Says w′ (declaredAt x v ∷ k .ds) cs) (sym e)
-        (characters (d .five v charsNumber (omega arith) ∙ k .free v charsNumber room (omega (arith, inside)) (omega arith)) says-before))
+    -- ## A character, whose row tells its code
+
+    module _ (c : ℕ) where
+      abbrev coded : List ℕ
+      coded = set w′ (cellAt v charsNumber) (2 * c + 2)
+
+      pub coded-long : length coded ≡ length w
+      coded-long = length-set w′ (cellAt v charsNumber) (2 * c + 2) ∙ d .long
+
+      -- the other numbers stay
+      pub coded-four : (u j : ℕ) → 1 ≤ j → j < 5 → cell coded u j ≡ cell w u j
+      coded-four u j a b = cell-other w′ v charsNumber u j (2 * c + 2) (omega arith) b (λ e. omega (arith, e, a)) ∙ d .five u j b
+
+      coded-apart : (u : ℕ) → (v / 16 ≡ u / 16 → ⊥) → cell coded u charsNumber ≡ cell w u charsNumber
+      coded-apart u a = cell-apart w′ v charsNumber u charsNumber (2 * c + 2) (omega arith) (omega arith) a ∙ d .five u charsNumber (omega arith)
+
+      pub known-character-new : keyAt g src v ≡ item (character c) → KnownAs g src coded o rs (v / 16 + 1) cs ls (fresh key v ∷ k .ds)
+      known-character-new e =
+          known-as g src w o rs n cs ls k coded (v / 16 + 1) (fresh key v ∷ k .ds) cs
+          (holds-told v charsNumber (2 * c + 2) (omega arith) declared)
+          (subst (λ (x : Key). Says coded (declaredAt x v ∷ k .ds) cs) (sym e)
+          (characters (cell-told w′ v charsNumber (2 * c + 2) (omega arith) (let r = k .holds .roomy .room in let l = d .long in omega (arith, r, l, inside)))
+          (says-on w coded (k .ds) cs (λ u p. coded-apart u (λ i. let b = place-below (k .holds) u p in omega (arith, b, i, room))) (k .says))))
+          (record {
+            long = coded-long;
+            four = λ u j a b h. coded-four u j b h;
+            rest = λ u a b. coded-apart u (λ i. omega (arith, a, i));
+            rows = grown .rows;
+            older = grown .older;
+            newer = grown .newer;
+            some = grown .some;
+          })
 
 -- ## Before the order
 

@@ -3,7 +3,7 @@
 use mathlib.Core.Path.{_≡_}
 use mathlib.Core.Bool.{Bool, true, false, _||_}
 use mathlib.Core.List.{List, [], _∷_, map}
-use Prim.Native.Nat.{ℕ, _/_, _%_, _≤_, _<_}
+use Prim.Native.Nat.{ℕ, _+_, _*_, _/_, _%_, _≤_, _<_}
 use lib.ListN.{length}
 use lib.Dec.{leb, eqb}
 use Rattle.lists.proofs.Lists.{All}
@@ -29,14 +29,15 @@ use Rattle.listed.specs.Listed.{charsNumber, lineNumber, placeNumber, nextNumbe
 abbrev pub declaredAt : Key → ℕ → Decl
 declaredAt k v = record { key = k; place = v }
 
--- What the store holds is what the lines have declared: of an element its name, and then its characters.
+-- What the store holds is what the lines have declared: of an element its name, and then its characters. The first number of a row is 0 for a
+-- symbol, the mark of an element's characters, which is odd, or an even number with the code of a character.
 pub data Says (w : List ℕ) : List Decl → List Declaration → Type 0 where
   none : Says w [] []
   symbols : {n : List ℕ} {v : ℕ} {ds : List Decl} {cs : List Declaration} → cell w v charsNumber ≡ 0 → Says w ds cs
       → Says w (declaredAt (item (named n)) v ∷ ds) (symbol n ∷ cs)
   elements : {n xs : List ℕ} {v q : ℕ} {ds : List Decl} {cs : List Declaration} → cell w v charsNumber ≡ q → 1 ≤ q → Says w ds cs
       → Says w (declaredAt (chars xs) q ∷ declaredAt (item (named n)) v ∷ ds) (element n xs ∷ cs)
-  characters : {c v : ℕ} {ds : List Decl} {cs : List Declaration} → cell w v charsNumber ≡ 0 → Says w ds cs
+  characters : {c v : ℕ} {ds : List Decl} {cs : List Declaration} → cell w v charsNumber ≡ 2 * c + 2 → Says w ds cs
       → Says w (declaredAt (item (character c)) v ∷ ds) cs
 
 -- ## Order lines

@@ -8,7 +8,7 @@ use lib.ListN.{length}
 use borrow.Author.Tests.{eq-eqb, ne-eqb, le-leb, lt-leb}
 use Rattle.lists.proofs.Bools.{by, cond-true, cond-false}
 use Rattle.rules.specs.Text.{if_then_else_}
-use Rattle.rules.specs.Names.{charShaped}
+use Rattle.rules.specs.Names.{charShaped, isCharacter}
 use Rattle.rules.specs.Meaning.{Rule}
 use Rattle.rules.specs.State.{inBlock, Declaration, Subject, character, named, undefined, OrderLine}
 use Rattle.rules.specs.OrderLines.{subjectOf, stands, isSymbol, takenOut}
@@ -28,7 +28,7 @@ use Rattle.store.specs.Store.{Decl, first, isFound, knownIn, undefinedMark, Sou
 use Rattle.store.proofs.ListLaws.{found-within}
 use Rattle.listed.specs.declared.Order.{Order}
 use Rattle.listed.specs.Listed.{charsNumber, placeNumber}
-use Rattle.standing.specs.Standing.{standsIn, Stands}
+use Rattle.standing.specs.Standing.{standsIn}
 use Rattle.known.specs.Known.{Says, markOf, Known}
 use Rattle.known.proofs.DeclaredLaws.{known-declared, none-later, known-symbol}
 use Rattle.known.proofs.RankLaws.{isOrdered, rank-none}
@@ -101,7 +101,7 @@ stands-known w ds cs s (character c) = refl
 stands-known w ds cs s (named n) = known-declared w n ds cs s
 stands-known w ds cs s undefined = refl
 
--- a found name is a symbol where its row has no characters
+-- a found name is a symbol where its row tells nothing
 pub symbol-known : (g : Signs) (src w : List ℕ) (o : Order) (rs : List Rule) (n : ℕ) (cs : List Declaration) (ls : List OrderLine) (k : Known g src w o rs n cs ls)
     (m : List ℕ) (f : Found) → first (item (named m)) (k .ds) ≡ f → isSymbol cs (named m) ≡ isBare w f
 unfolding isSymbol knownIn
@@ -132,34 +132,39 @@ module _ (g : Signs) (src w : List ℕ) (p : Spot) (f : Found) (i : isInside (p 
       → first (item (subjectLeft g src p)) (k .ds) ≡ f
   mark-is o rs n cs ls k = ap (λ (x : Key). first x (k .ds)) (sym (keyAt-inside g src p i)) ∙ sym (d .is n (k .ds) (k .holds))
 
-  module _ {ordered stood : Bool} (l : ordered ≡ isOrdered w f) (t : Stands g src w p stood) where
+  module _ {ordered stood : Bool} (l : ordered ≡ isOrdered w f) where
     facts-with : (symbol : Bool)
         → ((o : Order) (rs : List Rule) (n : ℕ) (cs : List Declaration) (ls : List OrderLine) → Known g src w o rs n cs ls → isSymbol cs (subjectLeft g src p) ≡ symbol)
+        → ((o : Order) (rs : List Rule) (n : ℕ) (cs : List Declaration) (ls : List OrderLine) → Known g src w o rs n cs ls → stands cs (subjectLeft g src p) ≡ stood)
         → FactsOf g src w (subjectLeft g src p) (record { symbol = symbol; ordered = ordered; stands = stood })
-    facts-with symbol y = record {
+    facts-with symbol y t = record {
       are = λ o rs n cs ls k. record {
         symbol = y o rs n cs ls k;
         ordered = rank-none g src w o rs n cs ls k (subjectLeft g src p) f (mark-found (length src) (k .ds) (nameLeft g src p) ∙ mark-is o rs n cs ls k) ∙ ap not (sym l);
         others = others-known g src w o rs n cs ls k (subjectLeft g src p) f (mark-found (length src) (k .ds) (nameLeft g src p) ∙ mark-is o rs n cs ls k)
             ∙ ap (λ (b : Bool). if b then length ls - 1 else length ls) (sym l);
-        stands = sym (stands-known w (k .ds) cs (k .says) (subjectLeft g src p)) ∙ sym (t .is n (k .ds) (k .holds));
+        stands = t o rs n cs ls k;
       };
     }
 
-    pub facts-char : {c : Code} {x : CodePoint} → CodeIs (nameLeft g src p) c → c ≡ Char x → FactsOf g src w (subjectLeft g src p) (record { symbol = false; ordered = ordered; stands = stood })
-    unfolding isSymbol subjectOf
-    facts-char {c} {x} v e =
+    pub facts-char : {c : Code} {x : CodePoint} → CodeIs (nameLeft g src p) c → c ≡ Char x → stood ≡ isCharacter (x .0)
+        → FactsOf g src w (subjectLeft g src p) (record { symbol = false; ordered = ordered; stands = stood })
+    unfolding isSymbol stands subjectOf
+    facts-char {c} {x} v e t =
         let z : CharIs (nameLeft g src p) (x .0) = subst (CodeIs (nameLeft g src p)) e v in
-        facts-with false (λ o rs n cs ls k. rw (z .shaped))
+        facts-with false (λ o rs n cs ls k. rw (z .shaped)) (λ o rs n cs ls k. rw (z .shaped) (sym (t ∙ ap isCharacter (z .code))))
 
-    pub facts-other : {c : Code} {symbol : Bool} → CodeIs (nameLeft g src p) c → c ≡ Other → symbol ≡ isBare w f → FactsOf g src w (subjectLeft g src p) (record { symbol = symbol; ordered = ordered; stands = stood })
-    facts-other {c} {symbol} v e b =
+    pub facts-other : {c : Code} {symbol : Bool} → CodeIs (nameLeft g src p) c → c ≡ Other → symbol ≡ isBare w f → stood ≡ isFound f
+        → FactsOf g src w (subjectLeft g src p) (record { symbol = symbol; ordered = ordered; stands = stood })
+    unfolding stands knownIn
+    facts-other {c} {symbol} v e b t =
         let z : charShaped (nameLeft g src p) ≡ false = subst (CodeIs (nameLeft g src p)) e v in
         let y : subjectLeft g src p ≡ named (nameLeft g src p) = other-named (nameLeft g src p) z in
-        facts-with symbol (λ o rs n cs ls k.
-        ap (isSymbol cs) y
-        ∙ symbol-known g src w o rs n cs ls k (nameLeft g src p) f (ap (λ (x : Subject). first (item x) (k .ds)) (sym y) ∙ mark-is o rs n cs ls k)
-        ∙ sym b)
+        let found : (o : Order) (rs : List Rule) (n : ℕ) (cs : List Declaration) (ls : List OrderLine) (k : Known g src w o rs n cs ls) → first (item (named (nameLeft g src p))) (k .ds) ≡ f =
+        (λ o rs n cs ls k. ap (λ (x : Subject). first (item x) (k .ds)) (sym y) ∙ mark-is o rs n cs ls k) in
+        facts-with symbol
+        (λ o rs n cs ls k. ap (isSymbol cs) y ∙ symbol-known g src w o rs n cs ls k (nameLeft g src p) f (found o rs n cs ls k) ∙ sym b)
+        (λ o rs n cs ls k. ap (stands cs) y ∙ sym (known-declared w (nameLeft g src p) (k .ds) cs (k .says)) ∙ ap isFound (found o rs n cs ls k) ∙ sym t)
 
 -- ## The facts of UNDEFINED
 

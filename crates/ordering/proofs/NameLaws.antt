@@ -4,12 +4,12 @@ use mathlib.Core.Bool.{Bool, true, false≢true}
 use mathlib.Core.List.{List, [], _∷_}
 use Prim.Native.Nat.{ℕ, _+_, _*_, _/_, _%_, _≤_, _<_}
 use native.Mathlib.Omega.{arith}
-use lib.ListN.{length}
-use lib.Dec.{eqb}
-use borrow.Author.Tests.{eqb-true, eqb-false}
+use lib.ListN.{length, set}
+use lib.Dec.{eqb, leb}
+use borrow.Author.Tests.{eqb-true, eqb-false, leb-true}
 use Rattle.lists.proofs.Bools.{by, and-left, and-right, clash}
 use Rattle.rules.specs.Text.{_unless_, lower, every}
-use Rattle.rules.specs.Names.{isHex, charShaped, codeOf}
+use Rattle.rules.specs.Names.{isHex, charShaped, codeOf, isCharacter}
 use Rattle.rules.specs.Lines.{outside, inName}
 use Rattle.rules.specs.Tokens.{tokensRefusal}
 use Rattle.rules.specs.State.{Declaration, Subject, character, Chain, State, gives}
@@ -21,19 +21,24 @@ use Rattle.lines.specs.Stream.{marksLeft, lineStart, Run, Walk}
 use Rattle.tokens.specs.declared.Tok.{Tok}
 use Rattle.tokens.specs.Left.{isInside, tokenThere}
 use Rattle.tokens.proofs.RefusalLaws.{lower-assoc}
-use Rattle.names.specs.Named.{nameLeft}
-use Rattle.rows.specs.Cells.{cell}
-use Rattle.listed.specs.Listed.{placeNumber}
+use Rattle.names.specs.declared.Code.{Code}
+use Rattle.names.specs.declared.Code.the-variants.{Char, Other}
+use Rattle.names.specs.Named.{nameLeft, CodeIs}
+use Rattle.rows.specs.Cells.{cellAt, cell}
+use Rattle.listed.specs.Listed.{charsNumber, placeNumber}
 use Rattle.subjects.specs.Keys.{Key, item, chars, keyAt, subjectLeft}
+use Rattle.subjects.specs.Numbers.{isDeclarable}
 use Rattle.subjects.proofs.KeyLaws.{keyAt-quotes}
+use Rattle.subjects.proofs.NumberLaws.{char-declarable}
 use Rattle.subjects.proofs.SpotLaws.{keyAt-inside}
 use Rattle.store.specs.declared.Found.{Found}
 use Rattle.store.specs.declared.Found.the-variants.{At, Nothing}
-use Rattle.store.specs.Store.{Decl, first, isFound, knownIn, Holds, Finds}
+use Rattle.store.specs.Store.{Decl, first, isFound, knownIn, Holds, Finds, Declares}
+use Rattle.store.proofs.AreaLaws.{other}
 use Rattle.store.proofs.ListLaws.{first-fresh, found-key, found-place}
 use Rattle.known.specs.Known.{Says}
 use Rattle.known.proofs.DeclaredLaws.{known-declared}
-use Rattle.known.proofs.NewLaws.{known-character-new}
+use Rattle.known.proofs.NewLaws.{coded-long, coded-four, known-character-new}
 use Rattle.sheet.specs.declared.Sheet.{Sheet}
 use Rattle.sheet.specs.declared.Step.{Step}
 use Rattle.sheet.specs.Sheets.{Open, SomeOpen, StepIs}
@@ -41,7 +46,7 @@ use Rattle.sheet.specs.Names.{subjectIn, operandsFrom, NameLine}
 use Rattle.sheet.proofs.SheetLaws.{read-whole}
 use Rattle.sheet.proofs.BlockLaws.{mark-older, block-same}
 use Rattle.ordering.specs.declared.Facts.{Facts}
-use Rattle.ordering.specs.Facts.{isAgain, FactsOf, AgainIs, OwnRefused, RowIs, Ready, Lists}
+use Rattle.ordering.specs.Facts.{isAgain, FactsOf, AgainIs, OwnRefused, CodeFits, RowIs, Ready, Lists}
 use Rattle.ordering.specs.Lines.{Reads}
 use Rattle.sheet.proofs.SheetLaws.{spot-behind}
 use Rattle.ordering.proofs.FactLaws.{mark-found, mark-is}
@@ -61,20 +66,23 @@ shaped-long (b ∷ bs) h =
     (λ t. let k = and-right (eqb b 85) _ (and-left _ (every isHex bs) h) in
     let e = eqb-true (length bs) 8 (rw t at k) in omega (arith, e))
 
--- A character: its code, and that its name is so shaped.
-record Shaped (m : List ℕ) : Type 0 where
-  code : ℕ
-  is : subjectOf m ≡ character code
-  shaped : charShaped m ≡ true
-
 -- what stands and is not declared is a character
 stands-alone : (w : List ℕ) (ds : List Decl) (cs : List Declaration) → Says w ds cs → (m : List ℕ) → stands cs (subjectOf m) ≡ true
-    → first (item (subjectOf m)) ds ≡ Nothing → Shaped m
+    → first (item (subjectOf m)) ds ≡ Nothing → charShaped m ≡ true
 unfolding subjectOf stands knownIn
 stands-alone w ds cs s m h e =
     by (charShaped m)
-    (λ t. record { code = codeOf m; is = rw t; shaped = t })
+    (λ t. t)
     (λ t. clash (known-declared w m ds cs s ∙ rw t at h) (ap isFound (rw t at e)))
+
+-- the code of a name that stands can be told
+code-fits : (m : List ℕ) (cs : List Declaration) (c : Code) → CodeIs m c → stands cs (subjectOf m) ≡ true → CodeFits c
+unfolding subjectOf stands
+code-fits m cs (Char x) i h =
+    let k : isCharacter (codeOf m) ≡ true = rw (i .shaped) at h in
+    let l = leb-true (codeOf m) 0x10FFFF (and-left (leb (codeOf m) 0x10FFFF) _ k) in
+    let e = i .code in omega (arith, l, e)
+code-fits m cs Other i h = tt
 
 -- the mark of a name is even
 even-found : (g : Signs) (src w : List ℕ) (n : ℕ) (ds : List Decl) → Holds (keyAt g src) (length src) w n ds → (x : Subject) (u : ℕ)
@@ -172,9 +180,55 @@ module _ (g : Signs) (src : List ℕ) (at : ℕ) (q : Spot) (t : Tok) (e : LineE
     on : at < e .next
     on = l .line .on (l .inside)
 
-    name-placed : (w′ : List ℕ) (m : ℕ) (f : Found) → Finds (keyAt g src) (length src) w (keyAt g src (2 * t .inside .at)) f
-        → RowIs g src w (2 * t .inside .at) w′ m f → Placed g src w sh (subjectIn g src t) at (e .next) w′ m s
-    name-placed w′ m (At u) d h =
+    -- a new row: that of a character
+    char-placed : (c : ℕ) (w₁ : List ℕ) → charShaped (nameLeft g src (t .inside)) ≡ true → c ≡ codeOf (nameLeft g src (t .inside))
+        → Finds (keyAt g src) (length src) w (keyAt g src (2 * t .inside .at)) Nothing → Declares (keyAt g src) (length src) w (2 * t .inside .at) w₁
+        → Placed g src w sh (subjectIn g src t) at (e .next) (set w₁ (cellAt (2 * t .inside .at) charsNumber) (2 * c + 2)) (2 * t .inside .at) s
+    unfolding subjectOf stands
+    char-placed c w₁ shaped code d h =
+        let v = 2 * t .inside .at in
+        let x = subjectIn g src t in
+        let k = o .known in
+        let w′ = set w₁ (cellAt v charsNumber) (2 * c + 2) in
+        let i = mark-is g src w (t .inside) Nothing name-inside d (sh .order) (s .ordered .rules) (o .n) (s .declared) (s .ordered .lines) k in
+        let key : keyAt g src v ≡ item x = keyAt-inside g src (t .inside) name-inside in
+        let a = name-after in
+        let b = rows-at in
+        let z = name-to in
+        let room : o .n ≤ v / 16 = omega (arith, a, b) in
+        let below : v / 2 ≤ length src = omega (arith, z) in
+        let new : first (keyAt g src v) (k .ds) ≡ Nothing = ap (λ (j : Key). first j (k .ds)) key ∙ i in
+        let some : 1 ≤ v = omega (arith, a) in
+        let is : x ≡ character c = (rw shaped (ap character (sym code))) in
+        let stood : isCharacter c ≡ true = sym (ap (stands (s .declared)) is) ∙ y .stood in
+        let can : isDeclarable (keyAt g src v) ≡ true = ap isDeclarable (key ∙ ap item is) ∙ char-declarable c stood in
+        let more = known-character-new g src w (sh .order) (s .ordered .rules) (o .n) (s .declared) (s .ordered .lines) k v w₁ h room below can new some c (key ∙ ap item is) in
+        let four : (u j : ℕ) → 1 ≤ j → j < 5 → cell w′ u j ≡ cell w u j = coded-four g src w (sh .order) (s .ordered .rules) (o .n) (s .declared) (s .ordered .lines) k v w₁ h room below can new some c in
+        let same : (u j : ℕ) → u / 16 ≤ length src / 8 + 1 → 1 ≤ j → j < 5 → cell w′ u j ≡ cell w u j = λ u j a b c. four u j b c in
+        let found : first (keyAt g src v) (more .known .ds) ≡ At v = ap (first (keyAt g src v)) (more .same) ∙ first-fresh (keyAt g src) v (k .ds) in
+        record {
+          n = v / 16 + 1;
+          known = more .known;
+          mark = mark-found (length src) (more .known .ds) (nameLeft g src (t .inside)) ∙ ap (λ (j : Key). first j (more .known .ds)) (sym key) ∙ found;
+          even = omega arith;
+          some = some;
+          long = coded-long g src w (sh .order) (s .ordered .rules) (o .n) (s .declared) (s .ordered .lines) k v w₁ h room below can new some c;
+          beyond = λ j n. other w₁ (cellAt v charsNumber) j (2 * c + 2) (λ q. omega (arith, q, n, below)) ∙ h .beyond j (omega (arith, n));
+          rows = λ n. let p = name-far n in let q = l .token .long-name (l .name) in let r = shaped-long (nameLeft g src (t .inside)) shaped in omega (arith, p, q, r);
+          places = λ u j.
+              let was = mark-older g src w w′ (sh .order) (s .ordered .rules) (s .ordered .rules) (o .n) (v / 16 + 1) (s .declared) (s .declared) (s .ordered .lines) (s .ordered .lines) k (more .known) same u j in
+              let a = o .places u was in
+              let f = four u placeNumber (omega arith) (omega arith) in
+              omega (arith, a, f);
+          block = λ p.
+              block-same g src w w′ (sh .order) (s .ordered .rules) (s .ordered .rules) (o .n) (v / 16 + 1) (s .declared) (s .declared) (s .ordered .lines) (s .ordered .lines) k (more .known) same
+              (sh .block) (s .ordered .block) (o .block p);
+        }
+
+    name-placed : (w′ : List ℕ) (m : ℕ) (c : Code) (f : Found) → CodeIs (nameLeft g src (t .inside)) c
+        → Finds (keyAt g src) (length src) w (keyAt g src (2 * t .inside .at)) f
+        → RowIs g src w (2 * t .inside .at) c w′ m f → Placed g src w sh (subjectIn g src t) at (e .next) w′ m s
+    name-placed w′ m c (At u) i d h =
         let x = subjectIn g src t in
         let k = o .known in
         let i = mark-is g src w (t .inside) (At u) name-inside d (sh .order) (s .ordered .rules) (o .n) (s .declared) (s .ordered .lines) k in
@@ -191,49 +245,27 @@ module _ (g : Signs) (src : List ℕ) (at : ℕ) (q : Spot) (t : Tok) (e : LineE
           places = o .places;
           block = o .block;
         }))
-    name-placed w′ m Nothing d h =
-        let v = 2 * t .inside .at in
-        let x = subjectIn g src t in
+    name-placed w′ m Other Nothing i d h =
         let k = o .known in
-        let i = mark-is g src w (t .inside) Nothing name-inside d (sh .order) (s .ordered .rules) (o .n) (s .declared) (s .ordered .lines) k in
-        let z = stands-alone w (k .ds) (s .declared) (k .says) (nameLeft g src (t .inside)) (y .stood) i in
-        let key : keyAt g src v ≡ item x = keyAt-inside g src (t .inside) name-inside in
-        let a = name-after in
-        let b = rows-at in
-        let c = name-to in
-        let room : o .n ≤ v / 16 = omega (arith, a, b) in
-        let below : v / 2 ≤ length src = omega (arith, c) in
-        let new : first (keyAt g src v) (k .ds) ≡ Nothing = ap (λ (j : Key). first j (k .ds)) key ∙ i in
-        let some : 1 ≤ v = omega (arith, a) in
-        let char : keyAt g src v ≡ item (character (z .code)) = key ∙ ap item (z .is) in
-        let more = known-character-new g src w (sh .order) (s .ordered .rules) (o .n) (s .declared) (s .ordered .lines) k v w′ (h .1) room below new some (z .code) char in
-        let same : (u j : ℕ) → u / 16 ≤ length src / 8 + 1 → 1 ≤ j → j < 5 → cell w′ u j ≡ cell w u j = λ u j a b c. h .1 .five u j c in
-        let found : first (keyAt g src v) (more .known .ds) ≡ At v = ap (first (keyAt g src v)) (more .same) ∙ first-fresh (keyAt g src) v (k .ds) in
-        subst (λ (j : ℕ). Placed g src w sh x at (e .next) w′ j s) (sym (h .0)) (record {
-          n = v / 16 + 1;
-          known = more .known;
-          mark = mark-found (length src) (more .known .ds) (nameLeft g src (t .inside)) ∙ ap (λ (j : Key). first j (more .known .ds)) (sym key) ∙ found;
-          even = omega arith;
-          some = some;
-          long = h .1 .long;
-          beyond = λ j n. h .1 .beyond j (omega (arith, n));
-          rows = λ n. let p = name-far n in let q = l .token .long-name (l .name) in let r = shaped-long (nameLeft g src (t .inside)) (z .shaped) in omega (arith, p, q, r);
-          places = λ u j.
-              let was = mark-older g src w w′ (sh .order) (s .ordered .rules) (s .ordered .rules) (o .n) (v / 16 + 1) (s .declared) (s .declared) (s .ordered .lines) (s .ordered .lines) k (more .known) same u j in
-              let a = o .places u was in
-              let f = h .1 .five u placeNumber (omega arith) in
-              omega (arith, a, f);
-          block = λ p.
-              block-same g src w w′ (sh .order) (s .ordered .rules) (s .ordered .rules) (o .n) (v / 16 + 1) (s .declared) (s .declared) (s .ordered .lines) (s .ordered .lines) k (more .known) same
-              (sh .block) (s .ordered .block) (o .block p);
-        })
+        let f = mark-is g src w (t .inside) Nothing name-inside d (sh .order) (s .ordered .rules) (o .n) (s .declared) (s .ordered .lines) k in
+        clash (stands-alone w (k .ds) (s .declared) (k .says) (nameLeft g src (t .inside)) (y .stood) f) i
+    name-placed w′ m (Char x) Nothing i d h =
+        subst (λ (z : List ℕ). Placed g src w sh (subjectIn g src t) at (e .next) z m s) (sym (h .1 .told))
+        (subst (λ (z : ℕ). Placed g src w sh (subjectIn g src t) at (e .next) (set (h .1 .area) (cellAt (2 * t .inside .at) charsNumber) (2 * x .0 + 2)) z s) (sym (h .0))
+        (char-placed (x .0) (h .1 .area) (i .shaped) (i .code) d (h .1 .declares)))
 
   -- ## The step
 
+  pub name-fits : (w : List ℕ) (sh : Sheet) (number depth : ℕ) → SomeOpen g src w sh at depth → (c : Code) → CodeIs (nameLeft g src (t .inside)) c
+      → (r : ℕ) → Reads g src w sh at number (subjectIn g src t) (t .next) r → r ≡ 0 → CodeFits c
+  name-fits w sh number depth so c i r v z =
+      code-fits (nameLeft g src (t .inside)) (so .state .declared) c i (line-taken v z (so .chains) (so .state) (so .held) .stood)
+
   module _ (w : List ℕ) (sh : Sheet) (number depth : ℕ) (so : SomeOpen g src w sh at depth) (f : Found) (d : Finds (keyAt g src) (length src) w (keyAt g src (2 * t .inside .at)) f)
-      (r : ℕ) (v : Reads g src w sh at number (subjectIn g src t) (t .next) r) (z : r ≡ 0) (w′ : List ℕ) (m : ℕ) (h : RowIs g src w (2 * t .inside .at) w′ m f) where
+      (c : Code) (i : CodeIs (nameLeft g src (t .inside)) c) (r : ℕ) (v : Reads g src w sh at number (subjectIn g src t) (t .next) r) (z : r ≡ 0)
+      (w′ : List ℕ) (m : ℕ) (h : RowIs g src w (2 * t .inside .at) c w′ m f) where
     there : (cs : List Chain) (s : State) → Open g src w sh cs at s → Placed g src w sh (subjectIn g src t) at (e .next) w′ m s
-    there cs s o = name-placed w sh number cs s o (line-taken v z cs s o) w′ m f d h
+    there cs s o = name-placed w sh number cs s o (line-taken v z cs s o) w′ m c f i d h
 
     pub name-ready : number ≤ at + 1 → Ready w′ sh m number (t .next .at)
     name-ready i =

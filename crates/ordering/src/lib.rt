@@ -10,13 +10,14 @@ ghost use Rattle.rules.specs.Lines.{outside};
 ghost use Rattle.rules.specs.Tokens.{operands};
 ghost use Rattle.rules.specs.State.{inOrder, inBlock, undefined};
 ghost use Rattle.tokens.specs.Left.{tokensLeft, isInside};
+ghost use Rattle.names.specs.Named.{nameLeft, CodeIs};
 ghost use Rattle.subjects.specs.Keys.{keyAt, subjectLeft};
 ghost use Rattle.store.specs.declared.Found.the-variants.{At};
-ghost use Rattle.store.specs.Store.{undefinedMark, Finds, Roomy};
+ghost use Rattle.store.specs.Store.{isFound, undefinedMark, Finds, Roomy};
 ghost use Rattle.known.proofs.RankLaws.{isOrdered};
 ghost use Rattle.sheet.specs.Names.{subjectIn, NameLine};
 ghost use Rattle.sheet.specs.Sheets.{SomeOpen, StepIs};
-ghost use Rattle.ordering.specs.Facts.{Rowed, isBare, isOwn, isAgain, FactsOf, undefinedFacts, SomeKnown, OwnRefused, RowIs, withLast, Ready, LastIs, NewIs, MovedIs, Lists};
+ghost use Rattle.ordering.specs.Facts.{Rowed, isBare, isOwn, isAgain, FactsOf, undefinedFacts, SomeKnown, OwnRefused, CodeFits, CodeTold, RowIs, withLast, Ready, LastIs, NewIs, MovedIs, Lists};
 ghost use Rattle.sheet.specs.Words.{WordLine};
 ghost use Rattle.ordering.specs.Lines.{Reads};
 use lines::LineEnd;
@@ -30,17 +31,18 @@ use names::Code;
 use names::name_char;
 use opening::refusal_with;
 use operands::no_operand;
+use rows::tell;
 use rows::told;
 use sheet::Block;
 use sheet::Sheet;
 use sheet::Step;
-use standing::stands_at;
 use standing::weights_refusal;
 use store::Found;
 use store::declare;
 use store::find;
 use tokens::Tok;
 use tokens::lower_of;
+use units::is_character;
 
 // What is told of a subject: it is a symbol, it has an order line, it stands (it is a character, or declared).
 pub struct Facts {
@@ -49,7 +51,7 @@ pub struct Facts {
     pub stands: bool,
 }
 
-// Whether something is found that has no characters.
+// Whether something is found whose row tells neither characters nor a code.
 fn is_bare(work: &[u32], f: Found) -> bool
     requires { ⌜ Rowed (now work) f ⌝ }
     ensures { λ r. ⌜ r ≡ isBare (now (work .entry)) f ⌝ }
@@ -113,17 +115,25 @@ fn is_again(work: &[u32], sh: Sheet, f: Found) -> bool
     is_listed(work, f)
 }
 
-// What is told of the name at a spot, where f is found for it.
-fn name_facts(src: &[u8], g: Signs, work: &[u32], p: Spot, f: Found) -> Facts
-    requires { ⌜ (p .at ≤ length (now src)) × (isInside (p .mode) ≡ true) ⌝ }
+fn is_found(f: Found) -> bool
+    ensures { λ r. ⌜ r ≡ isFound f ⌝ }
+{
+    match f {
+        Found::At(_) => return true,
+        Found::Nothing => return false,
+    }
+}
+
+// What is told of the name at a spot, where f is found for it and c is its code.
+fn name_facts(src: &[u8], g: Signs, work: &[u32], p: Spot, f: Found, c: Code) -> Facts
+    requires { ⌜ (isInside (p .mode) ≡ true) × CodeIs (nameLeft g (now src) p) c ⌝ }
     requires { ⌜ SomeKnown g (now src) (now work) × Finds (keyAt g (now src)) (length (now src)) (now work) (keyAt g (now src) (2 * p .at)) f ⌝ }
     ensures { λ r. ⌜ FactsOf g (now (src .entry)) (now (work .entry)) (subjectLeft g (now (src .entry)) p) r ⌝ }
 {
     let ordered = is_listed(work, f);
-    let stands = stands_at(src, g, work, p);
-    let c = name_char(src, g, p);
     match c {
-        Code::Char(_) => {
+        Code::Char(x) => {
+            let stands = is_character(x);
             return Facts {
                 symbol: false,
                 ordered: ordered,
@@ -132,6 +142,7 @@ fn name_facts(src: &[u8], g: Signs, work: &[u32], p: Spot, f: Found) -> Facts
         }
         Code::Other => {
             let symbol = is_bare(work, f);
+            let stands = is_found(f);
             return Facts {
                 symbol: symbol,
                 ordered: ordered,
@@ -218,15 +229,30 @@ fn own_refusal(src: &[u8], g: Signs, work: &[u32], sh: Sheet, p: Spot, k: Facts,
     3
 }
 
-// A row for what stands at a mark, where f is found for it: that of f, or a new one.
-fn row_for(src: &[u8], g: Signs, work: &mut [u32], v: usize, f: Found) -> usize
-    requires { ⌜ (v / 2 ≤ length (now src)) × Roomy (length (now src)) (now work) ⌝ }
-    ensures { λ m. ⌜ RowIs g (now (src .entry)) (now (work .entry)) v (now (work .exit)) m f ⌝ }
+// The row of a mark tells the code of a character: twice the code and 2, so that it is even and never 0.
+fn tell_code(work: &mut [u32], v: usize, c: Code)
+    requires { ⌜ CodeFits c × (8 * (v / 16) + 8 ≤ length (now work)) ⌝ }
+    ensures { λ _. ⌜ CodeTold (now (work .entry)) v c (now (work .exit)) ⌝ }
+{
+    match c {
+        Code::Char(x) => {
+            tell(work, v, 0, 2 * x.0 + 2);
+            return;
+        }
+        Code::Other => return,
+    }
+}
+
+// A row for what stands at a mark, where f is found for it and c is its code: that of f, or a new one, which tells the code.
+fn row_for(src: &[u8], g: Signs, work: &mut [u32], v: usize, f: Found, c: Code) -> usize
+    requires { ⌜ (v / 2 ≤ length (now src)) × Roomy (length (now src)) (now work) × CodeFits c ⌝ }
+    ensures { λ m. ⌜ RowIs g (now (src .entry)) (now (work .entry)) v c (now (work .exit)) m f ⌝ }
 {
     match f {
         Found::At(u) => return u,
         Found::Nothing => {
             declare(src, g, work, v);
+            tell_code(work, v, c);
             return v;
         }
     }
@@ -314,7 +340,7 @@ fn list_line(work: &mut [u32], sh: Sheet, m: usize, number: usize, place: usize,
     list_last(work, sh, m, number, place, e)
 }
 
-// The refusal of a line that opens with the name t, for which f is found.
+// The refusal of a line that opens with the name t, for which f is found and whose code is c.
 fn name_refusal(
     src: &[u8],
     g: Signs,
@@ -327,12 +353,13 @@ fn name_refusal(
     t: Tok,
     e: LineEnd,
     f: Found,
+    c: Code,
 ) -> u8
     requires { ⌜ SomeOpen g (now src) (now work) sh at depth × NameLine g (now src) at q t e ⌝ }
-    requires { ⌜ Finds (keyAt g (now src)) (length (now src)) (now work) (keyAt g (now src) (2 * t .inside .at)) f ⌝ }
+    requires { ⌜ Finds (keyAt g (now src)) (length (now src)) (now work) (keyAt g (now src) (2 * t .inside .at)) f × CodeIs (nameLeft g (now src) (t .inside)) c ⌝ }
     ensures { λ r. ⌜ Reads g (now (src .entry)) (now (work .entry)) sh at number (subjectIn g (now (src .entry)) t) (t .next) r ⌝ }
 {
-    let k = name_facts(src, g, work, t.inside, f);
+    let k = name_facts(src, g, work, t.inside, f, c);
     let again = is_again(work, sh, f);
     let o = own_refusal(src, g, work, sh, t.next, k, again);
     let l = lower_of(t.refusal, o);
@@ -357,9 +384,10 @@ pub fn name_line(
 {
     let v = 2 * t.inside.at;
     let f = find(src, g, work, v);
-    let r = name_refusal(src, g, work, sh, at, number, depth, q, t, e, f);
+    let c = name_char(src, g, t.inside);
+    let r = name_refusal(src, g, work, sh, at, number, depth, q, t, e, f, c);
     if r == 0 {
-        let m = row_for(src, g, work, v, f);
+        let m = row_for(src, g, work, v, f, c);
         return list_line(work, sh, m, number, t.next.at, e);
     }
     Step::Refused(r)

@@ -70,7 +70,7 @@ unfolding itemsOf itemOf itemRanks ranksAt
 items-levelled g src w levels f [] = tt
 items-levelled g src w levels f (v ∷ vs) =
     let r : All (Levelled levels) (itemsOf g src w levels f vs) = items-levelled g src w levels f vs in
-    cond-both (All (Levelled levels)) (isItem g src w v)
+    cond-both (All (Levelled levels)) (isItem (length src) w v)
     (levelRanks-length f (cell w v rankNumber) levels (operandList (lineOperands g src (cell w v placeNumber))), r) r
 
 -- the supplied item's weights, one at each level

@@ -1,7 +1,7 @@
 -- The characters of an item, and the whole item.
 use mathlib.Core.Path.{_≡_, refl, sym, ap, _∙_, subst}
 use mathlib.Core.List.{List, [], _∷_, flatten}
-use Prim.Native.Nat.{ℕ, suc, _+_, _-_, _*_, _/_, _≤_, _<_}
+use Prim.Native.Nat.{ℕ, suc, _+_, _-_, _*_, _/_, _%_, _≤_, _<_}
 use native.Mathlib.Numerals.{add-one, add-two}
 use native.Mathlib.Omega.{arith}
 use lib.ListN.{length, getD, set, drop}
@@ -11,18 +11,17 @@ use Rattle.rules.specs.Lines.{quoted}
 use Rattle.rules.specs.Table.{pad, padded, sums, counts}
 use Rattle.lines.specs.declared.Signs.{Signs}
 use Rattle.lines.specs.declared.Spot.{Spot}
-use Rattle.names.specs.Named.{nameLeft}
 use Rattle.rows.specs.Cells.{cell}
 use Rattle.listed.specs.Listed.{charsNumber, placeNumber, rankNumber}
 use Rattle.units.specs.declared.CodePoint.{CodePoint}
 use Rattle.subjects.specs.declared.NextChar.{NextChar}
 use Rattle.subjects.specs.declared.NextChar.the-variants.{Char, End}
-use Rattle.subjects.specs.Keys.{nameSpot, quoteSpot, charOf, charsLeft, keyAt, CharNext, NextIs}
+use Rattle.subjects.specs.Keys.{quoteSpot, charsLeft, keyAt, CharNext, NextIs}
 use Rattle.store.specs.Store.{undefinedMark, Sound}
 use Rattle.ranks.specs.Ranks.{rankIn}
 use Rattle.ranks.specs.Reading.{ranksAt, itemRanks}
 use Rattle.writes.specs.declared.Coded.{Coded}
-use Rattle.writes.specs.Writing.{CodeIs, itemChars, CharsReady, LineRoom, LinePut, ItemRoom, ItemPut}
+use Rattle.writes.specs.Writing.{CodeIs, itemChars, CharsReady, HasChars, LineRoom, LinePut, ItemRoom, ItemPut}
 
 -- ## Four characters
 
@@ -69,30 +68,37 @@ module _ (g : Signs) (src w : List ℕ) (mark : ℕ) (area : List ℕ) {after : 
   unfolding itemChars
   chars-undefined h e = e ∙ rw (le-leb (undefinedMark (length src)) mark h)
 
-  module _ (h : mark < undefinedMark (length src)) {q x : ℕ} (j : q ≡ x) (i : x ≡ cell w mark charsNumber) where
-    pub chars-character : {c : ℕ} → q ≡ 0 → c ≡ charOf (nameLeft g src (nameSpot (mark / 2)))
+  module _ (h : mark < undefinedMark (length src)) {x : ℕ} (i : x ≡ cell w mark charsNumber) where
+    pub chars-character : {c : ℕ} → x % 2 ≡ 0 → c ≡ (x - 2) / 2
         → after ≡ sets area at (c ∷ 0x110000 ∷ 0x110000 ∷ 0x110000 ∷ []) → after ≡ sets area at (padded (itemChars g src w mark) [])
     unfolding itemChars
-    chars-character z k e = e ∙ rw (lt-leb (undefinedMark (length src)) mark h, eq-eqb (cell w mark charsNumber) 0 (sym (j ∙ i) ∙ z), k)
+    chars-character z k e =
+        e ∙ rw (lt-leb (undefinedMark (length src)) mark h, eq-eqb (cell w mark charsNumber % 2) 0 (ap (λ (y : ℕ). y % 2) (sym i) ∙ z), k, i)
 
-    pub chars-element : (q ≡ 0 → ⊥) → after ≡ sets area at (padded (charsLeft g src (quoteSpot (q / 2))) [])
+    pub chars-element : {q : ℕ} → (x % 2 ≡ 0 → ⊥) → q ≡ x → after ≡ sets area at (padded (charsLeft g src (quoteSpot (q / 2))) [])
         → after ≡ sets area at (padded (itemChars g src w mark) [])
     unfolding itemChars
-    chars-element n e = e ∙ rw (lt-leb (undefinedMark (length src)) mark h, ne-eqb (cell w mark charsNumber) 0 (λ z. n (j ∙ i ∙ z)), j ∙ i)
+    chars-element n j e =
+        e ∙ rw (lt-leb (undefinedMark (length src)) mark h, ne-eqb (cell w mark charsNumber % 2) 0 (λ z. n (ap (λ (y : ℕ). y % 2) i ∙ z)), j ∙ i)
+
+-- an even number that is not 0
+pub even-some : (x : ℕ) → 1 ≤ x → x % 2 ≡ 0 → 2 ≤ x
+even-some x h e = omega (arith, h, e)
 
 module _ (len : ℕ) (w : List ℕ) (mark : ℕ) (r : CharsReady len w mark) where
   pub chars-small : 16 * (len / 8 + 1) < 4294967296
   chars-small = omega (arith, r .roomy .few)
 
   module _ (h : mark < 16 * (len / 8 + 1)) where
-    pub chars-name : mark / 2 ≤ len
-    chars-name = r .name h
-
     pub chars-row : 8 * (mark / 16) + 8 ≤ length w
     chars-row = omega (arith, r .roomy .room, r .name h)
 
-    pub chars-quotes : {q x : ℕ} → q ≡ x → x ≡ cell w mark charsNumber → q / 2 ≤ len
-    chars-quotes {q} j i = let e : q ≡ cell w mark charsNumber = j ∙ i in rw e (r .quotes h)
+    pub chars-quotes : {q x : ℕ} → q ≡ x → x ≡ cell w mark charsNumber → (x % 2 ≡ 0 → ⊥) → q / 2 ≤ len
+    chars-quotes {q} j i n = let e : q ≡ cell w mark charsNumber = j ∙ i in rw e (r .quotes h (λ z. n (ap (λ (y : ℕ). y % 2) i ∙ z)))
+
+    -- a row that tells a character's code, or the mark of quotes
+    pub chars-some : HasChars len w mark → {x : ℕ} → x ≡ cell w mark charsNumber → 1 ≤ x
+    chars-some c i = let k = c .told h in omega (arith, k, i)
 
 -- ## The whole item
 

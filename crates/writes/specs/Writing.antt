@@ -1,7 +1,7 @@
 -- What stands in a table's area after one item was written.
 use mathlib.Core.Path.{_≡_}
 use mathlib.Core.List.{List, [], _∷_, flatten}
-use Prim.Native.Nat.{ℕ, _+_, _-_, _/_, _≤_, _<_}
+use Prim.Native.Nat.{ℕ, _+_, _-_, _/_, _%_, _≤_, _<_}
 use lib.ListN.{length, getD, set, drop}
 use lib.Seq.{sets}
 use lib.Dec.{eqb, leb}
@@ -14,10 +14,9 @@ use Rattle.lines.specs.declared.Signs.{Signs}
 use Rattle.lines.specs.declared.Spot.{Spot}
 use Rattle.lines.specs.Stream.{marksLeft}
 use Rattle.tokens.specs.Left.{namesIn}
-use Rattle.names.specs.Named.{nameLeft}
 use Rattle.rows.specs.Cells.{cell}
 use Rattle.listed.specs.Listed.{charsNumber}
-use Rattle.subjects.specs.Keys.{nameSpot, quoteSpot, charOf, charsLeft, keyAt}
+use Rattle.subjects.specs.Keys.{quoteSpot, charsLeft, keyAt}
 use Rattle.store.specs.Store.{Decl, undefinedMark, Roomy, Holds}
 use Rattle.ranks.specs.declared.Part.{Part}
 use Rattle.ranks.specs.declared.Part.the-variants as part
@@ -71,18 +70,22 @@ pub record LinePut (g : Signs) (src w : List ℕ) (place levels own : ℕ) (area
 
 -- ## Characters
 
--- the characters of the item whose order line is at a mark: an element's stand in quotes
+-- the characters of the item whose order line is at a mark: its row tells twice a character's code and 2, or the mark of quotes, which is odd
 unfoldable pub itemChars : Signs → List ℕ → List ℕ → ℕ → List ℕ
 itemChars g src w mark =
     if leb (undefinedMark (length src)) mark then []
-    else if eqb (cell w mark charsNumber) 0 then charOf (nameLeft g src (nameSpot (mark / 2))) ∷ []
+    else if eqb (cell w mark charsNumber % 2) 0 then ((cell w mark charsNumber - 2) / 2) ∷ []
     else charsLeft g src (quoteSpot (cell w mark charsNumber / 2))
 
 -- What the mark and its row name stands in the source.
 pub record CharsReady (len : ℕ) (w : List ℕ) (mark : ℕ) : Type 0 where
   pub roomy : Roomy len w
   pub name : mark < undefinedMark len → mark / 2 ≤ len
-  pub quotes : mark < undefinedMark len → cell w mark charsNumber / 2 ≤ len
+  pub quotes : mark < undefinedMark len → (cell w mark charsNumber % 2 ≡ 0 → ⊥) → cell w mark charsNumber / 2 ≤ len
+
+-- It has characters, or is UNDEFINED: it is no symbol.
+pub record HasChars (len : ℕ) (w : List ℕ) (mark : ℕ) : Type 0 where
+  pub told : mark < undefinedMark len → 1 ≤ cell w mark charsNumber
 
 -- The first of the characters still to come in quotes, or padding, and the spot before the others.
 pub record CodeIs (g : Signs) (src : List ℕ) (p : Spot) (r : Coded) : Type 0 where

@@ -1,7 +1,7 @@
 // One item of a table, written from its order line: its characters, where its weights end at each level, and the weights, read again from the source.
 ghost use mathlib.Core.Path.{_≡_};
 ghost use mathlib.Core.List.{[], _∷_};
-ghost use Prim.Native.Nat.{_+_, _*_, _/_, _≤_, _<_};
+ghost use Prim.Native.Nat.{_+_, _-_, _*_, _/_, _%_, _≤_, _<_};
 ghost use lib.ListN.{length};
 ghost use lib.Seq.{sets};
 ghost use Rattle.rules.specs.Lines.{quoted};
@@ -9,7 +9,7 @@ ghost use Rattle.rules.specs.Table.{padded};
 ghost use Rattle.subjects.specs.Keys.{charsLeft, keyAt};
 ghost use Rattle.store.specs.Store.{Sound};
 ghost use Rattle.ranks.specs.Reading.{quoteRanks, InQuotes, partRanks, PartFits, Readable, RowReady};
-ghost use Rattle.writes.specs.Writing.{Puts, RanksPut, quoteSize, partSize, LevelPut, LineRoom, LinePut, CodeIs, itemChars, CharsReady, ItemRoom, ItemPut};
+ghost use Rattle.writes.specs.Writing.{Puts, RanksPut, quoteSize, partSize, LevelPut, LineRoom, LinePut, CodeIs, itemChars, CharsReady, HasChars, ItemRoom, ItemPut};
 use lines::Signs;
 use lines::Spot;
 use ranks::NextRank;
@@ -20,7 +20,6 @@ use ranks::next_rank;
 use ranks::rank_at;
 use rows::told;
 use subjects::NextChar;
-use subjects::char_at;
 use subjects::next_char;
 use units::CodePoint;
 use units::Rank;
@@ -203,9 +202,17 @@ fn wide(x: u32) -> usize
     x as usize
 }
 
-// The four numbers of an item's characters, of the order line of a mark.
+// The code that an even number of a row tells: it is twice the code and 2.
+fn code_told(x: u32) -> CodePoint
+    requires { ⌜ (1 ≤ x) × (x % 2 ≡ 0) ⌝ }
+    ensures { λ r. ⌜ r .0 ≡ (x - 2) / 2 ⌝ }
+{
+    CodePoint((x - 2) / 2)
+}
+
+// The four numbers of an item's characters, of the order line of a mark: its row tells a character's code, or where an element's quotes stand.
 pub fn write_chars(src: &[u8], g: Signs, work: &[u32], mark: usize, area: &mut [u32], at: usize)
-    requires { ⌜ CharsReady (length (now src)) (now work) mark ⌝ }
+    requires { ⌜ CharsReady (length (now src)) (now work) mark × HasChars (length (now src)) (now work) mark ⌝ }
     requires { ⌜ at + 4 ≤ length (now area) ⌝ }
     ensures { λ _. ⌜ now (area .exit) ≡ sets (now (area .entry)) at (padded (itemChars g (now (src .entry)) (now (work .entry)) mark) []) ⌝ }
 {
@@ -214,19 +221,14 @@ pub fn write_chars(src: &[u8], g: Signs, work: &[u32], mark: usize, area: &mut [
         put_four(area, at, none, none, none, none);
         return;
     }
-    let q = wide(told(work, mark, 0));
-    if q == 0 {
-        let p = Spot {
-            at: mark / 2,
-            mode: 1,
-            fresh: false,
-        };
-        let c = char_at(src, g, p);
+    let x = told(work, mark, 0);
+    if x % 2 == 0 {
+        let c = code_told(x);
         put_four(area, at, c, none, none, none);
         return;
     }
     let p = Spot {
-        at: q / 2,
+        at: wide(x) / 2,
         mode: 2,
         fresh: false,
     };
@@ -247,7 +249,7 @@ pub fn write_item(
     base: usize,
     at: usize,
 ) -> usize
-    requires { ⌜ CharsReady (length (now src)) (now work) mark × RowReady g (now src) (now work) mark levels ⌝ }
+    requires { ⌜ CharsReady (length (now src)) (now work) mark × HasChars (length (now src)) (now work) mark × RowReady g (now src) (now work) mark levels ⌝ }
     requires { ⌜ Sound (keyAt g (now src)) (length (now src)) (now work) ⌝ }
     requires { ⌜ ItemRoom g (now src) (now work) mark levels (now area) slots from base at ⌝ }
     ensures { λ r. ⌜ ItemPut g (now (src .entry)) (now (work .entry)) mark levels (now (area .entry)) slots from base at (now (area .exit)) r ⌝ }

@@ -1,6 +1,6 @@
--- `items::is_item` meets its contract, for UNDEFINED, an element, and a character or a symbol.
-use Rattle.writes.proofs.ItemLaws.{chars-small, chars-row, chars-name}
-use Rattle.items.proofs.LineLaws.{item-undefined, item-element, item-named}
+-- `items::is_item` meets its contract, for UNDEFINED, a symbol, and an element or a character.
+use Rattle.writes.proofs.ItemLaws.{chars-small, chars-row}
+use Rattle.items.proofs.LineLaws.{item-undefined, item-symbol, item-told}
 use borrow.Author.Needs.{needs}
 use Rattle.items.proofs.is_item.Statement.{statement}
 use Rattle.items.proofs.is_item.Tie as tie
@@ -18,15 +18,11 @@ told-requires : tie.Need-told-requires
 told-requires c κs = search (needs, chars-row)
 
 returns-2 : tie.Need-returns-2
-returns-2 c = search item-element
-
-is-shaped-requires : tie.Need-is-shaped-requires
-is-shaped-requires c κs = search (needs, chars-name)
+returns-2 c = search item-symbol
 
 returns-3 : tie.Need-returns-3
-returns-3 c = search item-named
+returns-3 c = search item-told
 
 pub is-item-spec : {M : Type 1} → statement M
 is-item-spec =
-    tie.close
-    (tie.spec add-if1 mul-if1 returns told-requires returns-2 is-shaped-requires returns-3)
+    tie.close (tie.spec add-if1 mul-if1 returns told-requires returns-2 returns-3)

@@ -1,6 +1,7 @@
 -- `items::write_items` meets its contract. The invariant: what stands in the area, with the items of the lines that are left, is the whole. The measure is how many lines are left.
 use mathlib.Core.Logic.{⊎-elim}
 use Rattle.items.proofs.FillLaws.{Writing, writing-none, writing-chars, writing-row, writing-inside, writing-room, writing-slot, writing-place, writing-item, writing-other, writing-all}
+use Rattle.items.proofs.LineLaws.{item-has}
 use borrow.Author.Needs.{needs}
 use Rattle.items.proofs.write_items.Statement.{statement}
 use Rattle.items.proofs.write_items.Tie as tie
@@ -19,7 +20,7 @@ is-item-requires : tie.Need-is-item-requires Inv-loop μ-loop
 is-item-requires c κs = search writing-chars
 
 write-item-requires : tie.Need-write-item-requires Inv-loop μ-loop
-write-item-requires c κs = ((search writing-chars, search writing-row), (search needs, search writing-room))
+write-item-requires c κs = ((search writing-chars, search item-has, search writing-row), (search needs, search writing-room))
 
 add-slot : tie.Need-add-slot Inv-loop μ-loop
 add-slot c = search writing-slot

@@ -1,5 +1,5 @@
 -- `ordering::name_facts` meets its contract: of a character and of another name.
-use Rattle.ordering.proofs.FactLaws.{found-rowed, known-sound, facts-char, facts-other}
+use Rattle.ordering.proofs.FactLaws.{found-rowed, facts-char, facts-other}
 use borrow.Author.Needs.{needs}
 use Rattle.ordering.proofs.name_facts.Statement.{statement}
 use Rattle.ordering.proofs.name_facts.Tie as tie
@@ -7,23 +7,23 @@ use Rattle.ordering.proofs.name_facts.Tie as tie
 is-listed-requires : tie.Need-is-listed-requires
 is-listed-requires c κs = search found-rowed
 
-stands-at-requires : tie.Need-stands-at-requires
-stands-at-requires c κs = (search needs, search known-sound)
+enum-known-c : tie.Need-enum-known-c
+enum-known-c c = search needs
 
-name-char-requires : tie.Need-name-char-requires
-name-char-requires c κs = search needs
-
-enum-told : tie.Need-enum-told
-enum-told c = search needs
+is-character-requires : tie.Need-is-character-requires
+is-character-requires c κs = search needs
 
 returns : tie.Need-returns
 returns c = search facts-char
 
-enum-told-2 : tie.Need-enum-told-2
-enum-told-2 c = search needs
+enum-told : tie.Need-enum-told
+enum-told c = search needs
 
 is-bare-requires : tie.Need-is-bare-requires
 is-bare-requires c κs = search found-rowed
+
+is-found-requires : tie.Need-is-found-requires
+is-found-requires c κs = search needs
 
 returns-2 : tie.Need-returns-2
 returns-2 c = search facts-other
@@ -33,10 +33,10 @@ name-facts-spec =
     tie.close
     (tie.spec
     is-listed-requires
-    stands-at-requires
-    name-char-requires
-    enum-told
+    enum-known-c
+    is-character-requires
     returns
-    enum-told-2
+    enum-told
     is-bare-requires
+    is-found-requires
     returns-2)

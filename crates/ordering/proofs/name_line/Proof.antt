@@ -1,6 +1,6 @@
 -- `ordering::name_line` meets its contract: the line is refused, or the row of its subject is given its numbers.
 use Rattle.ordering.proofs.StepLaws.{line-refused}
-use Rattle.ordering.proofs.NameLaws.{name-ready, name-listed}
+use Rattle.ordering.proofs.NameLaws.{name-fits, name-ready, name-listed}
 use borrow.Author.Needs.{needs}
 use Rattle.ordering.proofs.name_line.Statement.{statement}
 use Rattle.ordering.proofs.name_line.Tie as tie
@@ -11,19 +11,23 @@ mul-v c = search needs
 find-requires : tie.Need-find-requires
 find-requires c κs = search needs
 
+name-char-requires : tie.Need-name-char-requires
+name-char-requires c κs = search needs
+
 name-refusal-requires : tie.Need-name-refusal-requires
 name-refusal-requires c κs = search needs
 
 row-for-requires : tie.Need-row-for-requires
-row-for-requires c κs = search needs
+row-for-requires c κs = (search needs, search needs, search name-fits)
 
 list-line-requires : tie.Need-list-line-requires
 list-line-requires c κs =
     let rowed = c .before .before .before in
     let read = rowed .before .before .before in
-    let found = read .before .before in
+    let coded = read .before .before in
+    let found = coded .before in
     let start = found .before .before .before .before .before in
-    search (name-ready _ _ _ _ _ _ (start .pre .1) _ _ _ _ (start .pre .0) _ (found .find .ensures) _ (read .name-refusal .ensures))
+    search (name-ready _ _ _ _ _ _ (start .pre .1) _ _ _ _ (start .pre .0) _ (found .find .ensures) (coded .name-char .result) (coded .name-char .ensures) _ (read .name-refusal .ensures))
 
 same-length : tie.Need-same-length
 same-length c = search needs
@@ -43,6 +47,7 @@ name-line-spec =
     (tie.spec
     mul-v
     find-requires
+    name-char-requires
     name-refusal-requires
     row-for-requires
     list-line-requires

@@ -1,5 +1,5 @@
 -- `writes::write_chars` meets its contract, for UNDEFINED, a character and an element.
-use Rattle.writes.proofs.ItemLaws.{chars-undefined, chars-character, chars-element, chars-small, chars-name, chars-row, chars-quotes}
+use Rattle.writes.proofs.ItemLaws.{chars-undefined, chars-character, chars-element, chars-small, chars-row, chars-quotes, chars-some}
 use borrow.Author.Needs.{needs}
 use Rattle.writes.proofs.write_chars.Statement.{statement}
 use Rattle.writes.proofs.write_chars.Tie as tie
@@ -22,11 +22,8 @@ returns c = search chars-undefined
 told-requires : tie.Need-told-requires
 told-requires c κs = search (needs, chars-row)
 
-wide-requires : tie.Need-wide-requires
-wide-requires c κs = search needs
-
-char-at-requires : tie.Need-char-at-requires
-char-at-requires c κs = search (needs, chars-name)
+code-told-requires : tie.Need-code-told-requires
+code-told-requires c κs = (search chars-some, search needs)
 
 put-four-requires-2 : tie.Need-put-four-requires-2
 put-four-requires-2 c κs = search needs
@@ -36,6 +33,9 @@ same-length-2 c = search needs
 
 returns-2 : tie.Need-returns-2
 returns-2 c = search chars-character
+
+wide-requires : tie.Need-wide-requires
+wide-requires c κs = search needs
 
 write-quoted-requires : tie.Need-write-quoted-requires
 write-quoted-requires c κs = search (needs, chars-quotes)
@@ -56,11 +56,11 @@ write-chars-spec =
     same-length
     returns
     told-requires
-    wide-requires
-    char-at-requires
+    code-told-requires
     put-four-requires-2
     same-length-2
     returns-2
+    wide-requires
     write-quoted-requires
     same-length-3
     returns-3)
