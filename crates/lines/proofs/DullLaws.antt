@@ -1,12 +1,12 @@
 -- Stretches of a line of which nothing is to be told: how loops find them, and why a line passes them.
 use mathlib.Core.Path.{_≡_, refl, sym, _∙_}
 use mathlib.Core.Bool.{Bool, true, false, not, false≢true, and-false}
-use mathlib.Core.List.{List, [], _∷_, _++_}
+use mathlib.Core.List.{List, [], _∷_}
 use Prim.Native.Nat.{ℕ, zero, suc, _+_, _-_, _%_, _≤_, _<_}
 use native.Mathlib.Nat.{add-zero}
 use native.Mathlib.Omega.{arith}
 use lib.ListN.{length, getD}
-use lib.Dec.{eqb, leb, ltb}
+use lib.Dec.{eqb, ltb}
 use borrow.Author.Tests.{ne-eqb, le-leb, eqb-false, not-true, ltb-true, ltb-false}
 use Rattle.lists.proofs.Bools.{by}
 use Rattle.rules.specs.Text.{every}
@@ -17,7 +17,7 @@ use Rattle.rules.proofs.TextLaws.{every-append}
 use Rattle.lines.specs.declared.Signs.{Signs}
 use Rattle.lines.specs.declared.Spot.{Spot}
 use Rattle.lines.specs.Stream.{marksLeft, Passes}
-use Rattle.lines.specs.Stretches.{NoFeed, FeedIs, Ordinary, Stretch, Block, Dull, EverDull, DullTo}
+use Rattle.lines.specs.Stretches.{NoFeed, FeedIs, Ordinary, Stretch, Block, Dull, DullTo}
 use Rattle.lines.proofs.ByteLaws.{text-high}
 use Rattle.lines.proofs.LineLaws.{spot, item-hidden}
 use Rattle.lines.proofs.StandsLaws.{Stands, shut-stale, stands-item}
@@ -46,7 +46,7 @@ stretch-more {P} {src} {i} {j} v h p =
 
 -- ## LFs in a block
 
--- The first k bytes of a block have at most k LFs, and none if n is 0.
+-- Of the first k bytes of a block n are counted: none of them is an LF if n is 0.
 pub record Counted (src : List ℕ) (at n k : ℕ) : Type 0 where
   pub block : at + 32 ≤ length src
   pub few : n ≤ k
@@ -83,6 +83,7 @@ feed-more v h f = stretch-more v h (record { other = f })
 
 -- ## Ordinary bytes
 
+-- what a test that failed promises
 pub ordinary-not : {escape b : ℕ} → false ≡ true → Ordinary escape b
 ordinary-not h = absurd (false≢true h)
 
@@ -126,7 +127,7 @@ module _ {g : Signs} {src : List ℕ} where
         to = w .to;
       }
 
-  -- text, and no LF
+  -- marks that are text, and no LF
   dull-passes : {p q : Spot} {ms : List ℕ} → Passes g src ms 0 p q → every isText ms ≡ true → Dull g src p q
   dull-passes {p} {q} {ms} v t =
       record {

@@ -110,7 +110,7 @@ pub record Reads (g : Signs) (src : List ℕ) (p q : Spot) (feeds : ℕ) (text :
 pub reads-none : (g : Signs) (src : List ℕ) (p : Spot) → p .at ≤ length src → Reads g src p p 0 true
 reads-none g src p h = record { end = refl; fed = omega arith; clean = refl; from = omega arith; to = h }
 
--- a stretch more of which nothing is to be told
+-- a stretch more, of which nothing is to be told
 reads-dull : {g : Signs} {src : List ℕ} {p o q : Spot} {feeds : ℕ} {text : Bool} → Reads g src p o feeds text → EverDull (g .escape) src o q → Reads g src p q feeds text
 reads-dull {g} {src} {p} {o} {q} {feeds} {text} v w =
     let d : Dull g src o q = w .dull (g .comment) in

@@ -12,11 +12,11 @@ use Rattle.lines.specs.Stream.{lineLeft, marksLeft, endOf}
 
 -- ## Bytes
 
--- no LF
+-- The byte is no LF.
 pub record NoFeed (b : ℕ) : Type 0 where
   pub other : b ≡ 10 → ⊥
 
--- 1 for an LF, and 0 for no other byte than one that is none
+-- At most 1, and 0 only for a byte that is no LF.
 pub record FeedIs (b r : ℕ) : Type 0 where
   pub few : r ≤ 1
   pub none : r ≡ 0 → NoFeed b
@@ -36,13 +36,13 @@ pub record Stretch (P : ℕ → Type 0) (src : List ℕ) (i j : ℕ) : Type 0 wh
   pub on : i ≤ j
   pub to : j ≤ length src
 
--- how many LFs a block of 32 bytes has tells whether it has one
+-- a block of 32 bytes in which none is counted has no LF
 abbrev pub Block : List ℕ → ℕ → ℕ → Type 0
 Block src i feeds = feeds ≡ 0 → Stretch NoFeed src i (i + 32)
 
 -- ## Lines
 
--- From p to q of one line nothing is to be told: what is left at q has the same end and as many LFs, and is text if that left at p is.
+-- From p to q of one line nothing is to be told: what is left at q has the same end and as many LFs, and is text exactly if what is left at p is.
 pub record Dull (g : Signs) (src : List ℕ) (p q : Spot) : Type 0 where
   pub end : endOf g src p ≡ endOf g src q
   pub feeds : lineLeft g src p .feeds ≡ lineLeft g src q .feeds

@@ -242,7 +242,7 @@ fn feed(b: u8) -> u8
     0
 }
 
-// How many LFs stand in the 32 bytes from a place on. The loop has no way out before its end, so that it can be made 16 bytes wide.
+// How many LFs stand in the 32 bytes from a place on. The loop has no other way out than its end, so that it can be made 16 bytes wide.
 fn feeds_in(src: &[u8], at: usize) -> u8
     requires { ⌜ at + 32 ≤ length (now src) ⌝ }
     ensures { λ r. ⌜ Block (now (src .entry)) at r ⌝ }
