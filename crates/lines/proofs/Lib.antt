@@ -3,3 +3,5 @@ pub mod LineLaws
 pub mod WalkLaws
 pub mod RunLaws
 pub mod SignLaws
+pub mod StandsLaws
+pub mod DullLaws

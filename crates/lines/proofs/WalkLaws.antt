@@ -14,6 +14,7 @@ use Rattle.lines.specs.declared.Spot.{Spot}
 use Rattle.lines.specs.declared.Item.{Item}
 use Rattle.lines.specs.declared.Item.the-variants.{Mark, Join, Hidden, End}
 use Rattle.lines.specs.Stream.{marksLeft, Passes, Marks, Ends, ItemIs, MarkIs, lineLeft, endOf, LineIs, Run, Joins}
+use Rattle.lines.specs.Stretches.{Dull, EverDull}
 use Rattle.lists.proofs.Bools.{by}
 use Rattle.rules.specs.Text.{every}
 use Rattle.rules.specs.Tokens.{isText}
@@ -109,6 +110,21 @@ pub record Reads (g : Signs) (src : List ℕ) (p q : Spot) (feeds : ℕ) (text :
 pub reads-none : (g : Signs) (src : List ℕ) (p : Spot) → p .at ≤ length src → Reads g src p p 0 true
 reads-none g src p h = record { end = refl; fed = omega arith; clean = refl; from = omega arith; to = h }
 
+-- a stretch more, of which nothing is to be told
+reads-dull : {g : Signs} {src : List ℕ} {p o q : Spot} {feeds : ℕ} {text : Bool} → Reads g src p o feeds text → EverDull (g .escape) src o q → Reads g src p q feeds text
+reads-dull {g} {src} {p} {o} {q} {feeds} {text} v w =
+    let d : Dull g src o q = w .dull (g .comment) in
+    record {
+      end = v .end ∙ d .end;
+      fed = omega (arith, v .fed, d .feeds);
+      clean = v .clean ∙ ap (λ (x : Bool). text && x) (d .text);
+      from = omega (arith, v .from, d .on);
+      to = d .to;
+    }
+
+pub dull-within : {escape : ℕ} {src : List ℕ} {o q : Spot} → EverDull escape src o q → q .at ≤ length src
+dull-within w = w .dull 0 .to
+
 -- marks and LFs more
 reads-on : {g : Signs} {src : List ℕ} {p q r : Spot} {feeds k n : ℕ} {text t : Bool} {ms : List ℕ} → Reads g src p q feeds text → Passes g src ms k q r → k ≤ 1 → feeds + k ≡ n
     → (text && every isText (ms ++ marksLeft g src r)) ≡ (t && every isText (marksLeft g src r)) → Reads g src p r n t
@@ -121,55 +137,70 @@ reads-on v w h z e =
       to = w .to;
     }
 
-module _ {g : Signs} {src : List ℕ} {p q : Spot} {feeds : ℕ} {text : Bool} {i : Item} (v : Reads g src p q feeds text) (s : ItemIs g src q i) where
-  pub reads-mark : {m : ℕ} {r : Spot} {t : Bool} → i ≡ Mark m r → text ≡ true → t ≡ isText m → Reads g src p r feeds t
-  unfolding every
-  reads-mark {m} {r} {t} e x y =
-      let w : Passes g src (m ∷ []) 0 q r × Marks q m r × Run g src (m ∷ []) 0 q r = subst (ItemIs g src q) e s in
-      reads-on v (w .0) (omega arith) (omega arith) (rw (x, y))
+-- how much of the source a spot leaves
+unfoldable pub leftAt : List ℕ → Spot → ℕ
+leftAt src p = length src - p .at
 
-  pub reads-foul : {m : ℕ} {r : Spot} → i ≡ Mark m r → text ≡ false → Reads g src p r feeds text
-  reads-foul {m} {r} e x =
-      let w : Passes g src (m ∷ []) 0 q r × Marks q m r × Run g src (m ∷ []) 0 q r = subst (ItemIs g src q) e s in
-      reads-on v (w .0) (omega arith) (omega arith) (rw x)
+-- One turn: from o to q nothing is to be told, and i stands at q.
+module _ {g : Signs} {src : List ℕ} {p o q : Spot} {feeds : ℕ} {text : Bool} (u : Reads g src p o feeds text) (d : EverDull (g .escape) src o q) where
+  v : Reads g src p q feeds text
+  v = reads-dull u d
 
-  pub reads-join : {r : Spot} → i ≡ Join r → Reads g src p r (feeds + 1) text
-  reads-join {r} e =
-      let w : Passes g src [] 1 q r × Joins g src 1 q r = subst (ItemIs g src q) e s in
-      reads-on v (w .0) (omega arith) refl refl
+  on : o .at ≤ q .at
+  on = d .dull (g .comment) .on
 
-  pub reads-hidden : {r : Spot} → i ≡ Hidden r → Reads g src p r feeds text
-  reads-hidden {r} e =
-      let w : Passes g src [] 0 q r × (r .mode ≡ comment) × (marksLeft g src q ≡ []) = subst (ItemIs g src q) e s in
-      reads-on v (w .0) (omega arith) (omega arith) refl
+  module _ {i : Item} (s : ItemIs g src q i) where
+    pub reads-mark : {m : ℕ} {r : Spot} {t : Bool} → i ≡ Mark m r → text ≡ true → t ≡ isText m → Reads g src p r feeds t
+    unfolding every
+    reads-mark {m} {r} {t} e x y =
+        let w : Passes g src (m ∷ []) 0 q r × Marks q m r × Run g src (m ∷ []) 0 q r = subst (ItemIs g src q) e s in
+        reads-on v (w .0) (omega arith) (omega arith) (rw (x, y))
 
-  pub reads-less-mark : {m : ℕ} {r : Spot} → i ≡ Mark m r → length src - r .at < length src - q .at
-  reads-less-mark {m} {r} e = let w : Passes g src (m ∷ []) 0 q r × Marks q m r × Run g src (m ∷ []) 0 q r = subst (ItemIs g src q) e s in omega (arith, w .0 .on, w .0 .to)
+    pub reads-foul : {m : ℕ} {r : Spot} → i ≡ Mark m r → text ≡ false → Reads g src p r feeds text
+    reads-foul {m} {r} e x =
+        let w : Passes g src (m ∷ []) 0 q r × Marks q m r × Run g src (m ∷ []) 0 q r = subst (ItemIs g src q) e s in
+        reads-on v (w .0) (omega arith) (omega arith) (rw x)
 
-  pub reads-less-join : {r : Spot} → i ≡ Join r → length src - r .at < length src - q .at
-  reads-less-join {r} e =
-      let w : Passes g src [] 1 q r × Joins g src 1 q r = subst (ItemIs g src q) e s in
-      omega (arith, w .0 .on, w .0 .to)
+    pub reads-join : {r : Spot} → i ≡ Join r → Reads g src p r (feeds + 1) text
+    reads-join {r} e =
+        let w : Passes g src [] 1 q r × Joins g src 1 q r = subst (ItemIs g src q) e s in
+        reads-on v (w .0) (omega arith) refl refl
 
-  pub reads-less-hidden : {r : Spot} → i ≡ Hidden r → length src - r .at < length src - q .at
-  reads-less-hidden {r} e =
-      let w : Passes g src [] 0 q r × (r .mode ≡ comment) × (marksLeft g src q ≡ []) = subst (ItemIs g src q) e s in
-      omega (arith, w .0 .on, w .0 .to)
+    pub reads-hidden : {r : Spot} → i ≡ Hidden r → Reads g src p r feeds text
+    reads-hidden {r} e =
+        let w : Passes g src [] 0 q r × (r .mode ≡ comment) × (marksLeft g src q ≡ []) = subst (ItemIs g src q) e s in
+        reads-on v (w .0) (omega arith) (omega arith) refl
 
-  pub reads-fits : {next n : ℕ} → i ≡ End next n → length src < 2 ^ 64 → feeds + n < 2 ^ 64
-  reads-fits {next} {n} e h = let w : Ends g src q next n = subst (ItemIs g src q) e s in omega (arith, v .from, w .few, w .to)
+    pub reads-less-mark : {m : ℕ} {r : Spot} → i ≡ Mark m r → leftAt src r < leftAt src o
+    unfolding leftAt
+    reads-less-mark {m} {r} e = let w : Passes g src (m ∷ []) 0 q r × Marks q m r × Run g src (m ∷ []) 0 q r = subst (ItemIs g src q) e s in omega (arith, on, w .0 .on, w .0 .to)
 
-  pub reads-end : {next n : ℕ} → i ≡ End next n → LineIs g src p (record { next = next; feeds = feeds + n; text = text })
-  unfolding every
-  reads-end {next} {n} e =
-      let w : Ends g src q next n = subst (ItemIs g src q) e s in
-      record {
-        end = v .end ∙ w .end;
-        feeds = v .fed ∙ ap (λ (x : ℕ). feeds + x) (w .fed);
-        few = omega (arith, v .from, w .few);
-        text = v .clean ∙ rw (w .none) (and-true text);
-        to = w .to;
-        on = λ h. by (ltb (q .at) (length src))
-            (λ t. let k = w .on (ltb-true (q .at) (length src) t) in omega (arith, v .from))
-            (λ t. let k = ltb-false (q .at) (length src) t in omega (arith, v .from, w .end));
-      }
+    pub reads-less-join : {r : Spot} → i ≡ Join r → leftAt src r < leftAt src o
+    unfolding leftAt
+    reads-less-join {r} e =
+        let w : Passes g src [] 1 q r × Joins g src 1 q r = subst (ItemIs g src q) e s in
+        omega (arith, on, w .0 .on, w .0 .to)
+
+    pub reads-less-hidden : {r : Spot} → i ≡ Hidden r → leftAt src r < leftAt src o
+    unfolding leftAt
+    reads-less-hidden {r} e =
+        let w : Passes g src [] 0 q r × (r .mode ≡ comment) × (marksLeft g src q ≡ []) = subst (ItemIs g src q) e s in
+        omega (arith, on, w .0 .on, w .0 .to)
+
+    pub reads-fits : {next n : ℕ} → i ≡ End next n → length src < 2 ^ 64 → feeds + n < 2 ^ 64
+    reads-fits {next} {n} e h = let w : Ends g src q next n = subst (ItemIs g src q) e s in omega (arith, v .from, w .few, w .to)
+
+    pub reads-end : {next n : ℕ} → i ≡ End next n → LineIs g src p (record { next = next; feeds = feeds + n; text = text })
+    unfolding every
+    reads-end {next} {n} e =
+        let w : Ends g src q next n = subst (ItemIs g src q) e s in
+        record {
+          end = v .end ∙ w .end;
+          feeds = v .fed ∙ ap (λ (x : ℕ). feeds + x) (w .fed);
+          few = omega (arith, v .from, w .few);
+          text = v .clean ∙ rw (w .none) (and-true text);
+          to = w .to;
+          on = λ h. by (ltb (q .at) (length src))
+              (λ t. let k = w .on (ltb-true (q .at) (length src) t) in omega (arith, v .from))
+              (λ t. let k = ltb-false (q .at) (length src) t in omega (arith, v .from, w .end));
+        }

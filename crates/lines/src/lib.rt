@@ -1,6 +1,6 @@
 // Lines of a source, read from a place on with nothing kept: their marks and their ends. For both readers of sources.
 ghost use mathlib.Core.Path.{_≡_};
-ghost use mathlib.Core.Bool.{_&&_};
+ghost use mathlib.Core.Bool.{true, _&&_};
 ghost use Prim.Native.Nat.{_+_, _≤_, _<_};
 ghost use lib.ListN.{length};
 ghost use lib.Dec.{eqb};
@@ -8,6 +8,7 @@ ghost use Rattle.rules.specs.Names.{isBlank};
 ghost use Rattle.rules.specs.Tokens.{isText};
 ghost use Rattle.rules.specs.Lines.{after};
 ghost use Rattle.lines.specs.Stream.{ItemIs, EscapeAt, StepIs, LineIs};
+ghost use Rattle.lines.specs.Stretches.{FeedIs, NoFeed, Ordinary, Stretch, Block, DullTo};
 
 // The comment and the escape character in force.
 pub struct Signs {
@@ -231,29 +232,151 @@ pub fn next_mark(src: &[u8], g: Signs, p: Spot) -> Step
     }
 }
 
+// 1 for an LF, else 0: what a block has of them is a sum.
+fn feed(b: u8) -> u8
+    ensures { λ r. ⌜ FeedIs b r ⌝ }
+{
+    if b == 10 {
+        return 1;
+    }
+    0
+}
+
+// How many LFs stand in the 32 bytes from a place on. The loop has no other way out than its end, so that it can be made 16 bytes wide.
+fn feeds_in(src: &[u8], at: usize) -> u8
+    requires { ⌜ at + 32 ≤ length (now src) ⌝ }
+    ensures { λ r. ⌜ Block (now (src .entry)) at r ⌝ }
+{
+    let mut n: u8 = 0;
+    let mut k: usize = 0;
+    while k < 32 {
+        n += feed(src[at + k]);
+        k += 1;
+    }
+    n
+}
+
+// How far blocks of 32 bytes with no LF go on from a place.
+fn blocks_to(src: &[u8], at: usize) -> usize
+    requires { ⌜ at ≤ length (now src) ⌝ }
+    ensures { λ r. ⌜ Stretch NoFeed (now (src .entry)) at r ⌝ }
+{
+    let mut i = at;
+    while i + 32 <= src.len() {
+        if feeds_in(src, i) > 0 {
+            return i;
+        }
+        i += 32;
+    }
+    i
+}
+
+// The place of the next LF, or the source's end.
+fn feed_from(src: &[u8], at: usize) -> usize
+    requires { ⌜ at ≤ length (now src) ⌝ }
+    ensures { λ r. ⌜ Stretch NoFeed (now (src .entry)) at r ⌝ }
+{
+    let mut i = blocks_to(src, at);
+    while i < src.len() {
+        if src[i] == 10 {
+            return i;
+        }
+        i += 1;
+    }
+    i
+}
+
+// Whether a byte leaves every mode as it is, where no comment can open: visible, and none of `"`, `<`, `>` and the escape.
+fn is_ordinary(b: u8, escape: u8) -> bool
+    ensures { λ r. ⌜ (r ≡ true → Ordinary escape b) ⌝ }
+{
+    if b < 33 {
+        return false;
+    }
+    if b > 126 {
+        return false;
+    }
+    if b == 34 {
+        return false;
+    }
+    if b == 60 {
+        return false;
+    }
+    if b == 62 {
+        return false;
+    }
+    b != escape
+}
+
+// How far ordinary bytes go on from a place.
+fn ordinary_to(src: &[u8], escape: u8, at: usize) -> usize
+    requires { ⌜ at ≤ length (now src) ⌝ }
+    ensures { λ r. ⌜ Stretch (Ordinary escape) (now (src .entry)) at r ⌝ }
+{
+    let mut i = at;
+    while i < src.len() {
+        if is_ordinary(src[i], escape) {
+            i += 1;
+        } else {
+            return i;
+        }
+    }
+    i
+}
+
+// How far a line goes on, from a place on in a mode, with nothing to be told of it.
+fn dull_to(src: &[u8], escape: u8, at: usize, mode: u8, fresh: bool) -> usize
+    requires { ⌜ at ≤ length (now src) ⌝ }
+    ensures { λ r. ⌜ DullTo escape (now (src .entry)) at mode fresh r ⌝ }
+{
+    if mode == 4 {
+        return feed_from(src, at);
+    }
+    if fresh {
+        return at;
+    }
+    ordinary_to(src, escape, at)
+}
+
 // The end of a line, from a spot on.
 pub fn line_end(src: &[u8], g: Signs, p: Spot) -> LineEnd
     requires { ⌜ p .at ≤ length (now src) ⌝ }
     ensures { λ r. ⌜ LineIs g (now (src .entry)) p r ⌝ }
 {
-    let mut q = p;
+    let mut at = p.at;
+    let mut mode = p.mode;
+    let mut fresh = p.fresh;
     let mut feeds: usize = 0;
     let mut text = true;
     loop {
-        let i = next_item(src, g, q);
+        let i = next_item(
+            src,
+            g,
+            Spot {
+                at: dull_to(src, g.escape, at, mode, fresh),
+                mode: mode,
+                fresh: fresh,
+            },
+        );
         match i {
             Item::Mark(m, r) => {
                 if text {
                     text = is_text(m);
                 }
-                q = r;
+                at = r.at;
+                mode = r.mode;
+                fresh = r.fresh;
             }
             Item::Join(r) => {
                 feeds += 1;
-                q = r;
+                at = r.at;
+                mode = r.mode;
+                fresh = r.fresh;
             }
             Item::Hidden(r) => {
-                q = r;
+                at = r.at;
+                mode = r.mode;
+                fresh = r.fresh;
             }
             Item::End(next, n) => {
                 return LineEnd {

@@ -1,23 +1,25 @@
 -- `lines::line_end` meets its contract. The invariant: what is passed so far, and what is to come, make up the line. The measure is what
 -- is left of the source.
-use Rattle.lines.proofs.WalkLaws.{Reads, reads-none, reads-mark, reads-foul, reads-join, reads-hidden, reads-less-mark, reads-less-join, reads-less-hidden, reads-fits, reads-end}
-use Prim.Native.Nat.{_-_}
-use lib.ListN.{length}
+use Rattle.lines.proofs.LineLaws.{spot}
+use Rattle.lines.proofs.WalkLaws.{Reads, leftAt, reads-none, dull-within, reads-mark, reads-foul, reads-join, reads-hidden, reads-less-mark, reads-less-join, reads-less-hidden, reads-fits, reads-end}
 use borrow.Author.Needs.{needs}
 use Rattle.lines.proofs.line_end.Statement.{statement}
 use Rattle.lines.proofs.line_end.Tie as tie
 
 abbrev Inv-loop : tie.InvT-loop
-Inv-loop src g q₀ feeds₀ text₀ q feeds text = Reads g src q₀ q feeds text
+Inv-loop src g at₀ mode₀ fresh₀ feeds₀ text₀ at mode fresh feeds text = Reads g src (spot at₀ mode₀ fresh₀) (spot at mode fresh) feeds text
 
 abbrev μ-loop : tie.MeasureT-loop
-μ-loop src g q₀ feeds₀ text₀ q feeds text = length src - q .at
+μ-loop src g at₀ mode₀ fresh₀ feeds₀ text₀ at mode fresh feeds text = leftAt src (spot at mode fresh)
 
 loop-holds : tie.Need-loop-holds Inv-loop μ-loop
 loop-holds c = search reads-none
 
+dull-to-requires : tie.Need-dull-to-requires Inv-loop μ-loop
+dull-to-requires c κs = search needs
+
 next-item-requires : tie.Need-next-item-requires Inv-loop μ-loop
-next-item-requires c κs = search needs
+next-item-requires c κs = search dull-within
 
 enum-known-i : tie.Need-enum-known-i Inv-loop μ-loop
 enum-known-i c = search needs
@@ -61,8 +63,8 @@ loop-again-4 c = search reads-hidden
 enum-known-i-4 : tie.Need-enum-known-i-4 Inv-loop μ-loop
 enum-known-i-4 c = search needs
 
-add-t15 : tie.Need-add-t15 Inv-loop μ-loop
-add-t15 c = record { fits = search reads-fits }
+add-t19 : tie.Need-add-t19 Inv-loop μ-loop
+add-t19 c = record { fits = search reads-fits }
 
 returns : tie.Need-returns Inv-loop μ-loop
 returns c = search reads-end
@@ -74,6 +76,7 @@ line-end-spec =
     Inv-loop
     μ-loop
     loop-holds
+    dull-to-requires
     next-item-requires
     enum-known-i
     is-text-requires
@@ -89,5 +92,5 @@ line-end-spec =
     loop-less-4
     loop-again-4
     enum-known-i-4
-    add-t15
+    add-t19
     returns)
