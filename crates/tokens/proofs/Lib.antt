@@ -4,3 +4,4 @@ pub mod WordLaws
 pub mod NameLaws
 pub mod NextLaws
 pub mod GapLaws
+pub mod PlainLaws

@@ -1,12 +1,12 @@
 -- The tokens of a line as code reads them: what is still to come at a spot is the paper's own list (Rattle.rules.specs.Tokens).
 use mathlib.Core.Path.{_≡_}
-use mathlib.Core.Bool.{Bool, true, false, _||_, not}
+use mathlib.Core.Bool.{Bool, true, false, _&&_, _||_, not}
 use mathlib.Core.List.{List, [], _∷_}
-use Prim.Native.Nat.{ℕ, _+_, _%_, _≤_, _<_}
-use lib.ListN.{length}
-use lib.Dec.{eqb}
-use Rattle.rules.specs.Text.{if_then_else_, oneOf}
-use Rattle.rules.specs.Names.{nameRefusal, namesRefusal}
+use Prim.Native.Nat.{ℕ, suc, _+_, _%_, _≤_, _<_}
+use lib.ListN.{length, drop}
+use lib.Dec.{eqb, leb}
+use Rattle.rules.specs.Text.{if_then_else_, every, oneOf, _unless_, lower}
+use Rattle.rules.specs.Names.{isVisible, nameRefusal, namesRefusal}
 use Rattle.rules.specs.Lines as lines
 use Rattle.rules.specs.Lines.{outside, inName, quoted, quotedName}
 use Rattle.rules.specs.Tokens as tokens
@@ -75,6 +75,24 @@ afterName [] = []
 afterName (m ∷ ms) =
     let r : List ℕ = afterName ms in
     if isClose m then ms else r
+
+-- ### Bytes that stand for themselves in a name
+
+-- with this escape: visible, no `>` and no escape
+abbrev pub isPlain : ℕ → ℕ → Bool
+isPlain escape b = isVisible b && not (isClose b) && not (eqb b escape)
+
+-- how many of them come first
+unfoldable pub plainIn : ℕ → List ℕ → ℕ
+plainIn escape [] = 0
+plainIn escape (b ∷ bs) =
+    let r : ℕ = plainIn escape bs in
+    if isPlain escape b then suc r else 0
+
+-- The place up to which they go on.
+pub record PlainTo (src : List ℕ) (escape at r : ℕ) : Type 0 where
+  pub is : r ≡ at + plainIn escape (drop at src)
+  pub to : r ≤ length src
 
 -- ## Quotes
 
@@ -169,6 +187,21 @@ pub record NameEnds (g : Signs) (src : List ℕ) (p : Spot) (r : ℕ) (q : Spot)
 abbrev pub ClosingIs : Signs → List ℕ → Spot → Closing → Type 0
 ClosingIs g src p (closing.Closed r q) = NameEnds g src p r q
 ClosingIs g src p closing.Open = oneOf isClose (marksLeft g src p) ≡ false
+
+-- The same of a name with k visible bytes more, which stand before p.
+pub record NameEndsAfter (k : ℕ) (g : Signs) (src : List ℕ) (p : Spot) (r : ℕ) (q : Spot) : Type 0 where
+  pub refusal : lower (3 unless (leb 1 (k + length (nameIn (marksLeft g src p))) && every isVisible (nameIn (marksLeft g src p)))) (7 unless leb (k + length (nameIn (marksLeft g src p))) 32) ≡ r
+  pub after : afterName (marksLeft g src p) ≡ marksLeft g src q
+  pub closes : oneOf isClose (marksLeft g src p) ≡ true
+  pub mode : q .mode ≡ lines.after (p .mode) 62
+  pub edge : q .fresh ≡ false
+  pub long : length (nameIn (marksLeft g src p)) + p .at < q .at
+  pub walk : Walk g src p q
+  pub to : q .at ≤ length src
+
+abbrev pub ClosingAfter : ℕ → Signs → List ℕ → Spot → Closing → Type 0
+ClosingAfter k g src p (closing.Closed r q) = NameEndsAfter k g src p r q
+ClosingAfter k g src p closing.Open = oneOf isClose (marksLeft g src p) ≡ false
 
 -- Quotes that hold names only, from the spot after the opening `"`: how many, their lowest refusal, and the spot after the closing one.
 pub record QuotesEnd (g : Signs) (src : List ℕ) (p : Spot) (n r : ℕ) (q : Spot) : Type 0 where

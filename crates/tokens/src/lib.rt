@@ -9,7 +9,7 @@ ghost use Rattle.rules.specs.Names.{isVisible};
 ghost use Rattle.rules.specs.Tokens.{inWord};
 ghost use Rattle.rules.specs.Lines.{outside, quoted};
 ghost use Rattle.lines.specs.Stream.{marksLeft};
-ghost use Rattle.tokens.specs.Left.{wordIn, isInside, WordStepIs, WordEnds, NameStepIs, ClosingIs, QuotesIs, bareAt, NextIs, Skips};
+ghost use Rattle.tokens.specs.Left.{wordIn, isInside, isPlain, PlainTo, WordStepIs, WordEnds, NameStepIs, ClosingAfter, ClosingIs, QuotesIs, bareAt, NextIs, Skips};
 use lines::Signs;
 use lines::Spot;
 use lines::Step;
@@ -202,10 +202,39 @@ pub fn lower_of(a: u8, b: u8) -> u8
     b
 }
 
-// The end of a name, in quotes or not, from a spot inside it.
-pub fn end_of_name(src: &[u8], g: Signs, p: Spot) -> Closing
-    requires { ⌜ (p .at ≤ length (now src)) × (isInside (p .mode) ≡ true) ⌝ }
-    ensures { λ r. ⌜ ClosingIs g (now (src .entry)) p r ⌝ }
+// Whether a byte stands for itself in a name and leaves it open, with this escape.
+fn is_plain(b: u8, escape: u8) -> bool
+    ensures { λ r. ⌜ r ≡ isPlain escape b ⌝ }
+{
+    if is_visible(b) {
+        if b == 62 {
+            return false;
+        }
+        return b != escape;
+    }
+    false
+}
+
+// How far such bytes go on from a place.
+fn plain_to(src: &[u8], escape: u8, at: usize) -> usize
+    requires { ⌜ at ≤ length (now src) ⌝ }
+    ensures { λ r. ⌜ PlainTo (now (src .entry)) escape at r ⌝ }
+{
+    let mut i = at;
+    while i < src.len() {
+        if is_plain(src[i], escape) {
+            i += 1;
+        } else {
+            return i;
+        }
+    }
+    i
+}
+
+// The end of a name, from a spot inside it that so many visible bytes of the name stand before.
+fn end_from(src: &[u8], g: Signs, p: Spot, before: usize) -> Closing
+    requires { ⌜ (p .at ≤ length (now src)) × (isInside (p .mode) ≡ true) × (before ≤ p .at) ⌝ }
+    ensures { λ r. ⌜ ClosingAfter before g (now (src .entry)) p r ⌝ }
 {
     let mut q = p;
     let mut n: usize = 0;
@@ -220,10 +249,47 @@ pub fn end_of_name(src: &[u8], g: Signs, p: Spot) -> Closing
                 }
                 q = r;
             }
-            NameStep::Close(r) => return Closing::Closed(name_refusal(n, visible), r),
+            NameStep::Close(r) => return Closing::Closed(name_refusal(before + n, visible), r),
             NameStep::Open => return Closing::Open,
         }
     }
+}
+
+// The end of a name, in quotes or not, from a spot inside it. Most names are plain bytes up to their `>`: they are passed as bytes, and what
+// stands elsewhere is read mark by mark.
+pub fn end_of_name(src: &[u8], g: Signs, p: Spot) -> Closing
+    requires { ⌜ (p .at ≤ length (now src)) × (isInside (p .mode) ≡ true) ⌝ }
+    ensures { λ r. ⌜ ClosingIs g (now (src .entry)) p r ⌝ }
+{
+    let at = plain_to(src, g.escape, p.at);
+    if at == p.at {
+        return end_from(src, g, p, 0);
+    }
+    let n = at - p.at;
+    if at < src.len() {
+        if src[at] == 62 {
+            if g.escape != 62 {
+                return Closing::Closed(
+                    name_refusal(n, true),
+                    Spot {
+                        at: at + 1,
+                        mode: p.mode - 1,
+                        fresh: false,
+                    },
+                );
+            }
+        }
+    }
+    end_from(
+        src,
+        g,
+        Spot {
+            at: at,
+            mode: p.mode,
+            fresh: false,
+        },
+        n,
+    )
 }
 
 // The end of quotes, from the spot after the opening `"`.
