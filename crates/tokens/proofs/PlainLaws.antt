@@ -1,7 +1,7 @@
--- Bytes that stand for themselves: at a spot outside comments, a byte that is no LF, no escape and opens no comment is the next mark.
+-- Plain bytes of a name: how far they go on, and the end of a name from them.
 use mathlib.Core.Path.{_≡_, refl, sym, _∙_}
 use mathlib.Core.Bool.{Bool, true, false, _&&_, not}
-use mathlib.Core.List.{List, [], _∷_}
+use mathlib.Core.List.{List, _∷_}
 use Prim.Native.Nat.{ℕ, zero, suc, _+_, _-_, _%_, _≤_, _<_}
 use native.Mathlib.Numerals.{add-one}
 use native.Mathlib.Omega.{arith}
@@ -16,35 +16,13 @@ use Rattle.rules.specs.Lines.{after}
 use Rattle.lines.specs.declared.Signs.{Signs}
 use Rattle.lines.specs.declared.Spot.{Spot}
 use Rattle.lines.specs.declared.Step.the-variants as step
-use Rattle.lines.specs.Stream.{MarkIs}
-use Rattle.lines.proofs.LineLaws.{spot, item-mark}
-use Rattle.lines.proofs.WalkLaws.{joined-none, joined-mark}
+use Rattle.lines.proofs.LineLaws.{spot}
 use Rattle.tokens.specs.declared.NameStep.the-variants as nameStep
 use Rattle.tokens.specs.declared.Closing.{Closing}
 use Rattle.tokens.specs.declared.Closing.the-variants as closing
 use Rattle.tokens.specs.Left.{isInside, isPlain, plainIn, PlainTo, NameCloses, NameEnds, ClosingAfter, ClosingIs}
+use Rattle.tokens.proofs.StandLaws.{Stands, stands-mark}
 use Rattle.tokens.proofs.NameLaws.{InName, name-none, name-more, name-joined, name-byte-here, name-close-here, inside-stays}
-
--- ## The next mark
-
--- A byte at a spot that is a mark of its own.
-pub record Stands (g : Signs) (src : List ℕ) (p : Spot) (b : ℕ) : Type 0 where
-  pub inside : p .at < length src
-  pub is : getD src (p .at) 0 ≡ b
-  pub small : b < 256
-  pub no-feed : b ≡ 10 → ⊥
-  pub no-escape : b ≡ g .escape → ⊥
-  pub seen : p .mode ≡ 4 → ⊥
-  pub no-comment : (eqb (p .mode) 0 && p .fresh && eqb b (g .comment)) ≡ false
-
-pub stands-mark : {g : Signs} {src : List ℕ} {p : Spot} {b mode : ℕ} {fresh : Bool} → Stands g src p b → mode ≡ after (p .mode) b → fresh ≡ isBlank b
-    → MarkIs g src p b (spot (p .at + 1) mode fresh)
-stands-mark {g} {src} {p} {b} v a f =
-    let e = v .is in
-    joined-mark (joined-none g src p (omega (arith, v .inside)))
-    (item-mark g src p (v .inside) (λ z. v .no-feed (sym e ∙ z)) (v .seen) (λ z. v .no-escape (sym e ∙ z)) {y = b}
-    refl (rw e (v .no-comment)) (rw e a) (rw e f) (sym e) (v .small))
-    refl
 
 -- ## Plain bytes of a name
 

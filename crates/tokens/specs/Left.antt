@@ -3,7 +3,7 @@ use mathlib.Core.Path.{_≡_}
 use mathlib.Core.Bool.{Bool, true, false, _&&_, _||_, not}
 use mathlib.Core.List.{List, [], _∷_}
 use Prim.Native.Nat.{ℕ, suc, _+_, _%_, _≤_, _<_}
-use lib.ListN.{length, drop}
+use lib.ListN.{length, getD, drop}
 use lib.Dec.{eqb, leb}
 use Rattle.rules.specs.Text.{if_then_else_, every, oneOf, _unless_, lower}
 use Rattle.rules.specs.Names.{isVisible, nameRefusal, namesRefusal}
@@ -93,6 +93,18 @@ plainIn escape (b ∷ bs) =
 pub record PlainTo (src : List ℕ) (escape at r : ℕ) : Type 0 where
   pub is : r ≡ at + plainIn escape (drop at src)
   pub to : r ≤ length src
+
+-- ## Bytes that stand for themselves in plain mode
+
+-- the byte at a place; 0 for the end, an LF, an escape, the comment character
+unfoldable pub plainAt : Signs → List ℕ → ℕ → ℕ
+plainAt g src at =
+    let b : ℕ = getD src at 0 in
+    if eqb b (g .escape) || eqb b (g .comment) || eqb b 10 then 0 else b
+
+pub record PlainAt (g : Signs) (src : List ℕ) (at r : ℕ) : Type 0 where
+  pub is : r ≡ plainAt g src at
+  pub small : r < 256
 
 -- ## Quotes
 
@@ -223,6 +235,10 @@ QuotesIs g src p quotes.Broken = tokensRefusal (tokensFrom (lexed [] quote [] []
 -- a token that is no more than its kind
 abbrev pub bareAt : ℕ → Spot → Tok
 bareAt kind next = record { kind = kind; next = next; inside = next; names = 0; refusal = 0; byte = 0 }
+
+-- a name's token
+abbrev pub namedAt : ℕ → Spot → Spot → Tok
+namedAt refusal inside next = record { kind = 5; next = next; inside = inside; names = 1; refusal = refusal; byte = 0 }
 
 -- A token and the spot after it. Of a word and of what a name or quotes hold the bytes are read from the spot itself, or from the spot
 -- after the first mark.

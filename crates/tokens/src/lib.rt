@@ -9,7 +9,7 @@ ghost use Rattle.rules.specs.Names.{isVisible};
 ghost use Rattle.rules.specs.Tokens.{inWord};
 ghost use Rattle.rules.specs.Lines.{outside, quoted};
 ghost use Rattle.lines.specs.Stream.{marksLeft};
-ghost use Rattle.tokens.specs.Left.{wordIn, isInside, isPlain, PlainTo, WordStepIs, WordEnds, NameStepIs, ClosingAfter, ClosingIs, QuotesIs, bareAt, NextIs, Skips};
+ghost use Rattle.tokens.specs.Left.{wordIn, isInside, isPlain, PlainTo, PlainAt, WordStepIs, WordEnds, NameStepIs, ClosingAfter, ClosingIs, QuotesIs, bareAt, namedAt, NextIs, Skips};
 use lines::Signs;
 use lines::Spot;
 use lines::Step;
@@ -340,8 +340,74 @@ fn bare(kind: u8, next: Spot) -> Tok
     }
 }
 
-// The next token of a line, at a spot where none is open.
+// A name's token: its refusal, the spot after its `<`, and the spot after its `>`.
+pub fn named(refusal: u8, inside: Spot, next: Spot) -> Tok
+    ensures { λ r. ⌜ r ≡ namedAt refusal inside next ⌝ }
+{
+    Tok {
+        kind: 5,
+        next: next,
+        inside: inside,
+        names: 1,
+        refusal: refusal,
+        byte: 0,
+    }
+}
+
+// The byte at a place; 0 where it might be no mark of its own in plain mode: the end, an LF, an escape, the comment character.
+pub fn plain_at(src: &[u8], g: Signs, at: usize) -> u8
+    ensures { λ r. ⌜ PlainAt g (now (src .entry)) at r ⌝ }
+{
+    if at < src.len() {
+        let b = src[at];
+        if b == g.escape {
+            return 0;
+        }
+        if b == g.comment {
+            return 0; // it may open a comment
+        }
+        if b == 10 {
+            return 0;
+        }
+        return b;
+    }
+    0
+}
+
+// The next token of a line, at a spot where none is open. A name and a `;` are told by one byte, anything else by the next mark.
 pub fn next_token(src: &[u8], g: Signs, p: Spot) -> Next
+    requires { ⌜ (p .at ≤ length (now src)) × (p .mode ≡ outside) ⌝ }
+    ensures { λ r. ⌜ NextIs g (now (src .entry)) p r ⌝ }
+{
+    let at = p.at;
+    let b = plain_at(src, g, at);
+    if b == 60 {
+        let q = Spot {
+            at: at + 1,
+            mode: 1,
+            fresh: false,
+        };
+        let c = end_of_name(src, g, q);
+        match c {
+            Closing::Closed(f, r) => return Next::Token(named(f, q, r)),
+            Closing::Open => return Next::Broken,
+        }
+    }
+    if b == 59 {
+        return Next::Token(bare(
+            1,
+            Spot {
+                at: at + 1,
+                mode: 0,
+                fresh: false,
+            },
+        ));
+    }
+    any_token(src, g, p)
+}
+
+// The same by the next mark.
+fn any_token(src: &[u8], g: Signs, p: Spot) -> Next
     requires { ⌜ (p .at ≤ length (now src)) × (p .mode ≡ outside) ⌝ }
     ensures { λ r. ⌜ NextIs g (now (src .entry)) p r ⌝ }
 {
@@ -352,16 +418,7 @@ pub fn next_token(src: &[u8], g: Signs, p: Spot) -> Next
             if m == 60 {
                 let c = end_of_name(src, g, q);
                 match c {
-                    Closing::Closed(f, r) => {
-                        return Next::Token(Tok {
-                            kind: 5,
-                            next: r,
-                            inside: q,
-                            names: 1,
-                            refusal: f,
-                            byte: 0,
-                        });
-                    }
+                    Closing::Closed(f, r) => return Next::Token(named(f, q, r)),
                     Closing::Open => return Next::Broken,
                 }
             }
@@ -411,8 +468,30 @@ pub fn next_token(src: &[u8], g: Signs, p: Spot) -> Next
     }
 }
 
-// The spot after the blanks that come next.
+// The spot after the blanks that come next. Most often there is none, or one, and a visible byte behind it.
 pub fn skip_gaps(src: &[u8], g: Signs, p: Spot) -> Spot
+    requires { ⌜ (p .at ≤ length (now src)) × (p .mode ≡ outside) ⌝ }
+    ensures { λ r. ⌜ Skips g (now (src .entry)) p r ⌝ }
+{
+    let at = p.at;
+    let b = plain_at(src, g, at);
+    if b > 32 {
+        return p;
+    }
+    if b == 32 {
+        if plain_at(src, g, at + 1) > 32 {
+            return Spot {
+                at: at + 1,
+                mode: 0,
+                fresh: true,
+            };
+        }
+    }
+    skip_all(src, g, p)
+}
+
+// The same by the next marks.
+fn skip_all(src: &[u8], g: Signs, p: Spot) -> Spot
     requires { ⌜ (p .at ≤ length (now src)) × (p .mode ≡ outside) ⌝ }
     ensures { λ r. ⌜ Skips g (now (src .entry)) p r ⌝ }
 {
