@@ -15,8 +15,9 @@ use Rattle.lines.specs.Stream.{marksLeft, blankFirst}
 use Rattle.tokens.specs.declared.Tok.{Tok}
 use Rattle.tokens.specs.declared.Next.{Next}
 use Rattle.tokens.specs.declared.Next.the-variants as next
-use Rattle.tokens.specs.Left.{tokensLeft, tokenThere, TokenIs, NextIs, Skips}
-use Rattle.tokens.proofs.GapLaws.{opening-gaps}
+use Rattle.tokens.specs.Left.{tokensLeft, tokenThere, PlainAt, TokenIs, NextIs, Skips}
+use Rattle.tokens.proofs.GapLaws.{opening-gaps, kept-first}
+use Rattle.tokens.proofs.AheadLaws.{ahead-solid}
 use Rattle.tokens.proofs.RefusalLaws.{refusal-broken}
 use Rattle.operands.specs.declared.Operand.{Operand}
 use Rattle.operands.specs.declared.Operand.the-variants as operand
@@ -24,7 +25,7 @@ use Rattle.operands.specs.declared.After.{After}
 use Rattle.operands.specs.declared.After.the-variants as after
 use Rattle.operands.specs.declared.One.{One}
 use Rattle.operands.specs.Operand.{operandsLeft, OperandAt, OperandIs, OperandsFrom, AfterIs, OneIs}
-use Rattle.operands.proofs.ListLaws.{blankless, opening-kind, operands-solid, operands-blank, operands-none, none-refused, some, none-broken}
+use Rattle.operands.proofs.ListLaws.{blankless, opening-kind, operands-solid, operands-blank, operands-none, none-refused, some, none-broken, some-kept}
 use Rattle.operands.proofs.BlankLaws.{skips-past}
 use Rattle.operands.proofs.NextLaws.{past-free}
 
@@ -139,3 +140,11 @@ module _ (g : Signs) (src : List ℕ) (glued : Bool) (p : Spot) {o : Operand} (v
 
   pub left-none : o ≡ operand.End → true ≡ eqb (length (operandsLeft g src glued p)) 0
   left-none e = let z : operandsLeft g src glued p ≡ [] = subst (OperandIs g src glued p) e v in rw z
+
+-- a visible byte is not the end
+pub left-solid : (g : Signs) (src : List ℕ) (glued : Bool) (p : Spot) → p .mode ≡ outside → {b : ℕ} → PlainAt g src (p .at) b → 32 < b
+    → false ≡ eqb (length (operandsLeft g src glued p)) 0
+unfolding operandsLeft tokensLeft
+left-solid g src glued p o {b} v l =
+    let m = ahead-solid g src p o v l in
+    sym (rw (m .marks) (some-kept glued (kept-first b (marksLeft g src _) (sym (m .step .fresh)))))

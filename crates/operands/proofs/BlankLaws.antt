@@ -2,7 +2,7 @@
 use mathlib.Core.Path.{_≡_, refl, sym, ap, _∙_, subst}
 use mathlib.Core.Bool.{Bool, true, false, false≢true}
 use mathlib.Core.List.{List, [], _∷_, _++_}
-use Prim.Native.Nat.{ℕ, _≤_}
+use Prim.Native.Nat.{ℕ, _≤_, _<_}
 use native.Mathlib.Omega.{arith}
 use lib.ListN.{length, length-append}
 use lib.Dec.{eqb}
@@ -10,6 +10,7 @@ use borrow.Author.Tests.{ne-eqb, eqb-true}
 use Rattle.lists.proofs.Bools.{by, and-intro}
 use Rattle.rules.specs.Text.{every}
 use Rattle.rules.specs.Names.{isBlank}
+use Rattle.rules.specs.Lines.{outside}
 use Rattle.rules.specs.Tokens.{isText, withoutBlanks}
 use Rattle.lines.specs.declared.Signs.{Signs}
 use Rattle.lines.specs.declared.Spot.{Spot}
@@ -17,7 +18,8 @@ use Rattle.lines.specs.declared.Step.{Step}
 use Rattle.lines.specs.declared.Step.the-variants as step
 use Rattle.lines.specs.Stream.{marksLeft, blankFirst, freshThrough, MarkIs, StepIs}
 use Rattle.lines.proofs.LineLaws.{run-marks}
-use Rattle.tokens.specs.Left.{Skips}
+use Rattle.tokens.specs.Left.{PlainAt, Skips}
+use Rattle.tokens.proofs.AheadLaws.{ahead-solid, ahead-space}
 
 -- ## Whether a blank comes next
 
@@ -34,6 +36,14 @@ module _ (g : Signs) (src : List ℕ) (p : Spot) {s : Step} (v : StepIs g src p 
 
     pub blank-other : (m ≡ 32 → ⊥) → eqb m 9 ≡ blankFirst (marksLeft g src p)
     blank-other h = rw (mark .marks) (simp (ne-eqb m 32 h))
+
+-- the next byte tells it
+module _ (g : Signs) (src : List ℕ) (p : Spot) (o : p .mode ≡ outside) {b : ℕ} (v : PlainAt g src (p .at) b) where
+  pub blank-solid : 32 < b → false ≡ blankFirst (marksLeft g src p)
+  blank-solid l = let m = ahead-solid g src p o v l in rw (m .marks) (m .step .fresh)
+
+  pub blank-ahead : b ≡ 32 → true ≡ blankFirst (marksLeft g src p)
+  blank-ahead e = rw (ahead-space g src p o v e .marks)
 
 -- ## Marks that hold only blanks
 

@@ -16,7 +16,7 @@ use Rattle.rules.specs.Tokens.{gap, broken, word, Token, token, tokenAt, noPart
 use Rattle.rules.proofs.TextLaws.{every-head, every-tail}
 use Rattle.lines.specs.Stream.{blankFirst}
 use Rattle.tokens.proofs.TokenLaws.{first-gap}
-use Rattle.tokens.proofs.GapLaws.{opening-gaps}
+use Rattle.tokens.proofs.GapLaws.{Kept, opening-gaps}
 use Rattle.tokens.proofs.RefusalLaws.{lower-none-left, lower-assoc, tokensRefusal-cons, refusal-broken, three-first, refusal-later}
 use Rattle.operands.proofs.TidyLaws.{tidy}
 
@@ -215,6 +215,15 @@ some t ts = ne-eqb (length (t ∷ ts)) 0 (λ e. omega arith)
 pub none-broken : (ts : List Token) → tokensRefusal ts ≡ 3 → eqb (length ts) 0 ≡ false
 none-broken [] e = absurd (nothing e)
 none-broken (t ∷ ts) e = some t ts
+
+-- a token that is no gap leaves one
+pub some-kept : (glued : Bool) {ts : List Token} → Kept ts → eqb (length (withoutGaps glued ts)) 0 ≡ false
+some-kept glued k =
+    let t = k .opens in
+    rw (k .whole)
+    (by (glued && isSolid t)
+    (λ a. none-broken (withoutGaps glued (t ∷ k .rest)) (gaps-glued glued t (k .rest) (and-left glued (isSolid t) a) (and-right glued (isSolid t) a)))
+    (λ a. rw (gaps-cons glued t (k .rest) (k .seen) a) (some t (withoutGaps (isSolid t) (k .rest)))))
 
 -- ## Refusals of lists
 

@@ -17,6 +17,7 @@ use tokens::Next;
 use tokens::Tok;
 use tokens::lower_of;
 use tokens::next_token;
+use tokens::plain_at;
 use tokens::skip_gaps;
 
 // The next operand: the spot where it begins, and its token. Broken: the operands still to come hold one that is malformed.
@@ -39,8 +40,23 @@ pub enum One {
     Other,
 }
 
-// Whether a blank comes next.
+// Whether a blank comes next: most often one byte tells it.
 fn blank_next(src: &[u8], g: Signs, p: Spot) -> bool
+    requires { ⌜ (p .at ≤ length (now src)) × (p .mode ≡ outside) ⌝ }
+    ensures { λ r. ⌜ r ≡ blankFirst (marksLeft g (now (src .entry)) p) ⌝ }
+{
+    let b = plain_at(src, g, p.at);
+    if b > 32 {
+        return false;
+    }
+    if b == 32 {
+        return true;
+    }
+    blank_mark(src, g, p)
+}
+
+// The same by the next mark.
+fn blank_mark(src: &[u8], g: Signs, p: Spot) -> bool
     requires { ⌜ p .at ≤ length (now src) ⌝ }
     ensures { λ r. ⌜ r ≡ blankFirst (marksLeft g (now (src .entry)) p) ⌝ }
 {
@@ -136,8 +152,19 @@ pub fn operands_refusal(src: &[u8], g: Signs, p: Spot) -> u8
     }
 }
 
-// Whether no operand is still to come.
+// Whether no operand is still to come: a visible byte tells that one is.
 pub fn none_left(src: &[u8], g: Signs, p: Spot, glued: bool) -> bool
+    requires { ⌜ (p .at ≤ length (now src)) × (p .mode ≡ outside) ⌝ }
+    ensures { λ r. ⌜ r ≡ eqb (length (operandsLeft g (now (src .entry)) glued p)) 0 ⌝ }
+{
+    if plain_at(src, g, p.at) > 32 {
+        return false;
+    }
+    none_after(src, g, p, glued)
+}
+
+// The same by the next operand.
+fn none_after(src: &[u8], g: Signs, p: Spot, glued: bool) -> bool
     requires { ⌜ (p .at ≤ length (now src)) × (p .mode ≡ outside) ⌝ }
     ensures { λ r. ⌜ r ≡ eqb (length (operandsLeft g (now (src .entry)) glued p)) 0 ⌝ }
 {

@@ -22,13 +22,19 @@ use Rattle.tokens.proofs.TokenLaws.{tokensFrom-out, first-gap, word-who
 
 -- ## The gaps that open a line
 
--- no gap opens them
-Kept : List Token → Type 0
-Kept ts = withoutOpeningGaps ts ≡ ts
+-- A token that is no gap opens them.
+pub record Kept (ts : List Token) : Type 0 where
+  pub opens : Token
+  pub rest : List Token
+  pub whole : ts ≡ opens ∷ rest
+  pub seen : opens .kind ≡ gap → ⊥
 
 kept-cons : (t : Token) (ts : List Token) → (t .kind ≡ gap → ⊥) → Kept (t ∷ ts)
-unfolding Kept withoutOpeningGaps
-kept-cons t ts h = simp (ne-eqb (t .kind) gap h)
+kept-cons t ts h = record { opens = t; rest = ts; whole = refl; seen = h }
+
+kept-same : {ts : List Token} → Kept ts → withoutOpeningGaps ts ≡ ts
+unfolding withoutOpeningGaps
+kept-same k = rw (k .whole) (simp (ne-eqb (k .opens .kind) gap (k .seen)))
 
 -- after a whole token that is no gap
 kept-token : (t : Token) (ms : List ℕ) → (t .kind ≡ gap → ⊥) → Kept (tokensFrom (noPart (t ∷ [])) ms)
@@ -55,7 +61,8 @@ kept-quotes t ns (m ∷ ms) =
       cond-both P (eqb m 62) (kept-quotes t (ns ++ t ∷ []) ms .0) (kept-quotes (t ++ m % 256 ∷ []) ns ms .1),
     )
 
-kept-first : (m : ℕ) (ms : List ℕ) → isBlank m ≡ false → Kept (tokensFrom (noPart []) (m ∷ ms))
+-- so it is where a mark that is no blank comes first
+pub kept-first : (m : ℕ) (ms : List ℕ) → isBlank m ≡ false → Kept (tokensFrom (noPart []) (m ∷ ms))
 unfolding tokensFrom lex lexNone
 kept-first m ms b =
     let P : Lexed → Type 0 = λ l. Kept (tokensFrom l ms) in
@@ -69,10 +76,10 @@ kept-first m ms b =
 
 -- the tokens without the gaps that open them are those of the marks without the blanks that open them
 pub opening-gaps : (ms : List ℕ) → tokensFrom (noPart []) (withoutBlanks ms) ≡ withoutOpeningGaps (tokensFrom (noPart []) ms)
-unfolding withoutBlanks withoutOpeningGaps Kept
+unfolding withoutBlanks withoutOpeningGaps
 opening-gaps [] = rw tokensFrom-none
 opening-gaps (m ∷ ms) =
-    by (isBlank m) (λ b. rw (b, first-gap m ms b) (opening-gaps ms)) (λ b. rw b (sym (kept-first m ms b)))
+    by (isBlank m) (λ b. rw (b, first-gap m ms b) (opening-gaps ms)) (λ b. rw b (sym (kept-same (kept-first m ms b))))
 
 -- ## Past the blanks at a spot
 

@@ -4,3 +4,6 @@ pub mod WordLaws
 pub mod NameLaws
 pub mod NextLaws
 pub mod GapLaws
+pub mod StandLaws
+pub mod PlainLaws
+pub mod AheadLaws

@@ -23,14 +23,14 @@ use Rattle.tokens.specs.declared.NameStep.{NameStep}
 use Rattle.tokens.specs.declared.NameStep.the-variants.{Byte, Close, Open}
 use Rattle.tokens.specs.declared.Closing.{Closing}
 use Rattle.tokens.specs.declared.Closing.the-variants as closing
-use Rattle.tokens.specs.Left.{tokensLeft, isClose, isInside, nameIn, afterName, namesIn, NameByte, NameCloses, NameOpen, NameStepIs, NameEnds, ClosingIs, QuotesEnd}
+use Rattle.tokens.specs.Left.{tokensLeft, isClose, isInside, nameIn, afterName, namesIn, NameByte, NameCloses, NameOpen, NameStepIs, NameEnds, NameEndsAfter, ClosingAfter, ClosingIs, QuotesEnd}
 use Rattle.tokens.proofs.TokenLaws.{quote-open, quote-close, quote-name, quote-name-open, quote-foul, namesIn-close, namesIn-name}
 use Rattle.tokens.proofs.RefusalLaws.{refusal-broken, namesRefusal-snoc}
 
 -- ## The next byte
 
 -- no byte but `>` leaves a name
-inside-stays : (mode m : ℕ) → isInside mode ≡ true → (m ≡ 62 → ⊥) → after mode m ≡ mode
+pub inside-stays : (mode m : ℕ) → isInside mode ≡ true → (m ≡ 62 → ⊥) → after mode m ≡ mode
 inside-stays mode m h n =
     by (eqb mode 1) (λ t. let e = eqb-true mode 1 t in sym (e ∙ after-name e n))
     (λ t. let e = eqb-true mode 3 (rw t at h) in sym (e ∙ after-inner e n))
@@ -139,9 +139,9 @@ module _ {g : Signs} {src : List ℕ} {p q : Spot} {n : ℕ} {visible : Bool} {s
   pub name-foul : {b : ℕ} {r : Spot} → s ≡ Byte b r → visible ≡ false → InName g src p r (n + 1) visible
   name-foul e f = name-on e (rw f)
 
-  pub name-ends : {r : Spot} {f : ℕ} → s ≡ Close r → f ≡ lower (3 unless (leb 1 n && visible)) (7 unless leb n 32) → NameEnds g src p f r
-  unfolding nameRefusal every
-  name-ends {r} {f} e h =
+  pub name-ends : {k f : ℕ} {r : Spot} → s ≡ Close r → f ≡ lower (3 unless (leb 1 (k + n) && visible)) (7 unless leb (k + n) 32) → NameEndsAfter k g src p f r
+  unfolding every
+  name-ends {k} {f} {r} e h =
       let x : NameCloses g src q r = subst (NameStepIs g src q) e w in
       let l : length (nameIn (marksLeft g src p)) ≡ n = v .long ∙ rw (x .bytes) (omega arith) in
       let c : every isVisible (nameIn (marksLeft g src p)) ≡ visible = v .clean ∙ rw (x .bytes) (and-true visible) in
@@ -153,12 +153,28 @@ module _ {g : Signs} {src : List ℕ} {p q : Spot} {n : ℕ} {visible : Bool} {s
         edge = x .edge;
         long = omega (arith, v .from, x .on, l);
         walk = walk-then (v .walk) (x .walk);
-        on = omega (arith, v .from, x .on);
         to = x .to;
       }
 
   pub name-left-open : s ≡ Open → oneOf isClose (marksLeft g src p) ≡ false
   name-left-open e = let x : NameOpen g src q = subst (NameStepIs g src q) e w in v .closes ∙ x .closes
+
+-- visible bytes of a name, and its end behind them
+pub name-joined : {g : Signs} {src : List ℕ} {p q : Spot} {n : ℕ} → InName g src p q n true → (c : Closing) → ClosingAfter n g src q c → ClosingIs g src p c
+unfolding nameRefusal
+name-joined v (closing.Closed f r) w =
+    record {
+      refusal = rw (v .long, v .clean) (w .refusal);
+      after = v .after ∙ w .after;
+      closes = v .closes ∙ w .closes;
+      mode = w .mode ∙ rw (v .mode);
+      edge = w .edge;
+      long = omega (arith, v .long, v .from, w .long);
+      on = omega (arith, v .from, w .long);
+      walk = walk-then (v .walk) (w .walk);
+      to = w .to;
+    }
+name-joined v closing.Open w = v .closes ∙ w
 
 -- ## To the end of quotes
 

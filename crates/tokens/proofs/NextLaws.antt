@@ -21,7 +21,7 @@ use Rattle.tokens.specs.declared.Closing.the-variants as closing
 use Rattle.tokens.specs.declared.Quotes.{Quotes}
 use Rattle.tokens.specs.declared.Quotes.the-variants as quotes
 use Rattle.tokens.specs.declared.Tok.{Tok}
-use Rattle.tokens.specs.Left.{tokensLeft, tokenThere, wordIn, isClose, isInside, nameIn, namesIn, WordEnds, NameEnds, ClosingIs, QuotesEnd, QuotesIs, bareAt, TokenIs}
+use Rattle.tokens.specs.Left.{tokensLeft, tokenThere, wordIn, isClose, isInside, nameIn, namesIn, WordEnds, NameEnds, ClosingIs, QuotesEnd, QuotesIs, bareAt, namedAt, TokenIs}
 use Rattle.tokens.proofs.WordLaws.{unblank, wide-unblank}
 use Rattle.tokens.proofs.TokenLaws.{first-gap, first-semi, first-comma, first-name, first-quote, first-dead, first-word, word-whole, name-closed, name-open}
 use Rattle.tokens.proofs.RefusalLaws.{refusal-broken, refusal-name, refusal-empty, refusal-quote, tokensRefusal-cons, three-first}
@@ -190,16 +190,15 @@ module _ (g : Signs) (src : List ℕ) (p : Spot) where
             let z : oneOf isClose (marksLeft g src q) ≡ false = subst (ClosingIs g src q) f k in
             rw (from-mark, first-name m (marksLeft g src q) h, name-open [] (marksLeft g src q) z) (refusal-broken (token broken [] []) [] refl)
 
-        pub next-name : {f : ℕ} {r : Spot} → c ≡ closing.Closed f r
-            → TokenIs g src p (record { kind = 5; next = r; inside = q; names = 1; refusal = f; byte = 0 })
+        pub next-name : {f : ℕ} {r : Spot} → c ≡ closing.Closed f r → {t : Tok} → t ≡ namedAt f q r → TokenIs g src p t
         unfolding tokensLeft after
-        next-name {f} {r} i =
+        next-name {f} {r} i j =
             let z : NameEnds g src q f r = subst (ClosingIs g src q) i k in
             let ms = marksLeft g src q in
             let l : tokensLeft g src p ≡ token name [] (nameIn ms ∷ []) ∷ tokensLeft g src r =
             from-mark ∙ first-name m ms h ∙ name-closed [] ms (z .closes) ∙ rw (z .after) in
             let t = there l in
-            record {
+            rw j (record {
               first = first l;
               kind = rw t;
               names = rw t;
@@ -220,7 +219,7 @@ module _ (g : Signs) (src : List ℕ) (p : Spot) where
               on = omega (arith, mark .on, z .on);
               to = z .to;
               inside = mark .to;
-            }
+            })
 
     -- ### Quotes
 

@@ -1,12 +1,12 @@
 -- The tokens of a line as code reads them: what is still to come at a spot is the paper's own list (Rattle.rules.specs.Tokens).
 use mathlib.Core.Path.{_≡_}
-use mathlib.Core.Bool.{Bool, true, false, _||_, not}
+use mathlib.Core.Bool.{Bool, true, false, _&&_, _||_, not}
 use mathlib.Core.List.{List, [], _∷_}
-use Prim.Native.Nat.{ℕ, _+_, _%_, _≤_, _<_}
-use lib.ListN.{length}
-use lib.Dec.{eqb}
-use Rattle.rules.specs.Text.{if_then_else_, oneOf}
-use Rattle.rules.specs.Names.{nameRefusal, namesRefusal}
+use Prim.Native.Nat.{ℕ, suc, _+_, _%_, _≤_, _<_}
+use lib.ListN.{length, getD, drop}
+use lib.Dec.{eqb, leb}
+use Rattle.rules.specs.Text.{if_then_else_, every, oneOf, _unless_, lower}
+use Rattle.rules.specs.Names.{isVisible, nameRefusal, namesRefusal}
 use Rattle.rules.specs.Lines as lines
 use Rattle.rules.specs.Lines.{outside, inName, quoted, quotedName}
 use Rattle.rules.specs.Tokens as tokens
@@ -75,6 +75,36 @@ afterName [] = []
 afterName (m ∷ ms) =
     let r : List ℕ = afterName ms in
     if isClose m then ms else r
+
+-- ### Bytes that stand for themselves in a name
+
+-- with this escape: visible, no `>` and no escape
+abbrev pub isPlain : ℕ → ℕ → Bool
+isPlain escape b = isVisible b && not (isClose b) && not (eqb b escape)
+
+-- how many of them come first
+unfoldable pub plainIn : ℕ → List ℕ → ℕ
+plainIn escape [] = 0
+plainIn escape (b ∷ bs) =
+    let r : ℕ = plainIn escape bs in
+    if isPlain escape b then suc r else 0
+
+-- The place up to which they go on.
+pub record PlainTo (src : List ℕ) (escape at r : ℕ) : Type 0 where
+  pub is : r ≡ at + plainIn escape (drop at src)
+  pub to : r ≤ length src
+
+-- ## Bytes that stand for themselves in plain mode
+
+-- the byte at a place; 0 for the end, an LF, an escape, the comment character
+unfoldable pub plainAt : Signs → List ℕ → ℕ → ℕ
+plainAt g src at =
+    let b : ℕ = getD src at 0 in
+    if eqb b (g .escape) || eqb b (g .comment) || eqb b 10 then 0 else b
+
+pub record PlainAt (g : Signs) (src : List ℕ) (at r : ℕ) : Type 0 where
+  pub is : r ≡ plainAt g src at
+  pub small : r < 256
 
 -- ## Quotes
 
@@ -170,6 +200,21 @@ abbrev pub ClosingIs : Signs → List ℕ → Spot → Closing → Type 0
 ClosingIs g src p (closing.Closed r q) = NameEnds g src p r q
 ClosingIs g src p closing.Open = oneOf isClose (marksLeft g src p) ≡ false
 
+-- The same of a name with k visible bytes more, which stand before p.
+pub record NameEndsAfter (k : ℕ) (g : Signs) (src : List ℕ) (p : Spot) (r : ℕ) (q : Spot) : Type 0 where
+  pub refusal : lower (3 unless (leb 1 (k + length (nameIn (marksLeft g src p))) && every isVisible (nameIn (marksLeft g src p)))) (7 unless leb (k + length (nameIn (marksLeft g src p))) 32) ≡ r
+  pub after : afterName (marksLeft g src p) ≡ marksLeft g src q
+  pub closes : oneOf isClose (marksLeft g src p) ≡ true
+  pub mode : q .mode ≡ lines.after (p .mode) 62
+  pub edge : q .fresh ≡ false
+  pub long : length (nameIn (marksLeft g src p)) + p .at < q .at
+  pub walk : Walk g src p q
+  pub to : q .at ≤ length src
+
+abbrev pub ClosingAfter : ℕ → Signs → List ℕ → Spot → Closing → Type 0
+ClosingAfter k g src p (closing.Closed r q) = NameEndsAfter k g src p r q
+ClosingAfter k g src p closing.Open = oneOf isClose (marksLeft g src p) ≡ false
+
 -- Quotes that hold names only, from the spot after the opening `"`: how many, their lowest refusal, and the spot after the closing one.
 pub record QuotesEnd (g : Signs) (src : List ℕ) (p : Spot) (n r : ℕ) (q : Spot) : Type 0 where
   pub token : tokensFrom (lexed [] quote [] []) (marksLeft g src p) ≡ token quote [] (namesIn (marksLeft g src p)) ∷ tokensLeft g src q
@@ -190,6 +235,10 @@ QuotesIs g src p quotes.Broken = tokensRefusal (tokensFrom (lexed [] quote [] []
 -- a token that is no more than its kind
 abbrev pub bareAt : ℕ → Spot → Tok
 bareAt kind next = record { kind = kind; next = next; inside = next; names = 0; refusal = 0; byte = 0 }
+
+-- a name's token
+abbrev pub namedAt : ℕ → Spot → Spot → Tok
+namedAt refusal inside next = record { kind = 5; next = next; inside = inside; names = 1; refusal = refusal; byte = 0 }
 
 -- A token and the spot after it. Of a word and of what a name or quotes hold the bytes are read from the spot itself, or from the spot
 -- after the first mark.

@@ -9,7 +9,7 @@ ghost use Rattle.rules.specs.Names.{isVisible};
 ghost use Rattle.rules.specs.Tokens.{inWord};
 ghost use Rattle.rules.specs.Lines.{outside, quoted};
 ghost use Rattle.lines.specs.Stream.{marksLeft};
-ghost use Rattle.tokens.specs.Left.{wordIn, isInside, WordStepIs, WordEnds, NameStepIs, ClosingIs, QuotesIs, bareAt, NextIs, Skips};
+ghost use Rattle.tokens.specs.Left.{wordIn, isInside, isPlain, PlainTo, PlainAt, WordStepIs, WordEnds, NameStepIs, ClosingAfter, ClosingIs, QuotesIs, bareAt, namedAt, NextIs, Skips};
 use lines::Signs;
 use lines::Spot;
 use lines::Step;
@@ -202,10 +202,39 @@ pub fn lower_of(a: u8, b: u8) -> u8
     b
 }
 
-// The end of a name, in quotes or not, from a spot inside it.
-pub fn end_of_name(src: &[u8], g: Signs, p: Spot) -> Closing
-    requires { ⌜ (p .at ≤ length (now src)) × (isInside (p .mode) ≡ true) ⌝ }
-    ensures { λ r. ⌜ ClosingIs g (now (src .entry)) p r ⌝ }
+// Whether a byte stands for itself in a name and leaves it open, with this escape.
+fn is_plain(b: u8, escape: u8) -> bool
+    ensures { λ r. ⌜ r ≡ isPlain escape b ⌝ }
+{
+    if is_visible(b) {
+        if b == 62 {
+            return false;
+        }
+        return b != escape;
+    }
+    false
+}
+
+// How far such bytes go on from a place.
+fn plain_to(src: &[u8], escape: u8, at: usize) -> usize
+    requires { ⌜ at ≤ length (now src) ⌝ }
+    ensures { λ r. ⌜ PlainTo (now (src .entry)) escape at r ⌝ }
+{
+    let mut i = at;
+    while i < src.len() {
+        if is_plain(src[i], escape) {
+            i += 1;
+        } else {
+            return i;
+        }
+    }
+    i
+}
+
+// The end of a name, from a spot inside it that so many visible bytes of the name stand before.
+fn end_from(src: &[u8], g: Signs, p: Spot, before: usize) -> Closing
+    requires { ⌜ (p .at ≤ length (now src)) × (isInside (p .mode) ≡ true) × (before ≤ p .at) ⌝ }
+    ensures { λ r. ⌜ ClosingAfter before g (now (src .entry)) p r ⌝ }
 {
     let mut q = p;
     let mut n: usize = 0;
@@ -220,10 +249,47 @@ pub fn end_of_name(src: &[u8], g: Signs, p: Spot) -> Closing
                 }
                 q = r;
             }
-            NameStep::Close(r) => return Closing::Closed(name_refusal(n, visible), r),
+            NameStep::Close(r) => return Closing::Closed(name_refusal(before + n, visible), r),
             NameStep::Open => return Closing::Open,
         }
     }
+}
+
+// The end of a name, in quotes or not, from a spot inside it. Most names are plain bytes up to their `>`: they are passed as bytes, and what
+// stands elsewhere is read mark by mark.
+pub fn end_of_name(src: &[u8], g: Signs, p: Spot) -> Closing
+    requires { ⌜ (p .at ≤ length (now src)) × (isInside (p .mode) ≡ true) ⌝ }
+    ensures { λ r. ⌜ ClosingIs g (now (src .entry)) p r ⌝ }
+{
+    let at = plain_to(src, g.escape, p.at);
+    if at == p.at {
+        return end_from(src, g, p, 0);
+    }
+    let n = at - p.at;
+    if at < src.len() {
+        if src[at] == 62 {
+            if g.escape != 62 {
+                return Closing::Closed(
+                    name_refusal(n, true),
+                    Spot {
+                        at: at + 1,
+                        mode: p.mode - 1,
+                        fresh: false,
+                    },
+                );
+            }
+        }
+    }
+    end_from(
+        src,
+        g,
+        Spot {
+            at: at,
+            mode: p.mode,
+            fresh: false,
+        },
+        n,
+    )
 }
 
 // The end of quotes, from the spot after the opening `"`.
@@ -274,8 +340,74 @@ fn bare(kind: u8, next: Spot) -> Tok
     }
 }
 
-// The next token of a line, at a spot where none is open.
+// A name's token: its refusal, the spot after its `<`, and the spot after its `>`.
+pub fn named(refusal: u8, inside: Spot, next: Spot) -> Tok
+    ensures { λ r. ⌜ r ≡ namedAt refusal inside next ⌝ }
+{
+    Tok {
+        kind: 5,
+        next: next,
+        inside: inside,
+        names: 1,
+        refusal: refusal,
+        byte: 0,
+    }
+}
+
+// The byte at a place; 0 where it might be no mark of its own in plain mode: the end, an LF, an escape, the comment character.
+pub fn plain_at(src: &[u8], g: Signs, at: usize) -> u8
+    ensures { λ r. ⌜ PlainAt g (now (src .entry)) at r ⌝ }
+{
+    if at < src.len() {
+        let b = src[at];
+        if b == g.escape {
+            return 0;
+        }
+        if b == g.comment {
+            return 0; // it may open a comment
+        }
+        if b == 10 {
+            return 0;
+        }
+        return b;
+    }
+    0
+}
+
+// The next token of a line, at a spot where none is open. A name and a `;` are told by one byte, anything else by the next mark.
 pub fn next_token(src: &[u8], g: Signs, p: Spot) -> Next
+    requires { ⌜ (p .at ≤ length (now src)) × (p .mode ≡ outside) ⌝ }
+    ensures { λ r. ⌜ NextIs g (now (src .entry)) p r ⌝ }
+{
+    let at = p.at;
+    let b = plain_at(src, g, at);
+    if b == 60 {
+        let q = Spot {
+            at: at + 1,
+            mode: 1,
+            fresh: false,
+        };
+        let c = end_of_name(src, g, q);
+        match c {
+            Closing::Closed(f, r) => return Next::Token(named(f, q, r)),
+            Closing::Open => return Next::Broken,
+        }
+    }
+    if b == 59 {
+        return Next::Token(bare(
+            1,
+            Spot {
+                at: at + 1,
+                mode: 0,
+                fresh: false,
+            },
+        ));
+    }
+    any_token(src, g, p)
+}
+
+// The same by the next mark.
+fn any_token(src: &[u8], g: Signs, p: Spot) -> Next
     requires { ⌜ (p .at ≤ length (now src)) × (p .mode ≡ outside) ⌝ }
     ensures { λ r. ⌜ NextIs g (now (src .entry)) p r ⌝ }
 {
@@ -286,16 +418,7 @@ pub fn next_token(src: &[u8], g: Signs, p: Spot) -> Next
             if m == 60 {
                 let c = end_of_name(src, g, q);
                 match c {
-                    Closing::Closed(f, r) => {
-                        return Next::Token(Tok {
-                            kind: 5,
-                            next: r,
-                            inside: q,
-                            names: 1,
-                            refusal: f,
-                            byte: 0,
-                        });
-                    }
+                    Closing::Closed(f, r) => return Next::Token(named(f, q, r)),
                     Closing::Open => return Next::Broken,
                 }
             }
@@ -345,8 +468,30 @@ pub fn next_token(src: &[u8], g: Signs, p: Spot) -> Next
     }
 }
 
-// The spot after the blanks that come next.
+// The spot after the blanks that come next. Most often there is none, or one, and a visible byte behind it.
 pub fn skip_gaps(src: &[u8], g: Signs, p: Spot) -> Spot
+    requires { ⌜ (p .at ≤ length (now src)) × (p .mode ≡ outside) ⌝ }
+    ensures { λ r. ⌜ Skips g (now (src .entry)) p r ⌝ }
+{
+    let at = p.at;
+    let b = plain_at(src, g, at);
+    if b > 32 {
+        return p;
+    }
+    if b == 32 {
+        if plain_at(src, g, at + 1) > 32 {
+            return Spot {
+                at: at + 1,
+                mode: 0,
+                fresh: true,
+            };
+        }
+    }
+    skip_all(src, g, p)
+}
+
+// The same by the next marks.
+fn skip_all(src: &[u8], g: Signs, p: Spot) -> Spot
     requires { ⌜ (p .at ≤ length (now src)) × (p .mode ≡ outside) ⌝ }
     ensures { λ r. ⌜ Skips g (now (src .entry)) p r ⌝ }
 {

@@ -2,5 +2,6 @@ pub mod LateLaws
 pub mod MadeLaws
 pub mod SplitLaws
 pub mod NextLaws
+pub mod NamedLaws
 pub mod ByLaws
 pub mod WeightLaws

@@ -8,7 +8,11 @@ use lines::Signs;
 use lines::Spot;
 use operands::Operand;
 use operands::next_operand;
+use tokens::Closing;
 use tokens::Tok;
+use tokens::end_of_name;
+use tokens::named;
+use tokens::plain_at;
 
 // The next operand: whether a `;` follows it, and the spot after that. One: the spot where its one token begins, and the token. Bad: the
 // operands still to come are malformed, whatever their names stand for.
@@ -44,8 +48,51 @@ fn after_token(src: &[u8], g: Signs, p: Spot, glued: bool) -> Tail
     }
 }
 
-// The operand that begins at a spot, up to the next `;` or the end.
+// The operand that begins at a spot, up to the next `;` or the end. Most are a name with a `;` or the line's LF right behind it: those are told
+// by one byte before and one behind.
 pub fn next_weight(src: &[u8], g: Signs, p: Spot) -> Weight
+    requires { ⌜ (p .at ≤ length (now src)) × (p .mode ≡ outside) ⌝ }
+    ensures { λ r. ⌜ WeightIs g (now (src .entry)) p r ⌝ }
+{
+    let at = p.at;
+    if plain_at(src, g, at) == 60 {
+        let q = Spot {
+            at: at + 1,
+            mode: 1,
+            fresh: false,
+        };
+        let c = end_of_name(src, g, q);
+        match c {
+            Closing::Open => return Weight::Bad,
+            Closing::Closed(f, r) => {
+                let t = named(f, q, r);
+                let e = r.at;
+                if e < src.len() {
+                    if src[e] == 10 {
+                        return Weight::One(p, t, false, r);
+                    }
+                    if plain_at(src, g, e) == 59 {
+                        return Weight::One(
+                            p,
+                            t,
+                            true,
+                            Spot {
+                                at: e + 1,
+                                mode: 0,
+                                fresh: false,
+                            },
+                        );
+                    }
+                }
+                return any_weight(src, g, p);
+            }
+        }
+    }
+    any_weight(src, g, p)
+}
+
+// The same by the next operand and what follows it.
+fn any_weight(src: &[u8], g: Signs, p: Spot) -> Weight
     requires { ⌜ (p .at ≤ length (now src)) × (p .mode ≡ outside) ⌝ }
     ensures { λ r. ⌜ WeightIs g (now (src .entry)) p r ⌝ }
 {

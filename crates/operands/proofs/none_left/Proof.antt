@@ -1,31 +1,20 @@
--- `operands::none_left` meets its contract.
-use Rattle.operands.proofs.AfterLaws.{left-some, left-broken, left-none}
+-- `operands::none_left` meets its contract: a law for a visible byte.
+use Rattle.operands.proofs.AfterLaws.{left-solid}
 use borrow.Author.Needs.{needs}
 use Rattle.operands.proofs.none_left.Statement.{statement}
 use Rattle.operands.proofs.none_left.Tie as tie
 
-next-operand-requires : tie.Need-next-operand-requires
-next-operand-requires c κs = search needs
-
-enum-told : tie.Need-enum-told
-enum-told c = search needs
+plain-at-requires : tie.Need-plain-at-requires
+plain-at-requires c κs = search needs
 
 returns : tie.Need-returns
-returns c = search left-some
+returns c = search left-solid
 
-enum-told-2 : tie.Need-enum-told-2
-enum-told-2 c = search needs
+none-after-requires : tie.Need-none-after-requires
+none-after-requires c κs = search needs
 
 returns-2 : tie.Need-returns-2
-returns-2 c = search left-broken
-
-enum-told-3 : tie.Need-enum-told-3
-enum-told-3 c = search needs
-
-returns-3 : tie.Need-returns-3
-returns-3 c = search left-none
+returns-2 c = search needs
 
 pub none-left-spec : {M : Type 1} → statement M
-none-left-spec =
-    tie.close
-    (tie.spec next-operand-requires enum-told returns enum-told-2 returns-2 enum-told-3 returns-3)
+none-left-spec = tie.close (tie.spec plain-at-requires returns none-after-requires returns-2)

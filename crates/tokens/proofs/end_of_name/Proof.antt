@@ -1,76 +1,54 @@
--- `tokens::end_of_name` meets its contract. The invariant: so many bytes of the name are read. The measure is what is left of the source.
-use Rattle.tokens.proofs.NameLaws.{InName, name-none, name-less, name-more, name-foul, name-ends, name-left-open}
-use Prim.Native.Nat.{_-_}
-use lib.ListN.{length}
+-- `tokens::end_of_name` meets its contract: a law for each answer.
+use Rattle.tokens.proofs.PlainLaws.{plain-mode, plain-none, plain-closed, plain-then}
 use borrow.Author.Needs.{needs}
 use Rattle.tokens.proofs.end_of_name.Statement.{statement}
 use Rattle.tokens.proofs.end_of_name.Tie as tie
 
-abbrev Inv-loop : tie.InvT-loop
-Inv-loop src g q₀ n₀ visible₀ q n visible = InName g src q₀ q n visible
+plain-to-requires : tie.Need-plain-to-requires
+plain-to-requires c κs = search needs
 
-abbrev μ-loop : tie.MeasureT-loop
-μ-loop src g q₀ n₀ visible₀ q n visible = length src - q .at
+end-from-requires : tie.Need-end-from-requires
+end-from-requires c κs = search needs
 
-loop-holds : tie.Need-loop-holds Inv-loop μ-loop
-loop-holds c = search name-none
+returns : tie.Need-returns
+returns c = search plain-none
 
-name-byte-requires : tie.Need-name-byte-requires Inv-loop μ-loop
-name-byte-requires c κs = search needs
+sub-n : tie.Need-sub-n
+sub-n c = search needs
 
-enum-known-s : tie.Need-enum-known-s Inv-loop μ-loop
-enum-known-s c = search needs
+shared-slice-read-if3 : tie.Need-shared-slice-read-if3
+shared-slice-read-if3 c = search needs
 
-add-n : tie.Need-add-n Inv-loop μ-loop
-add-n c = search needs
-
-is-visible-requires : tie.Need-is-visible-requires Inv-loop μ-loop
-is-visible-requires c κs = search needs
-
-loop-less : tie.Need-loop-less Inv-loop μ-loop
-loop-less c = search name-less
-
-loop-again : tie.Need-loop-again Inv-loop μ-loop
-loop-again c = search name-more
-
-loop-less-2 : tie.Need-loop-less-2 Inv-loop μ-loop
-loop-less-2 c = search name-less
-
-loop-again-2 : tie.Need-loop-again-2 Inv-loop μ-loop
-loop-again-2 c = search name-foul
-
-enum-known-s-2 : tie.Need-enum-known-s-2 Inv-loop μ-loop
-enum-known-s-2 c = search needs
-
-name-refusal-requires : tie.Need-name-refusal-requires Inv-loop μ-loop
+name-refusal-requires : tie.Need-name-refusal-requires
 name-refusal-requires c κs = search needs
 
-returns : tie.Need-returns Inv-loop μ-loop
-returns c = search name-ends
+add-t13 : tie.Need-add-t13
+add-t13 c = search needs
 
-enum-told : tie.Need-enum-told Inv-loop μ-loop
-enum-told c = search needs
+sub-t14 : tie.Need-sub-t14
+sub-t14 c = search plain-mode
 
-returns-2 : tie.Need-returns-2 Inv-loop μ-loop
-returns-2 c = search name-left-open
+returns-2 : tie.Need-returns-2
+returns-2 c = search plain-closed
+
+end-from-requires-2 : tie.Need-end-from-requires-2
+end-from-requires-2 c κs = search needs
+
+returns-3 : tie.Need-returns-3
+returns-3 c = search plain-then
 
 pub end-of-name-spec : {M : Type 1} → statement M
 end-of-name-spec =
     tie.close
     (tie.spec
-    Inv-loop
-    μ-loop
-    loop-holds
-    name-byte-requires
-    enum-known-s
-    add-n
-    is-visible-requires
-    loop-less
-    loop-again
-    loop-less-2
-    loop-again-2
-    enum-known-s-2
-    name-refusal-requires
+    plain-to-requires
+    end-from-requires
     returns
-    enum-told
-    returns-2)
+    sub-n
+    shared-slice-read-if3
+    name-refusal-requires
+    add-t13
+    sub-t14
+    returns-2
+    end-from-requires-2
+    returns-3)

@@ -1,60 +1,42 @@
--- `tokens::skip_gaps` meets its contract. The invariant: only blanks are passed. The measure is what is left of the source.
-use Rattle.tokens.proofs.GapLaws.{InBlanks, blanks-none, blanks-end, blanks-less, blanks-space, blanks-tab, blanks-stop, no-blank}
-use Prim.Native.Nat.{_-_}
-use lib.ListN.{length}
+-- `tokens::skip_gaps` meets its contract: a law for no blank, and for one.
+use Rattle.tokens.proofs.AheadLaws.{ahead-none, ahead-one}
 use borrow.Author.Needs.{needs}
 use Rattle.tokens.proofs.skip_gaps.Statement.{statement}
 use Rattle.tokens.proofs.skip_gaps.Tie as tie
 
-abbrev Inv-loop : tie.InvT-loop
-Inv-loop src g q₀ q = InBlanks g src q₀ q
+plain-at-requires : tie.Need-plain-at-requires
+plain-at-requires c κs = search needs
 
-abbrev μ-loop : tie.MeasureT-loop
-μ-loop src g q₀ q = length src - q .at
+returns : tie.Need-returns
+returns c = search ahead-none
 
-loop-holds : tie.Need-loop-holds Inv-loop μ-loop
-loop-holds c = search blanks-none
+add-plain-at : tie.Need-add-plain-at
+add-plain-at c = search needs
 
-next-mark-requires : tie.Need-next-mark-requires Inv-loop μ-loop
-next-mark-requires c κs = search needs
+plain-at-requires-2 : tie.Need-plain-at-requires-2
+plain-at-requires-2 c κs = search needs
 
-enum-told : tie.Need-enum-told Inv-loop μ-loop
-enum-told c = search needs
+add-t10 : tie.Need-add-t10
+add-t10 c = search needs
 
-returns : tie.Need-returns Inv-loop μ-loop
-returns c = search blanks-end
+returns-2 : tie.Need-returns-2
+returns-2 c = search ahead-one
 
-enum-known-s : tie.Need-enum-known-s Inv-loop μ-loop
-enum-known-s c = search needs
+skip-all-requires : tie.Need-skip-all-requires
+skip-all-requires c κs = search needs
 
-loop-less : tie.Need-loop-less Inv-loop μ-loop
-loop-less c = search blanks-less
-
-loop-again : tie.Need-loop-again Inv-loop μ-loop
-loop-again c = search blanks-space
-
-loop-less-2 : tie.Need-loop-less-2 Inv-loop μ-loop
-loop-less-2 c = search blanks-less
-
-loop-again-2 : tie.Need-loop-again-2 Inv-loop μ-loop
-loop-again-2 c = search blanks-tab
-
-returns-2 : tie.Need-returns-2 Inv-loop μ-loop
-returns-2 c = search (blanks-stop, no-blank)
+returns-3 : tie.Need-returns-3
+returns-3 c = search needs
 
 pub skip-gaps-spec : {M : Type 1} → statement M
 skip-gaps-spec =
     tie.close
     (tie.spec
-    Inv-loop
-    μ-loop
-    loop-holds
-    next-mark-requires
-    enum-told
+    plain-at-requires
     returns
-    enum-known-s
-    loop-less
-    loop-again
-    loop-less-2
-    loop-again-2
-    returns-2)
+    add-plain-at
+    plain-at-requires-2
+    add-t10
+    returns-2
+    skip-all-requires
+    returns-3)

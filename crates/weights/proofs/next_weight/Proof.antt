@@ -1,69 +1,75 @@
--- `weights::next_weight` meets its contract: a law for each way to return.
-use Rattle.weights.proofs.NextLaws.{weight-end, weight-broken, weight-empty, weight-last, weight-bad, weight-one}
-use Rattle.operands.proofs.AfterLaws.{next-plain}
-use mathlib.Core.Bool.{false}
+-- `weights::next_weight` meets its contract: a law for a name that is left open, and for one with an LF or a `;` right behind it.
+use Rattle.weights.proofs.NamedLaws.{named-open, named-last, named-more}
+use Rattle.tokens.proofs.AheadLaws.{ahead-inside}
 use borrow.Author.Needs.{needs}
 use Rattle.weights.proofs.next_weight.Statement.{statement}
 use Rattle.weights.proofs.next_weight.Tie as tie
 
-next-operand-requires : tie.Need-next-operand-requires
-next-operand-requires c κs = search needs
+plain-at-requires : tie.Need-plain-at-requires
+plain-at-requires c κs = search needs
+
+add-t13 : tie.Need-add-t13
+add-t13 c = search needs
+
+end-of-name-requires : tie.Need-end-of-name-requires
+end-of-name-requires c κs = let a = c .before .before .before .args in search (ahead-inside (a .g) (a .src .now) (a .p))
 
 enum-told : tie.Need-enum-told
 enum-told c = search needs
 
 returns : tie.Need-returns
-returns c = search weight-end
+returns c = search named-open
 
-enum-told-2 : tie.Need-enum-told-2
-enum-told-2 c = search needs
+enum-known-c : tie.Need-enum-known-c
+enum-known-c c = search needs
+
+named-requires : tie.Need-named-requires
+named-requires c κs = search needs
+
+shared-slice-read-if3 : tie.Need-shared-slice-read-if3
+shared-slice-read-if3 c = search needs
 
 returns-2 : tie.Need-returns-2
-returns-2 c = search weight-broken
+returns-2 c = search named-last
 
-enum-known-o : tie.Need-enum-known-o
-enum-known-o c = search needs
+plain-at-requires-2 : tie.Need-plain-at-requires-2
+plain-at-requires-2 c κs = search needs
+
+add-t19 : tie.Need-add-t19
+add-t19 c = search needs
 
 returns-3 : tie.Need-returns-3
-returns-3 c = search weight-empty
+returns-3 c = search named-more
 
-after-token-requires : tie.Need-after-token-requires
-after-token-requires c κs = let n = c .before .before .before .before .before .before .before in let a = n .before .before in
-    next-plain (a .args .g) (a .args .src .now) false (a .args .p) {o = n .next-operand .result} (n .next-operand .ensures) (c .before .before .before .before .before .o .given .1)
-
-enum-told-3 : tie.Need-enum-told-3
-enum-told-3 c = search needs
+any-weight-requires : tie.Need-any-weight-requires
+any-weight-requires c κs = search needs
 
 returns-4 : tie.Need-returns-4
-returns-4 c = search weight-last
+returns-4 c = search needs
 
-enum-told-4 : tie.Need-enum-told-4
-enum-told-4 c = search needs
+any-weight-requires-2 : tie.Need-any-weight-requires-2
+any-weight-requires-2 c κs = search needs
 
 returns-5 : tie.Need-returns-5
-returns-5 c = search weight-bad
-
-enum-known-u : tie.Need-enum-known-u
-enum-known-u c = search needs
-
-returns-6 : tie.Need-returns-6
-returns-6 c = search weight-one
+returns-5 c = search needs
 
 pub next-weight-spec : {M : Type 1} → statement M
 next-weight-spec =
     tie.close
     (tie.spec
-    next-operand-requires
+    plain-at-requires
+    add-t13
+    end-of-name-requires
     enum-told
     returns
-    enum-told-2
+    enum-known-c
+    named-requires
+    shared-slice-read-if3
     returns-2
-    enum-known-o
+    plain-at-requires-2
+    add-t19
     returns-3
-    after-token-requires
-    enum-told-3
+    any-weight-requires
     returns-4
-    enum-told-4
-    returns-5
-    enum-known-u
-    returns-6)
+    any-weight-requires-2
+    returns-5)
