@@ -2,13 +2,14 @@
 use mathlib.Core.Path.{_≡_, refl, sym, ap, _∙_, subst}
 use mathlib.Core.Bool.{Bool, true, false, _&&_, and-true}
 use mathlib.Core.List.{List, [], _∷_, _++_}
-use Prim.Native.Nat.{ℕ, suc, pred, _+_, _-_, _%_, _^_, _≤_, _<_}
+use Prim.Native.Nat.{ℕ, suc, pred, _+_, _%_, _≤_, _<_}
 use native.Mathlib.Nat.{zero-add}
 use native.Mathlib.Omega.{arith}
 use lib.ListN.{length, getD, drop, length-append}
 use lib.Dec.{eqb}
 use borrow.Author.Tests.{eqb-true, le-leb}
 use Rattle.lists.proofs.Bools.{by, clash, and-intro}
+use Rattle.lists.proofs.Runs as runs
 use Rattle.rules.specs.Text.{every, same}
 use Rattle.rules.specs.Names.{isBlank, namesRefusal, isAnyHex, hexValue}
 use Rattle.rules.specs.Tokens.{isText, gap, broken, word, name, Token, token, noToken, noPart, tokensFrom, withoutBlanks, tokensOf, isEntry}
@@ -19,7 +20,7 @@ use Rattle.lines.specs.declared.Signs.{Signs}
 use Rattle.lines.specs.declared.Spot.{Spot}
 use Rattle.lines.specs.declared.LineEnd.{LineEnd}
 use Rattle.lines.specs.Stream.{stateIn, stateAt, lineLeft, marksLeft, lineStart, Run, LineIs}
-use Rattle.lines.proofs.LineLaws.{lineOf-left, run-feeds}
+use Rattle.lines.proofs.LineLaws.{lineOf-left}
 use Rattle.lines.proofs.RunLaws.{run-then}
 use Rattle.tokens.specs.Left.{tokensLeft, Skips}
 use Rattle.tokens.proofs.TokenLaws.{first-gap}
@@ -30,12 +31,13 @@ use Rattle.entry.specs.declared.Byte.the-variants as byte
 use Rattle.entry.specs.declared.Head.{Head}
 use Rattle.entry.specs.declared.Heads.{Heads}
 use Rattle.entry.specs.declared.Heads.the-variants as heads
-use Rattle.entry.specs.Entered.{bodySigns, plainAt, hiddenAt, opensEntry, GapIs, headTokens, HeadIs, HeadsAre, bodyLine, firstName, lastName, PartsAre, NoEntry, Whole}
+use Rattle.entry.specs.Entered.{bodySigns, hiddenAt, opensEntry, GapIs, headTokens, HeadIs, HeadsAre, bodyLine, firstName, lastName, PartsAre, NoEntry, feedsIn, Whole}
 use Rattle.entry.proofs.ShapeLaws.{isGap, isPair, entry-by, entry-opens, byte-then, one-then, range-then, gap-no-range, range-tail}
 use Rattle.entry.proofs.BodyLaws.{body-plain, quiet-entry, Closes, closes}
 use Rattle.entry.proofs.PairLaws.{bounds, two-alone, escape-first}
 use Rattle.entry.proofs.ByteLaws.{skips-blanks}
 use Rattle.entry.proofs.HeadLaws.{range-is}
+use Rattle.entry.proofs.FeedLaws.{line-fed}
 
 -- ## Its tokens
 
@@ -232,18 +234,6 @@ module _ {g : Signs} {src : List ℕ} {at : ℕ} {h : Head} {v i : ℕ} (w : Who
       marks-text (w .skips .walk .passed) (w .head .more) (w .byte .gap ∷ w .byte .gaps) (w .byte .pair .first) (w .byte .pair .second)
       (skips-blanks (w .skips)) are-gaps (w .byte .pair .hex) (w .byte .pair .hex-second)
 
-  -- its LFs before that place
-  fed-before : lineLeft g src (lineStart at) .feeds ≡ before + lineLeft g src (plainAt i) .feeds
-  unfolding before
-  fed-before =
-      let z = w .byte .pair in
-      let q = z .stop in
-      let a : lineLeft g src (lineStart at) .feeds ≡ feeds + lineLeft g src q .feeds = run-feeds g src (lineStart at) run in
-      let b : lineLeft g src q .feeds ≡ lineLeft g src (plainAt (q .at)) .feeds =
-      ap (λ (x : Spot). lineLeft g src x .feeds) (λ j. record { at = q .at; mode = z .mode j; fresh = z .fresh j }) in
-      let c = z .closing .passed .fed in
-      omega arith
-
   moved : at + size ≡ i
   unfolding size
   moved = let a = run .moved in let b = w .byte .pair .closing .passed .moved in omega arith
@@ -261,29 +251,19 @@ module _ {g : Signs} {src : List ℕ} {at : ℕ} {h : Head} {v i : ℕ} (w : Who
       let e = w .byte .pair .closing .passed .moved in
       omega arith
 
-  pub parts-to : i ≤ length src
-  parts-to = w .byte .pair .closing .passed .to
-
   pub parts-names : (h .first .at ≤ length src) × (h .last .at ≤ length src)
   parts-names = (w .head .first-to, w .head .last-to)
 
-  module _ {a d c : LineEnd} (x : LineIs g src (lineStart at) a) (y : LineIs g src (plainAt i) d) (z : LineIs g src (hiddenAt i) c) where
-    fed-there : a .feeds ≡ before + d .feeds
-    fed-there = sym (x .feeds) ∙ fed-before ∙ ap (λ (k : ℕ). before + k) (y .feeds)
-
-    pub parts-less : d .feeds ≤ a .feeds
-    parts-less = omega (arith, fed-there)
-
-    pub parts-fits : length src < 2 ^ 64 → a .feeds - d .feeds + c .feeds < 2 ^ 64
-    parts-fits l = omega (arith, fed-there, few, moved, z .few, z .to)
-
-    pub parts-are : {t : Bool} → t ≡ (every isText (nameLeft g src (h .first)) && every isText (nameLeft g src (h .last)))
-        → PartsAre g src at (record { first = h .first; last = h .last; refusal = h .refusal; byte = v; text = t; next = c .next; feeds = a .feeds - d .feeds + c .feeds })
-    parts-are {t} u =
+  module _ {c : LineEnd} (z : LineIs g src (hiddenAt i) c) where
+    pub parts-are : {k : ℕ} {t : Bool} → k ≡ feedsIn (runs.run src at (c .next)) → t ≡ (every isText (nameLeft g src (h .first)) && every isText (nameLeft g src (h .last)))
+        → PartsAre g src at (record { first = h .first; last = h .last; refusal = h .refusal; byte = v; text = t; next = c .next; feeds = k })
+    parts-are {k} {t} f u =
         let l = bodyLine g src at in
         let m : l .marks ≡ marks = line .marks in
+        let end : at + l .size ≡ c .next = omega (arith, line .size, moved, z .end) in
         let s : Said (tokensOf (l .marks)) (nameLeft g src (h .first)) (nameLeft g src (h .last)) (w .byte .pair .first) (w .byte .pair .second) =
         subst (λ (ms : List ℕ). Said (tokensOf ms) (nameLeft g src (h .first)) (nameLeft g src (h .last)) (w .byte .pair .first) (w .byte .pair .second)) (sym m) told in
+        let fed : l .feeds ≡ k = line-fed (bodySigns g) src at (c .next) end ∙ sym f in
         record {
           entry = s .entry;
           first = s .first;
@@ -292,11 +272,11 @@ module _ {g : Signs} {src : List ℕ} {at : ℕ} {h : Head} {v i : ℕ} (w : Who
               ∙ ap (λ (n : List ℕ). namesRefusal (nameLeft g src (h .first) ∷ n ∷ [])) (s .last) ∙ w .head .refusal;
           byte = ap (λ (k : Token). hexValue 0 (k .text)) (s .digits) ∙ w .byte .pair .value;
           text = ap (every isText) m ∙ all-text ∙ w .head .text ∙ sym u;
-          end = omega (arith, line .size, moved, z .end);
-          feeds = omega (arith, line .feeds, z .feeds, fed-there);
+          end = end;
+          feeds = fed;
           on = omega (arith, further, z .few);
           to = z .to;
-          few = omega (arith, few, moved, z .few, fed-there);
+          few = omega (arith, few, moved, z .few, z .feeds, line .feeds, fed);
           first-to = w .head .first-to;
           last-to = w .head .last-to;
         }

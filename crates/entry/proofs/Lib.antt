@@ -2,6 +2,7 @@ pub mod ShapeLaws
 pub mod LexLaws
 pub mod HexLaws
 pub mod BodyLaws
+pub mod FeedLaws
 pub mod TailLaws
 pub mod FirstLaws
 pub mod PairLaws

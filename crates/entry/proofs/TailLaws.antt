@@ -78,7 +78,6 @@ passed-none g src at h =
       moved = add-zero at;
       to = h;
       same = refl;
-      fed = omega arith;
       goes = λ done f z. rw (add-zero f, add-zero z);
     }
 
@@ -146,8 +145,6 @@ module _ {g : Signs} {src : List ℕ} {at i : ℕ} (v : Passed g src at i) where
               let here : drop i src ≡ b ∷ 10 ∷ rest = byte-here ∙ ap (λ (x : List ℕ). b ∷ x) (second ∙ ap (λ (c : ℕ). c ∷ rest) k) in
               let left : lineFrom (plainSigns g) (stateIn outside false [] 0 0) (drop i src) ≡ onto [] 1 2 (lineFrom (plainSigns g) (stateIn outside false [] 0 0) rest) =
               rw here (join-step (plainSigns g) [] 0 0 b rest (plain-as-is g (stateIn outside false [] 0 0) b) e f ∙ lineFrom-onto g [] 1 2 (stateIn outside false [] 0 0) rest) in
-              let fed : lineFrom (plainSigns g) (stateIn outside false [] 0 0) (drop i src) .feeds ≡ 1 + lineFrom (plainSigns g) (stateIn outside false [] 0 0) rest .feeds =
-              ap (λ (s : Scan). s .feeds) left in
               record {
                 feeds = v .feeds + 1;
                 bytes = v .bytes + 2;
@@ -155,7 +152,6 @@ module _ {g : Signs} {src : List ℕ} {at i : ℕ} (v : Passed g src at i) where
                 moved = omega (arith, v .moved);
                 to = omega arith;
                 same = v .same ∙ ap (λ (s : Scan). s .marks) left;
-                fed = omega (arith, v .fed, fed);
                 goes = λ done f′ z. v .goes done f′ z
                     ∙ ap (lineFrom (bodySigns g) (stateIn outside false done (f′ + v .feeds) (z + v .bytes))) here
                     ∙ join-step (bodySigns g) done (f′ + v .feeds) (z + v .bytes) b rest (body-as-is g (stateIn outside false done (f′ + v .feeds) (z + v .bytes)) b) e f

@@ -58,7 +58,6 @@ pub record Passed (g : Signs) (src : List ℕ) (at i : ℕ) : Type 0 where
   pub moved : at + bytes ≡ i
   pub to : i ≤ length src
   pub same : marksLeft g src (plainAt at) ≡ marksLeft g src (plainAt i)
-  pub fed : lineLeft g src (plainAt at) .feeds ≡ feeds + lineLeft g src (plainAt i) .feeds
   pub goes : (done : List ℕ) (f z : ℕ)
       → lineFrom (bodySigns g) (stateIn outside false done f z) (drop at src)
       ≡ lineFrom (bodySigns g) (stateIn outside false done (f + feeds) (z + bytes)) (drop i src)
@@ -267,6 +266,11 @@ pub record NoEntry (g : Signs) (src : List ℕ) (at : ℕ) : Type 0 where
 abbrev pub EntryIs : Signs → List ℕ → ℕ → Entry → Type 0
 EntryIs g src at (entry.Found e) = PartsAre g src at e
 EntryIs g src at entry.No = NoEntry g src at
+
+-- how many of these bytes are LFs
+unfoldable pub feedsIn : List ℕ → ℕ
+feedsIn [] = 0
+feedsIn (b ∷ bs) = (if eqb b 10 then 1 else 0) + feedsIn bs
 
 -- A line is an entry as far as its digits, behind which its marks end at the place i.
 pub record Whole (g : Signs) (src : List ℕ) (at : ℕ) (h : Head) (v i : ℕ) : Type 0 where

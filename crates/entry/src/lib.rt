@@ -5,9 +5,10 @@ ghost use Rattle.rules.specs.Text.{every};
 ghost use Rattle.rules.specs.Tokens.{isText};
 ghost use Prim.Native.Nat.{_≤_};
 ghost use lib.ListN.{length};
+ghost use Rattle.lists.proofs.Runs.{run};
 ghost use Rattle.rules.specs.Lines.{outside};
 ghost use Rattle.names.specs.Named.{nameLeft};
-ghost use Rattle.entry.specs.Entered.{hexOf, TailIs, DigitsAre, EscapedIs, GapIs, NamedIs, DottedIs, HeadsAre, Whole, PartsAre, EntryIs};
+ghost use Rattle.entry.specs.Entered.{hexOf, TailIs, DigitsAre, EscapedIs, GapIs, NamedIs, DottedIs, HeadsAre, feedsIn, Whole, PartsAre, EntryIs};
 use lines::Signs;
 use lines::Spot;
 use lines::Step;
@@ -329,29 +330,38 @@ fn both_text(src: &[u8], g: Signs, p: Spot, q: Spot) -> bool
     false
 }
 
-// The parts of an entry that is read as far as its digits: from the place i on all is a comment.
+// How many LFs stand from one place up to another.
+fn feeds_between(src: &[u8], from: usize, end: usize) -> usize
+    requires { ⌜ (from ≤ end) × (end ≤ length (now src)) ⌝ }
+    ensures { λ r. ⌜ r ≡ feedsIn (run (now (src .entry)) from end) ⌝ }
+{
+    let mut i = from;
+    let mut n: usize = 0;
+    while i < end {
+        if src[i] == 10 {
+            n += 1;
+            i += 1;
+        } else {
+            i += 1;
+        }
+    }
+    n
+}
+
+// The parts of an entry that is read as far as its digits: from the place i on all is a comment. Its LFs are counted among its own bytes, and
+// nothing behind its end is read: as a plain line it could go on there, from join to join to the end of the source, and so could every entry.
 fn parts_of(src: &[u8], g: Signs, at: usize, h: Head, v: u8, i: usize) -> Parts
     requires { ⌜ Whole g (now src) at h v i ⌝ }
     ensures { λ r. ⌜ PartsAre g (now (src .entry)) at r ⌝ }
 {
-    let p = Spot {
-        at: at,
-        mode: 0,
-        fresh: true,
-    };
-    let x = Spot {
-        at: i,
-        mode: 0,
-        fresh: false,
-    };
     let y = Spot {
         at: i,
         mode: 4,
         fresh: false,
     };
-    let a = line_end(src, g, p);
-    let d = line_end(src, g, x);
     let c = line_end(src, g, y);
+    let next = c.next;
+    let feeds = feeds_between(src, at, next);
     let first = h.first;
     let last = h.last;
     let refusal = h.refusal;
@@ -362,8 +372,8 @@ fn parts_of(src: &[u8], g: Signs, at: usize, h: Head, v: u8, i: usize) -> Parts
         refusal: refusal,
         byte: v,
         text: text,
-        next: c.next,
-        feeds: a.feeds - d.feeds + c.feeds,
+        next: next,
+        feeds: feeds,
     }
 }
 
