@@ -1,4 +1,5 @@
 pub mod CompareLaws
 pub mod CodeLaws
 pub mod WalkLaws
+pub mod InsideLaws
 pub mod PackLaws

@@ -18,10 +18,12 @@ use Rattle.lines.specs.declared.Signs.{Signs}
 use Rattle.lines.specs.declared.Spot.{Spot}
 use Rattle.tokens.specs.declared.NameStep.{NameStep}
 use Rattle.tokens.specs.declared.NameStep.the-variants.{Byte, Close, Open}
-use Rattle.tokens.specs.Left.{NameByte, NameStepIs}
+use Rattle.lines.proofs.LineLaws.{spot}
+use Rattle.tokens.specs.Left.{isInside, NameByte, NameStepIs}
 use Rattle.names.specs.declared.Pack.{Pack}
 use Rattle.names.specs.Named.{nameLeft, hashFrom}
-use Rattle.names.specs.Packed.{quad, packed, isPlain, PackedIs, Counted, Begun, PutIs, PackedOn}
+use Rattle.names.specs.Packed.{quad, packed, isPlain, standsIn, PackedIs, Counted, Begun, PutIs, PackedOn}
+use Rattle.names.proofs.InsideLaws.{byte-inside, close-inside}
 use Rattle.names.proofs.CompareLaws.{step-byte, step-close, step-open}
 
 -- by cases of a number below four
@@ -397,3 +399,23 @@ pub packed-whole : {rest key after : List ℕ} {r : Pack} → key ≡ replicate 
 packed-whole {key = key} e w =
     let p = w .packs [] (none-yet key e) in
     record { plain = p .plain; hash = w .hash; small = w .small; long = p .long; numbers = p .numbers }
+
+-- ## From place to place inside a name
+
+pub inside-none : (g : Signs) (src : List ℕ) (p : Spot) (key : List ℕ) → p .at ≤ length src → key ≡ replicate 8 0 → Packing g src p p key key 0 0 0 0
+inside-none g src p key h e = packing-none g src p key 0 0 h (begun-none key e) (omega arith)
+
+module _ {g : Signs} {src : List ℕ} {p : Spot} {at : ℕ} {fresh : Bool} {key now : List ℕ} {h m : ℕ}
+    (v : Packing g src p (spot at (p .mode) fresh) key now 0 h 0 m) where
+  -- the rest goes the long way
+  pub inside-rest : {after : List ℕ} {r : Pack} → key ≡ replicate 8 0 → PackedOn (nameLeft g src (spot at (p .mode) fresh)) now h m after r
+      → PackedIs (nameLeft g src p) after r
+  inside-rest e w = packed-whole e (packing-rest v w)
+
+  module _ (i : isInside (p .mode) ≡ true) (l : at < length src) {t : Bool} (s : t ≡ standsIn (g .escape) (getD src at 0)) (y : t ≡ true) where
+    pub inside-close : getD src at 0 ≡ 62 → key ≡ replicate 8 0 → PackedIs (nameLeft g src p) now (record { hash = h; plain = leb m 32 })
+    inside-close f e = packed-whole e (packing-end v (close-inside g src (spot at (p .mode) fresh) l i (sym s ∙ y) f))
+
+    pub inside-more : {j k : ℕ} {after : List ℕ} → (getD src at 0 ≡ 62 → ⊥) → PutIs now m (getD src at 0) after j
+        → (k ≡ (h * 10368889 + getD src at 0) % 16777216) × (k < 16777216) → Packing g src p (spot (at + 1) (p .mode) false) key after 0 k 0 j
+    inside-more n f k = packing-on v (byte-inside g src (spot at (p .mode) fresh) l i (sym s ∙ y) n) (omega arith) f k

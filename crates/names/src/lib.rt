@@ -1,12 +1,14 @@
 // Names in a source, each from the spot right after its `<`: beside other bytes or another name, as a character by its code, as a number.
 ghost use mathlib.Core.Path.{_≡_};
+ghost use mathlib.Core.Bool.{true};
 ghost use mathlib.Core.List.{[]};
 ghost use Prim.Native.Nat.{_+_, _*_, _%_, _^_, _≤_, _<_};
 ghost use lib.ListN.{length, replicate};
 ghost use Rattle.rules.specs.Text.{same};
 ghost use Rattle.rules.specs.Names.{isVisible};
+ghost use Rattle.tokens.specs.Left.{isInside};
 ghost use Rattle.names.specs.Named.{nameLeft, hexOf, MadeIs, DigitsAre, CodeIs, hashOf, NamedIs};
-ghost use Rattle.names.specs.Packed.{PackedIs, Begun, PutIs, PackedOn};
+ghost use Rattle.names.specs.Packed.{standsIn, PackedIs, Begun, PutIs, PackedOn};
 use lines::Signs;
 use lines::Spot;
 use lines::Step;
@@ -264,12 +266,72 @@ fn pack_from(src: &[u8], g: Signs, p: Spot, key: &mut [u32], before: usize, pass
     }
 }
 
+// Whether a byte of a name is meant as it stands: it is visible, and no escape.
+fn stands(b: u8, escape: u8) -> bool
+    ensures { λ r. ⌜ r ≡ standsIn escape b ⌝ }
+{
+    if b == escape {
+        return false;
+    }
+    visible(b)
+}
+
+// A name in its numbers, from a spot inside it: bytes that stand are taken one after the other, and any other goes the long way.
+fn pack_inside(src: &[u8], g: Signs, p: Spot, key: &mut [u32]) -> Pack
+    requires { ⌜ p .at ≤ length (now src) ⌝ }
+    requires { ⌜ isInside (p .mode) ≡ true ⌝ }
+    requires { ⌜ now key ≡ replicate 8 0 ⌝ }
+    ensures { λ r. ⌜ PackedIs (nameLeft g (now (src .entry)) p) (now (key .exit)) r ⌝ }
+{
+    let mut at = p.at;
+    let mut fresh = p.fresh;
+    let mut h: usize = 0;
+    let mut n: usize = 0;
+    while at < src.len() {
+        let b = src[at];
+        if stands(b, g.escape) {
+            if b == 62 {
+                return Pack {
+                    hash: h,
+                    plain: n <= 32,
+                };
+            }
+            n = put(key, n, b);
+            h = mixed(h, b);
+            fresh = false;
+            at += 1;
+        } else {
+            let q = Spot {
+                at: at,
+                mode: p.mode,
+                fresh: fresh,
+            };
+            return pack_from(src, g, q, key, h, n);
+        }
+    }
+    let q = Spot {
+        at: at,
+        mode: p.mode,
+        fresh: fresh,
+    };
+    pack_from(src, g, q, key, h, n)
+}
+
+fn is_inside(mode: u8) -> bool
+    ensures { λ r. ⌜ r ≡ isInside mode ⌝ }
+{
+    mode == 1 || mode == 3
+}
+
 // A name in its numbers, and its hash.
 pub fn pack_name(src: &[u8], g: Signs, p: Spot, key: &mut [u32]) -> Pack
     requires { ⌜ p .at ≤ length (now src) ⌝ }
     requires { ⌜ now key ≡ replicate 8 0 ⌝ }
     ensures { λ r. ⌜ PackedIs (nameLeft g (now (src .entry)) p) (now (key .exit)) r ⌝ }
 {
+    if is_inside(p.mode) {
+        return pack_inside(src, g, p, key);
+    }
     pack_from(src, g, p, key, 0, 0)
 }
 
