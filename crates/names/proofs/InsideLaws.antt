@@ -18,7 +18,7 @@ use Rattle.lines.proofs.LineLaws.{spot, item-mark}
 use Rattle.lines.proofs.ByteLaws.{after-name, after-inner}
 use Rattle.tokens.specs.Left.{isInside, nameIn}
 use Rattle.names.specs.Named.{nameLeft}
-use Rattle.names.specs.Packed.{standsIn}
+use Rattle.names.specs.Shape.{standsIn}
 
 -- what a test says
 pub told : {t u : Bool} → t ≡ u → t ≡ true → u ≡ true

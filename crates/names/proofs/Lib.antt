@@ -2,4 +2,5 @@ pub mod CompareLaws
 pub mod CodeLaws
 pub mod WalkLaws
 pub mod InsideLaws
+pub mod ShapeLaws
 pub mod PackLaws

@@ -22,7 +22,8 @@ use Rattle.lines.proofs.LineLaws.{spot}
 use Rattle.tokens.specs.Left.{isInside, NameByte, NameStepIs}
 use Rattle.names.specs.declared.Pack.{Pack}
 use Rattle.names.specs.Named.{nameLeft, hashFrom}
-use Rattle.names.specs.Packed.{quad, packed, isPlain, standsIn, PackedIs, Counted, Begun, PutIs, PackedOn}
+use Rattle.names.specs.Shape.{standsIn}
+use Rattle.names.specs.Packed.{quad, packed, isPlain, PackedIs, Counted, Begun, PutIs, PackedOn}
 use Rattle.names.proofs.InsideLaws.{byte-inside, close-inside}
 use Rattle.names.proofs.CompareLaws.{step-byte, step-close, step-open}
 

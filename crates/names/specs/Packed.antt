@@ -1,10 +1,10 @@
 -- A name packed into eight numbers, four of its bytes in each: two names that can be declared have the same numbers only if they are the same.
 use mathlib.Core.Path.{_≡_}
-use mathlib.Core.Bool.{Bool, true, not, _&&_}
+use mathlib.Core.Bool.{Bool, true, _&&_}
 use mathlib.Core.List.{List, [], _∷_, _++_}
 use Prim.Native.Nat.{ℕ, _+_, _*_, _≤_, _<_}
 use lib.ListN.{length, getD}
-use lib.Dec.{leb, eqb}
+use lib.Dec.{leb}
 use Rattle.rules.specs.Text.{every}
 use Rattle.rules.specs.Names.{isVisible}
 use Rattle.names.specs.Named.{hashFrom, hashOf}
@@ -42,10 +42,6 @@ pub record PackedIs (n key : List ℕ) (r : Pack) : Type 0 where
   pub numbers : isPlain n ≡ true → key ≡ packed n
 
 -- ## In the middle of a name
-
--- a byte that is meant as it stands: visible, and no escape
-abbrev pub standsIn : ℕ → ℕ → Bool
-standsIn escape b = isVisible b && not (eqb b escape)
 
 -- The bytes so far: m of them, or 33 where they begin no name that can be declared.
 pub record Counted (done key : List ℕ) (m : ℕ) : Type 0 where
