@@ -11,9 +11,9 @@ use mir.Syntax.{w32}
 use mir.Val.{Fits}
 use borrow.Author.Tests.{leb-true, leb-false, le-leb, eqb-true, eqb-false, ltb-true, ltb-false}
 use Rattle.lists.proofs.Bools.{by, clash, and-left, and-right, and-intro}
-use Rattle.rules.specs.Text.{every}
-use Rattle.rules.specs.Names.{isVisible}
-use Rattle.rules.proofs.TextLaws.{every-append, every-both, every-at}
+use Rattle.rules.specs.Text.{every, _unless_}
+use Rattle.rules.specs.Names.{isVisible, nameRefusal}
+use Rattle.rules.proofs.TextLaws.{every-append, every-both, every-at, lower-none}
 use Rattle.lines.specs.declared.Signs.{Signs}
 use Rattle.lines.specs.declared.Spot.{Spot}
 use Rattle.tokens.specs.declared.NameStep.{NameStep}
@@ -81,6 +81,15 @@ module _ (n : List ℕ) (h : isPlain n ≡ true) where
         List·getD-eq-default n 0 {n = 30} (omega arith),
         List·getD-eq-default n 0 {n = 31} (omega arith),
       )
+
+-- a name with no refusal can be declared
+pub plain-name : (n : List ℕ) → nameRefusal n ≡ 0 → isPlain n ≡ true
+unfolding nameRefusal isPlain
+plain-name n h =
+    let v = leb 1 (length n) && every isVisible n in
+    let z = lower-none (3 unless v) (7 unless leb (length n) 32) h in
+    and-intro (by (leb (length n) 32) (λ t. t) (λ t. let y : 7 ≡ 0 = rw t at (z .1) in absurd (omega arith)))
+    (by v (λ t. and-right (leb 1 (length n)) (every isVisible n) t) (λ t. let y : 3 ≡ 0 = rw t at (z .0) in absurd (omega arith)))
 
 -- ## The numbers tell the name
 

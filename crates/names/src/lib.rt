@@ -7,7 +7,7 @@ ghost use lib.ListN.{length, drop, replicate};
 ghost use Rattle.rules.specs.Text.{same};
 ghost use Rattle.rules.specs.Names.{isVisible};
 ghost use Rattle.tokens.specs.Left.{isInside};
-ghost use Rattle.names.specs.Named.{nameLeft, hexOf, MadeIs, DigitsAre, CodeIs, hashOf, NamedIs};
+ghost use Rattle.names.specs.Named.{nameLeft, hexOf, MadeIs, DigitsAre, CodeIs, hashFrom, hashOf, NamedIs};
 ghost use Rattle.names.specs.Shape.{standsIn, isApart, shortOf, shapeOf};
 ghost use Rattle.names.specs.Packed.{PackedIs, Begun, PutIs, PackedOn};
 use lines::Signs;
@@ -275,19 +275,27 @@ fn number(b: u8) -> usize
     b as usize
 }
 
-// A number that is the same for the same name, below 2 to the 24th.
-pub fn name_hash(src: &[u8], g: Signs, p: Spot) -> usize
-    requires { ⌜ p .at ≤ length (now src) ⌝ }
-    ensures { λ r. ⌜ (r ≡ hashOf (nameLeft g (now (src .entry)) p)) × (r < 16777216) ⌝ }
+// The hash h with a byte more.
+fn mixed(h: usize, b: u8) -> usize
+    requires { ⌜ h < 16777216 ⌝ }
+    ensures { λ r. ⌜ (r ≡ (h * 10368889 + b) % 16777216) × (r < 16777216) ⌝ }
+{
+    let x = number(b);
+    (h * 10368889 + x) % 16777216
+}
+
+// The hash of what is left of a name, behind bytes that make before.
+fn hash_from(src: &[u8], g: Signs, p: Spot, before: usize) -> usize
+    requires { ⌜ (p .at ≤ length (now src)) × (before < 16777216) ⌝ }
+    ensures { λ r. ⌜ (r ≡ hashFrom before (nameLeft g (now (src .entry)) p)) × (r < 16777216) ⌝ }
 {
     let mut q = p;
-    let mut h: usize = 0;
+    let mut h = before;
     loop {
         let s = name_byte(src, g, q);
         match s {
             NameStep::Byte(b, r) => {
-                let x = number(b);
-                h = (h * 10368889 + x) % 16777216;
+                h = mixed(h, b);
                 q = r;
             }
             NameStep::Close(_) => return h,
@@ -296,13 +304,49 @@ pub fn name_hash(src: &[u8], g: Signs, p: Spot) -> usize
     }
 }
 
-// The hash h with a byte more.
-fn mixed(h: usize, b: u8) -> usize
-    requires { ⌜ h < 16777216 ⌝ }
-    ensures { λ r. ⌜ (r ≡ (h * 10368889 + b) % 16777216) × (r < 16777216) ⌝ }
+// The hash of a name, from a spot inside it: bytes that stand are taken one after the other, and any other goes the long way.
+fn hash_inside(src: &[u8], g: Signs, p: Spot) -> usize
+    requires { ⌜ (p .at ≤ length (now src)) × (isInside (p .mode) ≡ true) ⌝ }
+    ensures { λ r. ⌜ (r ≡ hashOf (nameLeft g (now (src .entry)) p)) × (r < 16777216) ⌝ }
 {
-    let x = number(b);
-    (h * 10368889 + x) % 16777216
+    let mut at = p.at;
+    let mut fresh = p.fresh;
+    let mut h: usize = 0;
+    while at < src.len() {
+        let b = src[at];
+        if stands(b, g.escape) {
+            if b == 62 {
+                return h;
+            }
+            h = mixed(h, b);
+            fresh = false;
+            at += 1;
+        } else {
+            let q = Spot {
+                at: at,
+                mode: p.mode,
+                fresh: fresh,
+            };
+            return hash_from(src, g, q, h);
+        }
+    }
+    let q = Spot {
+        at: at,
+        mode: p.mode,
+        fresh: fresh,
+    };
+    hash_from(src, g, q, h)
+}
+
+// A number that is the same for the same name, below 2 to the 24th.
+pub fn name_hash(src: &[u8], g: Signs, p: Spot) -> usize
+    requires { ⌜ p .at ≤ length (now src) ⌝ }
+    ensures { λ r. ⌜ (r ≡ hashOf (nameLeft g (now (src .entry)) p)) × (r < 16777216) ⌝ }
+{
+    if is_inside(p.mode) {
+        return hash_inside(src, g, p);
+    }
+    hash_from(src, g, p, 0)
 }
 
 // What a byte adds to its number, from place k of four.
@@ -440,8 +484,8 @@ fn ends(src: &[u8], g: Signs, p: Spot) -> bool
     }
 }
 
-// Whether the names at two spots have the same bytes.
-pub fn same_name(src: &[u8], g: Signs, p: Spot, q: Spot) -> bool
+// Whether the names at two spots have the same bytes, byte by byte.
+fn same_from(src: &[u8], g: Signs, p: Spot, q: Spot) -> bool
     requires { ⌜ (p .at ≤ length (now src)) × (q .at ≤ length (now src)) ⌝ }
     ensures { λ r. ⌜ r ≡ same (nameLeft g (now (src .entry)) p) (nameLeft g (now (src .entry)) q) ⌝ }
 {
@@ -469,6 +513,67 @@ pub fn same_name(src: &[u8], g: Signs, p: Spot, q: Spot) -> bool
             NameStep::Open => return ends(src, g, j),
         }
     }
+}
+
+// Whether the names at two spots inside them have the same bytes: bytes that stand are compared as they are, and any other goes the long way.
+fn same_inside(src: &[u8], g: Signs, p: Spot, q: Spot) -> bool
+    requires { ⌜ (p .at ≤ length (now src)) × (q .at ≤ length (now src)) ⌝ }
+    requires { ⌜ (isInside (p .mode) ≡ true) × (isInside (q .mode) ≡ true) ⌝ }
+    ensures { λ r. ⌜ r ≡ same (nameLeft g (now (src .entry)) p) (nameLeft g (now (src .entry)) q) ⌝ }
+{
+    let mut i = p.at;
+    let mut j = q.at;
+    let mut first = p.fresh;
+    let mut second = q.fresh;
+    loop {
+        let from = Spot {
+            at: i,
+            mode: p.mode,
+            fresh: first,
+        };
+        let beside = Spot {
+            at: j,
+            mode: q.mode,
+            fresh: second,
+        };
+        if i >= src.len() {
+            return same_from(src, g, from, beside);
+        }
+        if j >= src.len() {
+            return same_from(src, g, from, beside);
+        }
+        let a = src[i];
+        let b = src[j];
+        if !stands(a, g.escape) {
+            return same_from(src, g, from, beside);
+        }
+        if !stands(b, g.escape) {
+            return same_from(src, g, from, beside);
+        }
+        if a != b {
+            return false;
+        }
+        if a == 62 {
+            return true;
+        }
+        i += 1;
+        j += 1;
+        first = false;
+        second = false;
+    }
+}
+
+// Whether the names at two spots have the same bytes.
+pub fn same_name(src: &[u8], g: Signs, p: Spot, q: Spot) -> bool
+    requires { ⌜ (p .at ≤ length (now src)) × (q .at ≤ length (now src)) ⌝ }
+    ensures { λ r. ⌜ r ≡ same (nameLeft g (now (src .entry)) p) (nameLeft g (now (src .entry)) q) ⌝ }
+{
+    if is_inside(p.mode) {
+        if is_inside(q.mode) {
+            return same_inside(src, g, p, q);
+        }
+    }
+    same_from(src, g, p, q)
 }
 
 // The next name in quotes, from a spot in them outside names.
