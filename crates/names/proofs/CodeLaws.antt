@@ -2,7 +2,7 @@
 use mathlib.Core.Path.{_≡_, refl, sym, _∙_}
 use mathlib.Core.Bool.{true, false, and-false}
 use mathlib.Core.List.{List, [], _∷_}
-use Prim.Native.Nat.{ℕ, suc, _+_, _-_, _*_, _^_, _≤_, _<_}
+use Prim.Native.Nat.{ℕ, suc, _+_, _*_, _%_, _^_, _≤_, _<_}
 use native.Mathlib.Nat.{pow-suc, pow-le-pow-right}
 use native.Mathlib.Numerals.{add-one}
 use native.Mathlib.Omega.{arith}
@@ -26,33 +26,35 @@ use Rattle.names.proofs.CompareLaws.{step-byte, step-close, step-open}
 
 -- ## Hex digits
 
-module _ (b x : ℕ) (e : x ≡ b) where
-  pub hex-below : x < 48 → 16 ≡ hexOf b
+module _ (b x : ℕ) (e : (x ≡ b) × (x < 256)) where
+  pub hex-figure : (x + 208) % 256 < 10 → (x + 208) % 256 ≡ hexOf b
   unfolding hexOf
-  hex-below h = rw (← e) (simp (lt-leb 48 x h, lt-leb 65 x (omega arith)))
+  hex-figure h = rw (← e .0) (simp (le-leb 48 x (omega arith), le-leb x 57 (omega arith)) (omega arith))
 
-  pub hex-figure : 48 ≤ x → x < 58 → x - 48 ≡ hexOf b
+  pub hex-letter : (x + 191) % 256 < 6 → (x + 191) % 256 + 10 ≡ hexOf b
   unfolding hexOf
-  hex-figure g h = rw (← e) (simp (le-leb 48 x g, le-leb x 57 (omega arith)))
+  hex-letter h =
+      rw (← e .0)
+      (simp (le-leb 48 x (omega arith), lt-leb x 57 (omega arith), le-leb 65 x (omega arith), le-leb x 70 (omega arith)) (omega arith))
 
-  pub hex-between : 58 ≤ x → x < 65 → 16 ≡ hexOf b
+  pub hex-none : 10 ≤ (x + 208) % 256 → 6 ≤ (x + 191) % 256 → 16 ≡ hexOf b
   unfolding hexOf
-  hex-between g h = rw (← e) (simp (le-leb 48 x (omega arith), lt-leb x 57 (omega arith), lt-leb 65 x h))
-
-  pub hex-letter : 65 ≤ x → x < 71 → x - 55 ≡ hexOf b
-  unfolding hexOf
-  hex-letter g h = rw (← e) (simp (le-leb 48 x (omega arith), lt-leb x 57 (omega arith), le-leb 65 x g, le-leb x 70 (omega arith)))
-
-  pub hex-above : 71 ≤ x → 16 ≡ hexOf b
-  unfolding hexOf
-  hex-above g = rw (← e) (simp (le-leb 48 x (omega arith), lt-leb x 57 (omega arith), le-leb 65 x (omega arith), lt-leb x 70 (omega arith)))
+  hex-none h k =
+      rw (← e .0)
+      (by (within 48 57 x)
+      (λ t. let l = leb-true 48 x (and-left (leb 48 x) (leb x 57) t) in
+      let m = leb-true x 57 (and-right (leb 48 x) (leb x 57) t) in absurd (omega arith))
+      (λ t. by (within 65 70 x)
+      (λ u. let l = leb-true 65 x (and-left (leb 65 x) (leb x 70) u) in
+      let m = leb-true x 70 (and-right (leb 65 x) (leb x 70) u) in absurd (omega arith))
+      (λ u. rw (t, u))))
 
 -- a value below 16 is that of a digit
-hex-yes : (b : ℕ) → hexOf b < 16 → (isHex b ≡ true) × (hexOf b ≡ digit b)
+pub hex-yes : (b : ℕ) → hexOf b < 16 → (isHex b ≡ true) × (hexOf b ≡ digit b)
 unfolding hexOf
 hex-yes b h = by (isHex b) (λ t. (t, rw t)) (λ t. let z : 16 < 16 = rw t at h in absurd (omega arith))
 
-digit-small : (b : ℕ) → isHex b ≡ true → digit b < 16
+pub digit-small : (b : ℕ) → isHex b ≡ true → digit b < 16
 digit-small b h =
     by (within 48 57 b)
     (λ t. let k = leb-true b 57 (and-right (leb 48 b) (leb b 57) t) in rw (le-leb b 57 k) (omega arith))
@@ -61,7 +63,7 @@ digit-small b h =
     let k = leb-true b 70 (and-right (leb 65 b) (leb b 70) u) in
     rw (lt-leb b 57 (omega arith), le-leb b 70 k) (omega arith))
 
-hex-no : (b : ℕ) → 16 ≤ hexOf b → isHex b ≡ false
+pub hex-no : (b : ℕ) → 16 ≤ hexOf b → isHex b ≡ false
 unfolding hexOf
 hex-no b h = by (isHex b) (λ t. let z : 16 ≤ digit b = rw t at h in let s = digit-small b t in absurd (omega arith)) (λ t. t)
 

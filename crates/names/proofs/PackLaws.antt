@@ -11,17 +11,20 @@ use mir.Syntax.{w32}
 use mir.Val.{Fits}
 use borrow.Author.Tests.{leb-true, leb-false, le-leb, eqb-true, eqb-false, ltb-true, ltb-false}
 use Rattle.lists.proofs.Bools.{by, clash, and-left, and-right, and-intro}
-use Rattle.rules.specs.Text.{every}
-use Rattle.rules.specs.Names.{isVisible}
-use Rattle.rules.proofs.TextLaws.{every-append, every-both, every-at}
+use Rattle.rules.specs.Text.{every, _unless_}
+use Rattle.rules.specs.Names.{isVisible, nameRefusal}
+use Rattle.rules.proofs.TextLaws.{every-append, every-both, every-at, lower-none}
 use Rattle.lines.specs.declared.Signs.{Signs}
 use Rattle.lines.specs.declared.Spot.{Spot}
 use Rattle.tokens.specs.declared.NameStep.{NameStep}
 use Rattle.tokens.specs.declared.NameStep.the-variants.{Byte, Close, Open}
-use Rattle.tokens.specs.Left.{NameByte, NameStepIs}
+use Rattle.lines.proofs.LineLaws.{spot}
+use Rattle.tokens.specs.Left.{isInside, NameByte, NameStepIs}
 use Rattle.names.specs.declared.Pack.{Pack}
 use Rattle.names.specs.Named.{nameLeft, hashFrom}
+use Rattle.names.specs.Shape.{standsIn}
 use Rattle.names.specs.Packed.{quad, packed, isPlain, PackedIs, Counted, Begun, PutIs, PackedOn}
+use Rattle.names.proofs.InsideLaws.{byte-inside, close-inside}
 use Rattle.names.proofs.CompareLaws.{step-byte, step-close, step-open}
 
 -- by cases of a number below four
@@ -78,6 +81,15 @@ module _ (n : List ℕ) (h : isPlain n ≡ true) where
         List·getD-eq-default n 0 {n = 30} (omega arith),
         List·getD-eq-default n 0 {n = 31} (omega arith),
       )
+
+-- a name with no refusal can be declared
+pub plain-name : (n : List ℕ) → nameRefusal n ≡ 0 → isPlain n ≡ true
+unfolding nameRefusal isPlain
+plain-name n h =
+    let v = leb 1 (length n) && every isVisible n in
+    let z = lower-none (3 unless v) (7 unless leb (length n) 32) h in
+    and-intro (by (leb (length n) 32) (λ t. t) (λ t. let y : 7 ≡ 0 = rw t at (z .1) in absurd (omega arith)))
+    (by v (λ t. and-right (leb 1 (length n)) (every isVisible n) t) (λ t. let y : 3 ≡ 0 = rw t at (z .0) in absurd (omega arith)))
 
 -- ## The numbers tell the name
 
@@ -397,3 +409,23 @@ pub packed-whole : {rest key after : List ℕ} {r : Pack} → key ≡ replicate 
 packed-whole {key = key} e w =
     let p = w .packs [] (none-yet key e) in
     record { plain = p .plain; hash = w .hash; small = w .small; long = p .long; numbers = p .numbers }
+
+-- ## From place to place inside a name
+
+pub inside-none : (g : Signs) (src : List ℕ) (p : Spot) (key : List ℕ) → p .at ≤ length src → key ≡ replicate 8 0 → Packing g src p p key key 0 0 0 0
+inside-none g src p key h e = packing-none g src p key 0 0 h (begun-none key e) (omega arith)
+
+module _ {g : Signs} {src : List ℕ} {p : Spot} {at : ℕ} {fresh : Bool} {key now : List ℕ} {h m : ℕ}
+    (v : Packing g src p (spot at (p .mode) fresh) key now 0 h 0 m) where
+  -- the rest goes the long way
+  pub inside-rest : {after : List ℕ} {r : Pack} → key ≡ replicate 8 0 → PackedOn (nameLeft g src (spot at (p .mode) fresh)) now h m after r
+      → PackedIs (nameLeft g src p) after r
+  inside-rest e w = packed-whole e (packing-rest v w)
+
+  module _ (i : isInside (p .mode) ≡ true) (l : at < length src) {t : Bool} (s : t ≡ standsIn (g .escape) (getD src at 0)) (y : t ≡ true) where
+    pub inside-close : getD src at 0 ≡ 62 → key ≡ replicate 8 0 → PackedIs (nameLeft g src p) now (record { hash = h; plain = leb m 32 })
+    inside-close f e = packed-whole e (packing-end v (close-inside g src (spot at (p .mode) fresh) l i (sym s ∙ y) f))
+
+    pub inside-more : {j k : ℕ} {after : List ℕ} → (getD src at 0 ≡ 62 → ⊥) → PutIs now m (getD src at 0) after j
+        → (k ≡ (h * 10368889 + getD src at 0) % 16777216) × (k < 16777216) → Packing g src p (spot (at + 1) (p .mode) false) key after 0 k 0 j
+    inside-more n f k = packing-on v (byte-inside g src (spot at (p .mode) fresh) l i (sym s ∙ y) n) (omega arith) f k

@@ -1,11 +1,13 @@
 -- A name as a number, a name beside another, and the names in quotes: the turns of the loops.
 use mathlib.Core.Path.{_≡_, refl, sym, _∙_, subst}
-use mathlib.Core.Bool.{Bool, true, false}
-use mathlib.Core.List.{List, []}
+use mathlib.Core.Bool.{Bool, true, false, not}
+use mathlib.Core.List.{List, [], _∷_}
 use Prim.Native.Nat.{ℕ, _+_, _-_, _*_, _%_, _≤_, _<_}
 use native.Mathlib.Omega.{arith}
-use lib.ListN.{length}
-use borrow.Author.Tests.{eq-eqb, ne-eqb}
+use lib.ListN.{length, getD}
+use lib.Dec.{eqb}
+use borrow.Author.Tests.{eq-eqb, ne-eqb, eqb-true, eqb-false, not-false}
+use Rattle.lists.proofs.Bools.{by}
 use Rattle.rules.specs.Text.{same}
 use Rattle.rules.specs.Lines.{quoted, after}
 use Rattle.lines.specs.declared.Signs.{Signs}
@@ -15,38 +17,58 @@ use Rattle.lines.specs.declared.Step.the-variants as step
 use Rattle.lines.specs.Stream.{marksLeft, MarkIs, StepIs}
 use Rattle.tokens.specs.declared.NameStep.{NameStep}
 use Rattle.tokens.specs.declared.NameStep.the-variants.{Byte, Close, Open}
-use Rattle.tokens.specs.Left.{namesFrom, namesIn, NameByte, NameStepIs}
+use Rattle.lines.proofs.LineLaws.{spot}
+use Rattle.tokens.specs.Left.{isInside, namesFrom, namesIn, NameByte, NameStepIs}
 use Rattle.tokens.proofs.TokenLaws.{namesIn-close, namesIn-name}
 use Rattle.names.specs.Named.{nameLeft, hashFrom, hashOf, NameAt}
+use Rattle.names.specs.Shape.{standsIn}
+use Rattle.names.proofs.InsideLaws.{byte-inside, close-inside}
 use Rattle.names.proofs.CompareLaws.{step-byte, step-close, step-open}
 
 -- ## A name as a number
 
--- The bytes before q make h.
-pub record Hashing (g : Signs) (src : List ℕ) (p q : Spot) (h : ℕ) : Type 0 where
-  pub rest : hashFrom h (nameLeft g src q) ≡ hashOf (nameLeft g src p)
+-- The bytes from p to q make h of what was before.
+pub record Hashing (g : Signs) (src : List ℕ) (p q : Spot) (before h : ℕ) : Type 0 where
+  pub rest : hashFrom h (nameLeft g src q) ≡ hashFrom before (nameLeft g src p)
   pub small : h < 16777216
   pub to : q .at ≤ length src
 
-pub hashing-none : (g : Signs) (src : List ℕ) (p : Spot) → p .at ≤ length src → Hashing g src p p 0
-hashing-none g src p h = record { rest = refl; small = omega arith; to = h }
+pub hashing-none : (g : Signs) (src : List ℕ) (p : Spot) (h : ℕ) → p .at ≤ length src → h < 16777216 → Hashing g src p p h h
+hashing-none g src p h l k = record { rest = refl; small = k; to = l }
 
-hashing-end : {g : Signs} {src : List ℕ} {p q : Spot} {h : ℕ} → Hashing g src p q h → nameLeft g src q ≡ [] → h ≡ hashOf (nameLeft g src p)
-unfolding hashFrom
-hashing-end v e = rw e at (v .rest)
-
-module _ {g : Signs} {src : List ℕ} {p q : Spot} {h : ℕ} {s : NameStep} (v : Hashing g src p q h) (w : NameStepIs g src q s) where
-  pub hashing-close : {r : Spot} → s ≡ Close r → h ≡ hashOf (nameLeft g src p)
-  hashing-close e = hashing-end v (step-close g src q w e)
-
-  pub hashing-open : s ≡ Open → h ≡ hashOf (nameLeft g src p)
-  hashing-open e = hashing-end v (step-open g src q w e)
-
-  pub hashing-more : {b x : ℕ} {r : Spot} → s ≡ Byte b r → x ≡ b → Hashing g src p r ((h * 10368889 + x) % 16777216)
+module _ {g : Signs} {src : List ℕ} {p q : Spot} {before h : ℕ} (v : Hashing g src p q before h) where
+  hashing-end : nameLeft g src q ≡ [] → h ≡ hashFrom before (nameLeft g src p)
   unfolding hashFrom
-  hashing-more {b} {x} {r} e f =
-      let y : NameByte g src q b r = step-byte g src q w e in
-      record { rest = rw f (rw (y .bytes) at (v .rest)); small = omega arith; to = y .to }
+  hashing-end e = rw e at (v .rest)
+
+  hashing-on : {b i : ℕ} {r : Spot} → nameLeft g src q ≡ b ∷ nameLeft g src r → r .at ≤ length src
+      → (i ≡ (h * 10368889 + b) % 16777216) × (i < 16777216) → Hashing g src p r before i
+  unfolding hashFrom
+  hashing-on e t k = record { rest = rw (k .0) (rw e at (v .rest)); small = k .1; to = t }
+
+  -- what the rest makes
+  pub hashing-rest : {i : ℕ} → i ≡ hashFrom h (nameLeft g src q) → i ≡ hashFrom before (nameLeft g src p)
+  hashing-rest e = e ∙ v .rest
+
+  module _ {s : NameStep} (w : NameStepIs g src q s) where
+    pub hashing-close : {r : Spot} → s ≡ Close r → h ≡ hashFrom before (nameLeft g src p)
+    hashing-close e = hashing-end (step-close g src q w e)
+
+    pub hashing-open : s ≡ Open → h ≡ hashFrom before (nameLeft g src p)
+    hashing-open e = hashing-end (step-open g src q w e)
+
+    pub hashing-more : {b i : ℕ} {r : Spot} → s ≡ Byte b r → (i ≡ (h * 10368889 + b) % 16777216) × (i < 16777216) → Hashing g src p r before i
+    hashing-more {b} {r = r} e k = let y : NameByte g src q b r = step-byte g src q w e in hashing-on (y .bytes) (y .to) k
+
+-- from place to place inside the name
+module _ {g : Signs} {src : List ℕ} {p : Spot} {at : ℕ} {fresh : Bool} {h : ℕ} (v : Hashing g src p (spot at (p .mode) fresh) 0 h)
+    (i : isInside (p .mode) ≡ true) (l : at < length src) {t : Bool} (s : t ≡ standsIn (g .escape) (getD src at 0)) (y : t ≡ true) where
+  pub hashing-inside-close : getD src at 0 ≡ 62 → h ≡ hashOf (nameLeft g src p)
+  hashing-inside-close e = hashing-end v (close-inside g src (spot at (p .mode) fresh) l i (sym s ∙ y) e)
+
+  pub hashing-inside-more : {j : ℕ} → (getD src at 0 ≡ 62 → ⊥) → (j ≡ (h * 10368889 + getD src at 0) % 16777216) × (j < 16777216)
+      → Hashing g src p (spot (at + 1) (p .mode) false) 0 j
+  hashing-inside-more n k = hashing-on v (byte-inside g src (spot at (p .mode) fresh) l i (sym s ∙ y) n) (omega arith) k
 
 -- ## A name beside another
 
@@ -103,6 +125,52 @@ module _ {g : Signs} {src : List ℕ} {p q i j : Spot} (v : Agree g src p q i j)
       pub agree-more : a ≡ b → Agree g src p q k l
       unfolding same
       agree-more h = record { rest = v .rest ∙ rw (one .bytes, two .bytes) (simp (eq-eqb a b h)); first = one .to; second = two .to }
+
+-- the rest decides
+pub agree-rest : {g : Signs} {src : List ℕ} {p q i j : Spot} {t : Bool} → Agree g src p q i j → t ≡ same (nameLeft g src i) (nameLeft g src j)
+    → t ≡ same (nameLeft g src p) (nameLeft g src q)
+agree-rest v e = e ∙ sym (v .rest)
+
+-- from place to place inside both names
+module _ {g : Signs} {src : List ℕ} {p q : Spot} {at to : ℕ} {f k : Bool} (v : Agree g src p q (spot at (p .mode) f) (spot to (q .mode) k))
+    (i : (isInside (p .mode) ≡ true) × (isInside (q .mode) ≡ true)) (l : at < length src) (m : to < length src) {t u : Bool}
+    (s : t ≡ standsIn (g .escape) (getD src at 0)) (y : not t ≡ false) (r : u ≡ standsIn (g .escape) (getD src to 0)) (z : not u ≡ false) where
+  left-byte : (getD src at 0 ≡ 62 → ⊥) → nameLeft g src (spot at (p .mode) f) ≡ getD src at 0 ∷ nameLeft g src (spot (at + 1) (p .mode) false)
+  left-byte n = byte-inside g src (spot at (p .mode) f) l (i .0) (sym s ∙ not-false t y) n
+
+  right-byte : (getD src to 0 ≡ 62 → ⊥) → nameLeft g src (spot to (q .mode) k) ≡ getD src to 0 ∷ nameLeft g src (spot (to + 1) (q .mode) false)
+  right-byte n = byte-inside g src (spot to (q .mode) k) m (i .1) (sym r ∙ not-false u z) n
+
+  left-close : getD src at 0 ≡ 62 → nameLeft g src (spot at (p .mode) f) ≡ []
+  left-close e = close-inside g src (spot at (p .mode) f) l (i .0) (sym s ∙ not-false t y) e
+
+  right-close : getD src to 0 ≡ 62 → nameLeft g src (spot to (q .mode) k) ≡ []
+  right-close e = close-inside g src (spot to (q .mode) k) m (i .1) (sym r ∙ not-false u z) e
+
+  pub agree-inside-not : (getD src at 0 ≡ getD src to 0 → ⊥) → false ≡ same (nameLeft g src p) (nameLeft g src q)
+  unfolding same
+  agree-inside-not n =
+      let a = getD src at 0 in
+      let b = getD src to 0 in
+      agree-rest v
+      (by (eqb a 62)
+      (λ x. let e = eqb-true a 62 x in sym (rw (left-close e, right-byte (λ w. n (e ∙ sym w)))))
+      (λ x. by (eqb b 62) (λ w. sym (rw (left-byte (eqb-false a 62 x), right-close (eqb-true b 62 w))))
+      (λ w. sym (rw (left-byte (eqb-false a 62 x), right-byte (eqb-false b 62 w)) (simp (ne-eqb a b n))))))
+
+  module _ (e : getD src at 0 ≡ getD src to 0) where
+    pub agree-inside-close : getD src at 0 ≡ 62 → true ≡ same (nameLeft g src p) (nameLeft g src q)
+    unfolding same
+    agree-inside-close h = agree-rest v (sym (rw (left-close h, right-close (sym e ∙ h))))
+
+    pub agree-inside-more : (getD src at 0 ≡ 62 → ⊥) → Agree g src p q (spot (at + 1) (p .mode) false) (spot (to + 1) (q .mode) false)
+    unfolding same
+    agree-inside-more n =
+        record {
+          rest = v .rest ∙ rw (left-byte n, right-byte (λ h. n (e ∙ h))) (simp (eq-eqb (getD src at 0) (getD src to 0) e));
+          first = omega arith;
+          second = omega arith;
+        }
 
 -- ## Names in quotes
 

@@ -1,11 +1,14 @@
 // Names in a source, each from the spot right after its `<`: beside other bytes or another name, as a character by its code, as a number.
 ghost use mathlib.Core.Path.{_≡_};
+ghost use mathlib.Core.Bool.{true};
 ghost use mathlib.Core.List.{[]};
 ghost use Prim.Native.Nat.{_+_, _*_, _%_, _^_, _≤_, _<_};
-ghost use lib.ListN.{length, replicate};
+ghost use lib.ListN.{length, drop, replicate};
 ghost use Rattle.rules.specs.Text.{same};
 ghost use Rattle.rules.specs.Names.{isVisible};
-ghost use Rattle.names.specs.Named.{nameLeft, hexOf, MadeIs, DigitsAre, CodeIs, hashOf, NamedIs};
+ghost use Rattle.tokens.specs.Left.{isInside};
+ghost use Rattle.names.specs.Named.{nameLeft, hexOf, MadeIs, DigitsAre, CodeIs, hashFrom, hashOf, NamedIs};
+ghost use Rattle.names.specs.Shape.{standsIn, isApart, shortOf, shapeOf};
 ghost use Rattle.names.specs.Packed.{PackedIs, Begun, PutIs, PackedOn};
 use lines::Signs;
 use lines::Spot;
@@ -61,30 +64,53 @@ pub fn name_is(src: &[u8], g: Signs, p: Spot, w: &[u8]) -> bool
     }
 }
 
+fn is_inside(mode: u8) -> bool
+    ensures { λ r. ⌜ r ≡ isInside mode ⌝ }
+{
+    mode == 1 || mode == 3
+}
+
+// Whether a byte may stand in a name that is declared.
+fn visible(b: u8) -> bool
+    ensures { λ r. ⌜ r ≡ isVisible b ⌝ }
+{
+    if b < 33 {
+        return false;
+    }
+    b <= 126
+}
+
+// Whether a byte of a name is meant as it stands: it is visible, and no escape.
+fn stands(b: u8, escape: u8) -> bool
+    ensures { λ r. ⌜ r ≡ standsIn escape b ⌝ }
+{
+    if b == escape {
+        return false;
+    }
+    visible(b)
+}
+
 fn wide(b: u8) -> u32
     ensures { λ r. ⌜ (r ≡ b) × (r < 256) ⌝ }
 {
     b as u32
 }
 
-// An uppercase hex digit's value, 16 for what is none.
+// An uppercase hex digit's value, 16 for what is none: x - 48 and x - 65 as numbers modulo 256, so that each asks one test.
 fn hex(b: u8) -> u32
     ensures { λ r. ⌜ r ≡ hexOf b ⌝ }
 {
     let x = wide(b);
-    if x < 48 {
-        return 16;
+    let figure = (x + 208) % 256;
+    let letter = (x + 191) % 256;
+    let mut r: u32 = 16;
+    if letter < 6 {
+        r = letter + 10;
     }
-    if x < 58 {
-        return x - 48;
+    if figure < 10 {
+        r = figure;
     }
-    if x < 65 {
-        return 16;
-    }
-    if x < 71 {
-        return x - 55;
-    }
-    16
+    r
 }
 
 // What n digits that make x are.
@@ -131,8 +157,8 @@ fn digits(src: &[u8], g: Signs, p: Spot) -> Code
     }
 }
 
-// The code of a name that is shaped as a character.
-pub fn name_char(src: &[u8], g: Signs, p: Spot) -> Code
+// The code of a name that is shaped as a character, byte by byte.
+fn slow_char(src: &[u8], g: Signs, p: Spot) -> Code
     requires { ⌜ p .at ≤ length (now src) ⌝ }
     ensures { λ r. ⌜ CodeIs (nameLeft g (now (src .entry)) p) r ⌝ }
 {
@@ -149,31 +175,104 @@ pub fn name_char(src: &[u8], g: Signs, p: Spot) -> Code
     }
 }
 
+// Four digits and `>`: the code that they make and 2, or 0.
+fn short_code(a: u8, b: u8, c: u8, d: u8, close: u8) -> u32
+    ensures { λ r. ⌜ r ≡ shortOf a b c d close ⌝ }
+{
+    let w = hex(a);
+    let x = hex(b);
+    let y = hex(c);
+    let z = hex(d);
+    if w / 16 + x / 16 + y / 16 + z / 16 == 0 {
+        if close == 62 {
+            return ((w * 16 + x) * 16 + y) * 16 + z + 2;
+        }
+        return 0;
+    }
+    0
+}
+
+// Whether an escape is no byte of a character's name.
+fn is_apart(escape: u8) -> bool
+    ensures { λ r. ⌜ r ≡ isApart escape ⌝ }
+{
+    if escape < 48 {
+        return true;
+    }
+    if escape < 58 {
+        return false;
+    }
+    if escape == 62 {
+        return false;
+    }
+    if escape < 65 {
+        return true;
+    }
+    if escape < 91 {
+        return false;
+    }
+    true
+}
+
+// What six bytes from a place on say of a name that begins there: 0 that it asks for a closer look, 1 that it is no character, else a
+// character's code and 2.
+pub fn shape_at(src: &[u8], escape: u8, at: usize) -> u32
+    requires { ⌜ at ≤ length (now src) ⌝ }
+    ensures { λ r. ⌜ r ≡ shapeOf escape (drop at (now (src .entry))) ⌝ }
+{
+    if is_apart(escape) {
+        if src.len() - at >= 6 {
+            let u = src[at];
+            if u == 85 {
+                return short_code(
+                    src[at + 1],
+                    src[at + 2],
+                    src[at + 3],
+                    src[at + 4],
+                    src[at + 5],
+                );
+            }
+            if stands(u, escape) {
+                return 1;
+            }
+            return 0;
+        }
+        return 0;
+    }
+    0
+}
+
+// The code of a name that is shaped as a character, from a spot inside it.
+fn char_inside(src: &[u8], g: Signs, p: Spot) -> Code
+    requires { ⌜ p .at ≤ length (now src) ⌝ }
+    requires { ⌜ isInside (p .mode) ≡ true ⌝ }
+    ensures { λ r. ⌜ CodeIs (nameLeft g (now (src .entry)) p) r ⌝ }
+{
+    let x = shape_at(src, g.escape, p.at);
+    if x == 0 {
+        return slow_char(src, g, p);
+    }
+    if x == 1 {
+        return Code::Other;
+    }
+    made(4, x - 2)
+}
+
+// The code of a name that is shaped as a character.
+pub fn name_char(src: &[u8], g: Signs, p: Spot) -> Code
+    requires { ⌜ p .at ≤ length (now src) ⌝ }
+    ensures { λ r. ⌜ CodeIs (nameLeft g (now (src .entry)) p) r ⌝ }
+{
+    if is_inside(p.mode) {
+        return char_inside(src, g, p);
+    }
+    slow_char(src, g, p)
+}
+
 fn number(b: u8) -> usize
     ensures { λ r. ⌜ (r ≡ b) × (r < 256) ⌝ }
 {
     b as usize
-}
-
-// A number that is the same for the same name, below 2 to the 24th.
-pub fn name_hash(src: &[u8], g: Signs, p: Spot) -> usize
-    requires { ⌜ p .at ≤ length (now src) ⌝ }
-    ensures { λ r. ⌜ (r ≡ hashOf (nameLeft g (now (src .entry)) p)) × (r < 16777216) ⌝ }
-{
-    let mut q = p;
-    let mut h: usize = 0;
-    loop {
-        let s = name_byte(src, g, q);
-        match s {
-            NameStep::Byte(b, r) => {
-                let x = number(b);
-                h = (h * 10368889 + x) % 16777216;
-                q = r;
-            }
-            NameStep::Close(_) => return h,
-            NameStep::Open => return h,
-        }
-    }
 }
 
 // The hash h with a byte more.
@@ -185,14 +284,69 @@ fn mixed(h: usize, b: u8) -> usize
     (h * 10368889 + x) % 16777216
 }
 
-// Whether a byte may stand in a name that is declared.
-fn visible(b: u8) -> bool
-    ensures { λ r. ⌜ r ≡ isVisible b ⌝ }
+// The hash of what is left of a name, behind bytes that make before.
+fn hash_from(src: &[u8], g: Signs, p: Spot, before: usize) -> usize
+    requires { ⌜ (p .at ≤ length (now src)) × (before < 16777216) ⌝ }
+    ensures { λ r. ⌜ (r ≡ hashFrom before (nameLeft g (now (src .entry)) p)) × (r < 16777216) ⌝ }
 {
-    if b < 33 {
-        return false;
+    let mut q = p;
+    let mut h = before;
+    loop {
+        let s = name_byte(src, g, q);
+        match s {
+            NameStep::Byte(b, r) => {
+                h = mixed(h, b);
+                q = r;
+            }
+            NameStep::Close(_) => return h,
+            NameStep::Open => return h,
+        }
     }
-    b <= 126
+}
+
+// The hash of a name, from a spot inside it: bytes that stand are taken one after the other, and any other goes the long way.
+fn hash_inside(src: &[u8], g: Signs, p: Spot) -> usize
+    requires { ⌜ (p .at ≤ length (now src)) × (isInside (p .mode) ≡ true) ⌝ }
+    ensures { λ r. ⌜ (r ≡ hashOf (nameLeft g (now (src .entry)) p)) × (r < 16777216) ⌝ }
+{
+    let mut at = p.at;
+    let mut fresh = p.fresh;
+    let mut h: usize = 0;
+    while at < src.len() {
+        let b = src[at];
+        if stands(b, g.escape) {
+            if b == 62 {
+                return h;
+            }
+            h = mixed(h, b);
+            fresh = false;
+            at += 1;
+        } else {
+            let q = Spot {
+                at: at,
+                mode: p.mode,
+                fresh: fresh,
+            };
+            return hash_from(src, g, q, h);
+        }
+    }
+    let q = Spot {
+        at: at,
+        mode: p.mode,
+        fresh: fresh,
+    };
+    hash_from(src, g, q, h)
+}
+
+// A number that is the same for the same name, below 2 to the 24th.
+pub fn name_hash(src: &[u8], g: Signs, p: Spot) -> usize
+    requires { ⌜ p .at ≤ length (now src) ⌝ }
+    ensures { λ r. ⌜ (r ≡ hashOf (nameLeft g (now (src .entry)) p)) × (r < 16777216) ⌝ }
+{
+    if is_inside(p.mode) {
+        return hash_inside(src, g, p);
+    }
+    hash_from(src, g, p, 0)
 }
 
 // What a byte adds to its number, from place k of four.
@@ -264,12 +418,56 @@ fn pack_from(src: &[u8], g: Signs, p: Spot, key: &mut [u32], before: usize, pass
     }
 }
 
+// A name in its numbers, from a spot inside it: bytes that stand are taken one after the other, and any other goes the long way.
+fn pack_inside(src: &[u8], g: Signs, p: Spot, key: &mut [u32]) -> Pack
+    requires { ⌜ p .at ≤ length (now src) ⌝ }
+    requires { ⌜ isInside (p .mode) ≡ true ⌝ }
+    requires { ⌜ now key ≡ replicate 8 0 ⌝ }
+    ensures { λ r. ⌜ PackedIs (nameLeft g (now (src .entry)) p) (now (key .exit)) r ⌝ }
+{
+    let mut at = p.at;
+    let mut fresh = p.fresh;
+    let mut h: usize = 0;
+    let mut n: usize = 0;
+    while at < src.len() {
+        let b = src[at];
+        if stands(b, g.escape) {
+            if b == 62 {
+                return Pack {
+                    hash: h,
+                    plain: n <= 32,
+                };
+            }
+            n = put(key, n, b);
+            h = mixed(h, b);
+            fresh = false;
+            at += 1;
+        } else {
+            let q = Spot {
+                at: at,
+                mode: p.mode,
+                fresh: fresh,
+            };
+            return pack_from(src, g, q, key, h, n);
+        }
+    }
+    let q = Spot {
+        at: at,
+        mode: p.mode,
+        fresh: fresh,
+    };
+    pack_from(src, g, q, key, h, n)
+}
+
 // A name in its numbers, and its hash.
 pub fn pack_name(src: &[u8], g: Signs, p: Spot, key: &mut [u32]) -> Pack
     requires { ⌜ p .at ≤ length (now src) ⌝ }
     requires { ⌜ now key ≡ replicate 8 0 ⌝ }
     ensures { λ r. ⌜ PackedIs (nameLeft g (now (src .entry)) p) (now (key .exit)) r ⌝ }
 {
+    if is_inside(p.mode) {
+        return pack_inside(src, g, p, key);
+    }
     pack_from(src, g, p, key, 0, 0)
 }
 
@@ -286,8 +484,8 @@ fn ends(src: &[u8], g: Signs, p: Spot) -> bool
     }
 }
 
-// Whether the names at two spots have the same bytes.
-pub fn same_name(src: &[u8], g: Signs, p: Spot, q: Spot) -> bool
+// Whether the names at two spots have the same bytes, byte by byte.
+fn same_from(src: &[u8], g: Signs, p: Spot, q: Spot) -> bool
     requires { ⌜ (p .at ≤ length (now src)) × (q .at ≤ length (now src)) ⌝ }
     ensures { λ r. ⌜ r ≡ same (nameLeft g (now (src .entry)) p) (nameLeft g (now (src .entry)) q) ⌝ }
 {
@@ -315,6 +513,67 @@ pub fn same_name(src: &[u8], g: Signs, p: Spot, q: Spot) -> bool
             NameStep::Open => return ends(src, g, j),
         }
     }
+}
+
+// Whether the names at two spots inside them have the same bytes: bytes that stand are compared as they are, and any other goes the long way.
+fn same_inside(src: &[u8], g: Signs, p: Spot, q: Spot) -> bool
+    requires { ⌜ (p .at ≤ length (now src)) × (q .at ≤ length (now src)) ⌝ }
+    requires { ⌜ (isInside (p .mode) ≡ true) × (isInside (q .mode) ≡ true) ⌝ }
+    ensures { λ r. ⌜ r ≡ same (nameLeft g (now (src .entry)) p) (nameLeft g (now (src .entry)) q) ⌝ }
+{
+    let mut i = p.at;
+    let mut j = q.at;
+    let mut first = p.fresh;
+    let mut second = q.fresh;
+    loop {
+        let from = Spot {
+            at: i,
+            mode: p.mode,
+            fresh: first,
+        };
+        let beside = Spot {
+            at: j,
+            mode: q.mode,
+            fresh: second,
+        };
+        if i >= src.len() {
+            return same_from(src, g, from, beside);
+        }
+        if j >= src.len() {
+            return same_from(src, g, from, beside);
+        }
+        let a = src[i];
+        let b = src[j];
+        if !stands(a, g.escape) {
+            return same_from(src, g, from, beside);
+        }
+        if !stands(b, g.escape) {
+            return same_from(src, g, from, beside);
+        }
+        if a != b {
+            return false;
+        }
+        if a == 62 {
+            return true;
+        }
+        i += 1;
+        j += 1;
+        first = false;
+        second = false;
+    }
+}
+
+// Whether the names at two spots have the same bytes.
+pub fn same_name(src: &[u8], g: Signs, p: Spot, q: Spot) -> bool
+    requires { ⌜ (p .at ≤ length (now src)) × (q .at ≤ length (now src)) ⌝ }
+    ensures { λ r. ⌜ r ≡ same (nameLeft g (now (src .entry)) p) (nameLeft g (now (src .entry)) q) ⌝ }
+{
+    if is_inside(p.mode) {
+        if is_inside(q.mode) {
+            return same_inside(src, g, p, q);
+        }
+    }
+    same_from(src, g, p, q)
 }
 
 // The next name in quotes, from a spot in them outside names.

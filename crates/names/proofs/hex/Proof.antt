@@ -1,5 +1,7 @@
--- `names::hex` meets its contract: a law for each range of bytes.
-use Rattle.names.proofs.CodeLaws.{hex-below, hex-figure, hex-between, hex-letter, hex-above}
+-- `names::hex` meets its contract: a law for figures, for letters and for what is neither.
+use mathlib.Core.Path.{_∙_}
+use mathlib.Core.Logic.{⊎-elim}
+use Rattle.names.proofs.CodeLaws.{hex-figure, hex-letter, hex-none}
 use borrow.Author.Needs.{needs}
 use Rattle.names.proofs.hex.Statement.{statement}
 use Rattle.names.proofs.hex.Tie as tie
@@ -7,24 +9,21 @@ use Rattle.names.proofs.hex.Tie as tie
 wide-requires : tie.Need-wide-requires
 wide-requires c κs = search needs
 
+add-figure : tie.Need-add-figure
+add-figure c = search needs
+
+add-letter : tie.Need-add-letter
+add-letter c = search needs
+
+add-r : tie.Need-add-r
+add-r c = search needs
+
 returns : tie.Need-returns
-returns c = search hex-below
+returns c = hex-figure _ _ (c .before .before .wide .ensures) (c .if2 .taken)
 
 returns-2 : tie.Need-returns-2
-returns-2 c = search hex-figure
-
-returns-3 : tie.Need-returns-3
-returns-3 c = search hex-between
-
-sub-result : tie.Need-sub-result
-sub-result c = search needs
-
-returns-4 : tie.Need-returns-4
-returns-4 c = search hex-letter
-
-returns-5 : tie.Need-returns-5
-returns-5 c = search hex-above
+returns-2 c = let w = c .before .before .wide .ensures in
+    ⊎-elim (λ y. y .1 ∙ hex-letter _ _ w (y .0 .taken)) (λ y. y .1 ∙ hex-none _ _ w (c .if2 .left) (y .0 .left)) (c .before .if1 .came)
 
 pub hex-spec : {M : Type 1} → statement M
-hex-spec =
-    tie.close (tie.spec wide-requires returns returns-2 returns-3 sub-result returns-4 returns-5)
+hex-spec = tie.close (tie.spec wide-requires add-figure add-letter add-r returns returns-2)

@@ -1,48 +1,25 @@
--- `names::name_char` meets its contract: a U, and digits after it.
-use Rattle.names.proofs.CompareLaws.{step-byte}
-use Rattle.names.proofs.CodeLaws.{char-digits, char-other, char-close, char-open}
+-- `names::name_char` meets its contract: inside a name by its shape, else the long way.
+use Rattle.names.proofs.InsideLaws.{told}
 use borrow.Author.Needs.{needs}
 use Rattle.names.proofs.name_char.Statement.{statement}
 use Rattle.names.proofs.name_char.Tie as tie
 
-name-byte-requires : tie.Need-name-byte-requires
-name-byte-requires c κs = search needs
+is-inside-requires : tie.Need-is-inside-requires
+is-inside-requires c κs = search needs
 
-enum-known-s : tie.Need-enum-known-s
-enum-known-s c = search needs
-
-digits-requires : tie.Need-digits-requires
-digits-requires c κs = let n = c .before .before .before .before in let a = n .before .before .args in
-    step-byte (a .g) (a .src .now) (a .p) {s = n .name-byte .result} (n .name-byte .ensures) (c .before .before .s .given .1) .to
+char-inside-requires : tie.Need-char-inside-requires
+char-inside-requires c κs = search (told, needs)
 
 returns : tie.Need-returns
-returns c = search char-digits
+returns c = search needs
+
+slow-char-requires : tie.Need-slow-char-requires
+slow-char-requires c κs = search needs
 
 returns-2 : tie.Need-returns-2
-returns-2 c = search char-other
-
-enum-told : tie.Need-enum-told
-enum-told c = search needs
-
-returns-3 : tie.Need-returns-3
-returns-3 c = search char-close
-
-enum-told-2 : tie.Need-enum-told-2
-enum-told-2 c = search needs
-
-returns-4 : tie.Need-returns-4
-returns-4 c = search char-open
+returns-2 c = search needs
 
 pub name-char-spec : {M : Type 1} → statement M
 name-char-spec =
     tie.close
-    (tie.spec
-    name-byte-requires
-    enum-known-s
-    digits-requires
-    returns
-    returns-2
-    enum-told
-    returns-3
-    enum-told-2
-    returns-4)
+    (tie.spec is-inside-requires char-inside-requires returns slow-char-requires returns-2)

@@ -1,69 +1,25 @@
--- `names::name_hash` meets its contract. The invariant: what the bytes so far make. The measure is what is left of the source.
-use Rattle.names.proofs.WalkLaws.{Hashing, hashing-none, hashing-more, hashing-close, hashing-open}
-use Rattle.names.proofs.CompareLaws.{step-less}
-use Prim.Native.Nat.{_-_}
-use lib.ListN.{length}
+-- `names::name_hash` meets its contract: inside a name byte after byte, else the long way.
+use Rattle.names.proofs.InsideLaws.{told}
 use borrow.Author.Needs.{needs}
 use Rattle.names.proofs.name_hash.Statement.{statement}
 use Rattle.names.proofs.name_hash.Tie as tie
 
-abbrev Inv-loop : tie.InvT-loop
-Inv-loop src g q₀ h₀ q h = Hashing g src q₀ q h
+is-inside-requires : tie.Need-is-inside-requires
+is-inside-requires c κs = search needs
 
-abbrev μ-loop : tie.MeasureT-loop
-μ-loop src g q₀ h₀ q h = length src - q .at
+hash-inside-requires : tie.Need-hash-inside-requires
+hash-inside-requires c κs = search (told, needs)
 
-loop-holds : tie.Need-loop-holds Inv-loop μ-loop
-loop-holds c = search hashing-none
+returns : tie.Need-returns
+returns c = search needs
 
-name-byte-requires : tie.Need-name-byte-requires Inv-loop μ-loop
-name-byte-requires c κs = search needs
+hash-from-requires : tie.Need-hash-from-requires
+hash-from-requires c κs = search needs
 
-enum-known-s : tie.Need-enum-known-s Inv-loop μ-loop
-enum-known-s c = search needs
-
-number-requires : tie.Need-number-requires Inv-loop μ-loop
-number-requires c κs = search needs
-
-mul-h : tie.Need-mul-h Inv-loop μ-loop
-mul-h c = search needs
-
-add-h : tie.Need-add-h Inv-loop μ-loop
-add-h c = search needs
-
-loop-less : tie.Need-loop-less Inv-loop μ-loop
-loop-less c = search step-less
-
-loop-again : tie.Need-loop-again Inv-loop μ-loop
-loop-again c = search hashing-more
-
-enum-told : tie.Need-enum-told Inv-loop μ-loop
-enum-told c = search needs
-
-returns : tie.Need-returns Inv-loop μ-loop
-returns c = (search hashing-close, search needs)
-
-enum-told-2 : tie.Need-enum-told-2 Inv-loop μ-loop
-enum-told-2 c = search needs
-
-returns-2 : tie.Need-returns-2 Inv-loop μ-loop
-returns-2 c = (search hashing-open, search needs)
+returns-2 : tie.Need-returns-2
+returns-2 c = search needs
 
 pub name-hash-spec : {M : Type 1} → statement M
 name-hash-spec =
     tie.close
-    (tie.spec
-    Inv-loop
-    μ-loop
-    loop-holds
-    name-byte-requires
-    enum-known-s
-    number-requires
-    mul-h
-    add-h
-    loop-less
-    loop-again
-    enum-told
-    returns
-    enum-told-2
-    returns-2)
+    (tie.spec is-inside-requires hash-inside-requires returns hash-from-requires returns-2)

@@ -1,93 +1,34 @@
--- `names::same_name` meets its contract. The invariant: the names agree so far. The measure is what is left of the source.
-use Rattle.names.proofs.WalkLaws.{Agree, agree-none, agree-more, agree-not, agree-longer-close, agree-longer-open, agree-close, agree-open}
-use Rattle.names.proofs.CompareLaws.{step-less}
-use Prim.Native.Nat.{_-_}
-use lib.ListN.{length}
+-- `names::same_name` meets its contract: inside both names byte after byte, else the long way.
+use Rattle.names.proofs.InsideLaws.{told}
 use borrow.Author.Needs.{needs}
 use Rattle.names.proofs.same_name.Statement.{statement}
 use Rattle.names.proofs.same_name.Tie as tie
 
-abbrev Inv-loop : tie.InvT-loop
-Inv-loop src g i₀ j₀ i j = Agree g src i₀ j₀ i j
+is-inside-requires : tie.Need-is-inside-requires
+is-inside-requires c κs = search needs
 
-abbrev μ-loop : tie.MeasureT-loop
-μ-loop src g i₀ j₀ i j = length src - i .at
+is-inside-requires-2 : tie.Need-is-inside-requires-2
+is-inside-requires-2 c κs = search needs
 
-loop-holds : tie.Need-loop-holds Inv-loop μ-loop
-loop-holds c = search agree-none
+same-inside-requires : tie.Need-same-inside-requires
+same-inside-requires c κs = search (told, needs)
 
-name-byte-requires : tie.Need-name-byte-requires Inv-loop μ-loop
-name-byte-requires c κs = search needs
+returns : tie.Need-returns
+returns c = search needs
 
-enum-known-s : tie.Need-enum-known-s Inv-loop μ-loop
-enum-known-s c = search needs
+same-from-requires : tie.Need-same-from-requires
+same-from-requires c κs = search needs
 
-name-byte-requires-2 : tie.Need-name-byte-requires-2 Inv-loop μ-loop
-name-byte-requires-2 c κs = search needs
-
-enum-known-t : tie.Need-enum-known-t Inv-loop μ-loop
-enum-known-t c = search needs
-
-loop-less : tie.Need-loop-less Inv-loop μ-loop
-loop-less c = search step-less
-
-loop-again : tie.Need-loop-again Inv-loop μ-loop
-loop-again c = search agree-more
-
-returns : tie.Need-returns Inv-loop μ-loop
-returns c = search agree-not
-
-enum-told : tie.Need-enum-told Inv-loop μ-loop
-enum-told c = search needs
-
-returns-2 : tie.Need-returns-2 Inv-loop μ-loop
-returns-2 c = search agree-longer-close
-
-enum-told-2 : tie.Need-enum-told-2 Inv-loop μ-loop
-enum-told-2 c = search needs
-
-returns-3 : tie.Need-returns-3 Inv-loop μ-loop
-returns-3 c = search agree-longer-open
-
-enum-told-3 : tie.Need-enum-told-3 Inv-loop μ-loop
-enum-told-3 c = search needs
-
-ends-requires : tie.Need-ends-requires Inv-loop μ-loop
-ends-requires c κs = search needs
-
-returns-4 : tie.Need-returns-4 Inv-loop μ-loop
-returns-4 c = search agree-close
-
-enum-told-4 : tie.Need-enum-told-4 Inv-loop μ-loop
-enum-told-4 c = search needs
-
-ends-requires-2 : tie.Need-ends-requires-2 Inv-loop μ-loop
-ends-requires-2 c κs = search needs
-
-returns-5 : tie.Need-returns-5 Inv-loop μ-loop
-returns-5 c = search agree-open
+returns-2 : tie.Need-returns-2
+returns-2 c = search needs
 
 pub same-name-spec : {M : Type 1} → statement M
 same-name-spec =
     tie.close
     (tie.spec
-    Inv-loop
-    μ-loop
-    loop-holds
-    name-byte-requires
-    enum-known-s
-    name-byte-requires-2
-    enum-known-t
-    loop-less
-    loop-again
+    is-inside-requires
+    is-inside-requires-2
+    same-inside-requires
     returns
-    enum-told
-    returns-2
-    enum-told-2
-    returns-3
-    enum-told-3
-    ends-requires
-    returns-4
-    enum-told-4
-    ends-requires-2
-    returns-5)
+    same-from-requires
+    returns-2)
