@@ -1,4 +1,4 @@
-// Names in a source, each from the spot right after its `<`: beside other bytes or another name, as a character by its code, as a number.
+// Names in a source, each from the spot right after its `<`: beside other bytes or another name, as a character by its code, as a hash, packed into eight numbers.
 ghost use mathlib.Core.Path.{_≡_};
 ghost use mathlib.Core.Bool.{true, _&&_};
 ghost use mathlib.Core.List.{[]};
