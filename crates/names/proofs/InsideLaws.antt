@@ -2,11 +2,11 @@
 use mathlib.Core.Path.{_≡_, refl, sym, _∙_}
 use mathlib.Core.Bool.{Bool, true, false, _&&_, not, and-true, and-false}
 use mathlib.Core.List.{List, [], _∷_}
-use Prim.Native.Nat.{ℕ, _+_, _%_, _≤_, _<_}
+use Prim.Native.Nat.{ℕ, _+_, _-_, _%_, _≤_, _<_}
 use native.Mathlib.Omega.{arith}
 use lib.ListN.{length, getD}
-use lib.Dec.{eqb, leb}
-use borrow.Author.Tests.{eq-eqb, ne-eqb, eqb-true, eqb-false, not-true, leb-true}
+use lib.Dec.{eqb, leb, ltb}
+use borrow.Author.Tests.{eq-eqb, ne-eqb, eqb-true, eqb-false, not-true, leb-true, ltb-true, lt-ltb, le-ltb}
 use Rattle.lists.proofs.Bools.{by, and-left, and-right}
 use Rattle.rules.specs.Names.{isVisible}
 use Rattle.rules.specs.Lines.{after}
@@ -18,7 +18,7 @@ use Rattle.lines.proofs.LineLaws.{spot, item-mark}
 use Rattle.lines.proofs.ByteLaws.{after-name, after-inner}
 use Rattle.tokens.specs.Left.{isInside, nameIn}
 use Rattle.names.specs.Named.{nameLeft}
-use Rattle.names.specs.Shape.{standsIn}
+use Rattle.names.specs.Shape.{standsIn, standsAt}
 
 -- what a test says
 pub told : {t u : Bool} → t ≡ u → t ≡ true → u ≡ true
@@ -48,6 +48,57 @@ stands-high e b h = leb-true b 126 (and-right (leb 33 b) (leb b 126) (stands-vis
 
 pub stands-no-escape : (e b : ℕ) → standsIn e b ≡ true → b ≡ e → ⊥
 stands-no-escape e b h = eqb-false b e (not-true (eqb b e) (and-right (isVisible b) (not (eqb b e)) h))
+
+-- a place
+
+pub place-stands : (e : ℕ) (src : List ℕ) (at : ℕ) {t : Bool} → at < length src → t ≡ standsIn e (getD src at 0) → t ≡ standsAt e src at
+unfolding standsAt
+place-stands e src at h f = f ∙ sym (rw (lt-ltb at (length src) h))
+
+pub both-stand : (e : ℕ) (src : List ℕ) (i j : ℕ) {t u : Bool} → t ≡ standsAt e src i → t ≡ true → u ≡ standsAt e src j
+    → u ≡ (standsAt e src i && standsAt e src j)
+both-stand e src i j h k f = f ∙ sym (rw (sym h ∙ k))
+
+pub not-both : (e : ℕ) (src : List ℕ) (i j : ℕ) {t : Bool} → t ≡ standsAt e src i → t ≡ false → false ≡ (standsAt e src i && standsAt e src j)
+not-both e src i j h k = sym (rw (sym h ∙ k))
+
+pub place-none : (e : ℕ) (src : List ℕ) (at : ℕ) → length src ≤ at → false ≡ standsAt e src at
+unfolding standsAt
+place-none e src at h = sym (rw (le-ltb at (length src) h))
+
+module _ (e : ℕ) (src : List ℕ) (at : ℕ) (h : standsAt e src at ≡ true) where
+  pub place-within : at < length src
+  unfolding standsAt
+  place-within = ltb-true at (length src) (and-left (ltb at (length src)) (standsIn e (getD src at 0)) h)
+
+  pub place-is : standsIn e (getD src at 0) ≡ true
+  unfolding standsAt
+  place-is = and-right (ltb at (length src)) (standsIn e (getD src at 0)) h
+
+-- what a test of a place gives
+module _ (e : ℕ) (src : List ℕ) (at : ℕ) {t : Bool} (s : t ≡ standsAt e src at) (y : t ≡ true) where
+  pub test-within : at < length src
+  test-within = place-within e src at (sym s ∙ y)
+
+  pub test-less : length src - (at + 1) < length src - at
+  test-less = let l = test-within in omega arith
+
+-- and of two places
+module _ (e : ℕ) (src : List ℕ) (i j : ℕ) {t : Bool} (s : t ≡ (standsAt e src i && standsAt e src j)) (y : t ≡ true) where
+  pub first-stands : standsAt e src i ≡ true
+  first-stands = and-left (standsAt e src i) (standsAt e src j) (sym s ∙ y)
+
+  pub second-stands : standsAt e src j ≡ true
+  second-stands = and-right (standsAt e src i) (standsAt e src j) (sym s ∙ y)
+
+  pub first-within : i < length src
+  first-within = place-within e src i first-stands
+
+  pub second-within : j < length src
+  second-within = place-within e src j second-stands
+
+  pub first-less : length src - (i + 1) < length src - i
+  first-less = let l = first-within in omega arith
 
 module _ (g : Signs) (src : List ℕ) (p : Spot) (l : p .at < length src) (i : isInside (p .mode) ≡ true) (s : standsIn (g .escape) (getD src (p .at) 0) ≡ true) where
   -- the mark is the byte

@@ -22,9 +22,9 @@ use Rattle.lines.proofs.LineLaws.{spot}
 use Rattle.tokens.specs.Left.{isInside, NameByte, NameStepIs}
 use Rattle.names.specs.declared.Pack.{Pack}
 use Rattle.names.specs.Named.{nameLeft, hashFrom}
-use Rattle.names.specs.Shape.{standsIn}
+use Rattle.names.specs.Shape.{standsIn, standsAt}
 use Rattle.names.specs.Packed.{quad, packed, isPlain, PackedIs, Counted, Begun, PutIs, PackedOn}
-use Rattle.names.proofs.InsideLaws.{byte-inside, close-inside}
+use Rattle.names.proofs.InsideLaws.{place-within, place-is, byte-inside, close-inside}
 use Rattle.names.proofs.CompareLaws.{step-byte, step-close, step-open}
 
 -- by cases of a number below four
@@ -422,10 +422,16 @@ module _ {g : Signs} {src : List ℕ} {p : Spot} {at : ℕ} {fresh : Bool} {key 
       → PackedIs (nameLeft g src p) after r
   inside-rest e w = packed-whole e (packing-rest v w)
 
-  module _ (i : isInside (p .mode) ≡ true) (l : at < length src) {t : Bool} (s : t ≡ standsIn (g .escape) (getD src at 0)) (y : t ≡ true) where
+  module _ (i : isInside (p .mode) ≡ true) {t : Bool} (s : t ≡ standsAt (g .escape) src at) (y : t ≡ true) where
+    place : at < length src
+    place = place-within (g .escape) src at (sym s ∙ y)
+
+    byte : standsIn (g .escape) (getD src at 0) ≡ true
+    byte = place-is (g .escape) src at (sym s ∙ y)
+
     pub inside-close : getD src at 0 ≡ 62 → key ≡ replicate 8 0 → PackedIs (nameLeft g src p) now (record { hash = h; plain = leb m 32 })
-    inside-close f e = packed-whole e (packing-end v (close-inside g src (spot at (p .mode) fresh) l i (sym s ∙ y) f))
+    inside-close f e = packed-whole e (packing-end v (close-inside g src (spot at (p .mode) fresh) place i byte f))
 
     pub inside-more : {j k : ℕ} {after : List ℕ} → (getD src at 0 ≡ 62 → ⊥) → PutIs now m (getD src at 0) after j
         → (k ≡ (h * 10368889 + getD src at 0) % 16777216) × (k < 16777216) → Packing g src p (spot (at + 1) (p .mode) false) key after 0 k 0 j
-    inside-more n f k = packing-on v (byte-inside g src (spot at (p .mode) fresh) l i (sym s ∙ y) n) (omega arith) f k
+    inside-more n f k = let l = place in packing-on v (byte-inside g src (spot at (p .mode) fresh) place i byte n) (omega arith) f k

@@ -1,12 +1,12 @@
 -- A name as a number, a name beside another, and the names in quotes: the turns of the loops.
 use mathlib.Core.Path.{_≡_, refl, sym, _∙_, subst}
-use mathlib.Core.Bool.{Bool, true, false, not}
+use mathlib.Core.Bool.{Bool, true, false, _&&_}
 use mathlib.Core.List.{List, [], _∷_}
 use Prim.Native.Nat.{ℕ, _+_, _-_, _*_, _%_, _≤_, _<_}
 use native.Mathlib.Omega.{arith}
 use lib.ListN.{length, getD}
 use lib.Dec.{eqb}
-use borrow.Author.Tests.{eq-eqb, ne-eqb, eqb-true, eqb-false, not-false}
+use borrow.Author.Tests.{eq-eqb, ne-eqb, eqb-true, eqb-false}
 use Rattle.lists.proofs.Bools.{by}
 use Rattle.rules.specs.Text.{same}
 use Rattle.rules.specs.Lines.{quoted, after}
@@ -21,8 +21,8 @@ use Rattle.lines.proofs.LineLaws.{spot}
 use Rattle.tokens.specs.Left.{isInside, namesFrom, namesIn, NameByte, NameStepIs}
 use Rattle.tokens.proofs.TokenLaws.{namesIn-close, namesIn-name}
 use Rattle.names.specs.Named.{nameLeft, hashFrom, hashOf, NameAt}
-use Rattle.names.specs.Shape.{standsIn}
-use Rattle.names.proofs.InsideLaws.{byte-inside, close-inside}
+use Rattle.names.specs.Shape.{standsIn, standsAt}
+use Rattle.names.proofs.InsideLaws.{place-within, place-is, first-stands, second-stands, first-within, second-within, byte-inside, close-inside}
 use Rattle.names.proofs.CompareLaws.{step-byte, step-close, step-open}
 
 -- ## A name as a number
@@ -62,13 +62,19 @@ module _ {g : Signs} {src : List ℕ} {p q : Spot} {before h : ℕ} (v : Hashing
 
 -- from place to place inside the name
 module _ {g : Signs} {src : List ℕ} {p : Spot} {at : ℕ} {fresh : Bool} {h : ℕ} (v : Hashing g src p (spot at (p .mode) fresh) 0 h)
-    (i : isInside (p .mode) ≡ true) (l : at < length src) {t : Bool} (s : t ≡ standsIn (g .escape) (getD src at 0)) (y : t ≡ true) where
+    (i : isInside (p .mode) ≡ true) {t : Bool} (s : t ≡ standsAt (g .escape) src at) (y : t ≡ true) where
+  place : at < length src
+  place = place-within (g .escape) src at (sym s ∙ y)
+
+  byte : standsIn (g .escape) (getD src at 0) ≡ true
+  byte = place-is (g .escape) src at (sym s ∙ y)
+
   pub hashing-inside-close : getD src at 0 ≡ 62 → h ≡ hashOf (nameLeft g src p)
-  hashing-inside-close e = hashing-end v (close-inside g src (spot at (p .mode) fresh) l i (sym s ∙ y) e)
+  hashing-inside-close e = hashing-end v (close-inside g src (spot at (p .mode) fresh) place i byte e)
 
   pub hashing-inside-more : {j : ℕ} → (getD src at 0 ≡ 62 → ⊥) → (j ≡ (h * 10368889 + getD src at 0) % 16777216) × (j < 16777216)
       → Hashing g src p (spot (at + 1) (p .mode) false) 0 j
-  hashing-inside-more n k = hashing-on v (byte-inside g src (spot at (p .mode) fresh) l i (sym s ∙ y) n) (omega arith) k
+  hashing-inside-more n k = let l = place in hashing-on v (byte-inside g src (spot at (p .mode) fresh) place i byte n) (omega arith) k
 
 -- ## A name beside another
 
@@ -133,19 +139,25 @@ agree-rest v e = e ∙ sym (v .rest)
 
 -- from place to place inside both names
 module _ {g : Signs} {src : List ℕ} {p q : Spot} {at to : ℕ} {f k : Bool} (v : Agree g src p q (spot at (p .mode) f) (spot to (q .mode) k))
-    (i : (isInside (p .mode) ≡ true) × (isInside (q .mode) ≡ true)) (l : at < length src) (m : to < length src) {t u : Bool}
-    (s : t ≡ standsIn (g .escape) (getD src at 0)) (y : not t ≡ false) (r : u ≡ standsIn (g .escape) (getD src to 0)) (z : not u ≡ false) where
+    (i : (isInside (p .mode) ≡ true) × (isInside (q .mode) ≡ true)) {t : Bool}
+    (s : t ≡ (standsAt (g .escape) src at && standsAt (g .escape) src to)) (y : t ≡ true) where
+  left : standsIn (g .escape) (getD src at 0) ≡ true
+  left = place-is (g .escape) src at (first-stands (g .escape) src at to s y)
+
+  right : standsIn (g .escape) (getD src to 0) ≡ true
+  right = place-is (g .escape) src to (second-stands (g .escape) src at to s y)
+
   left-byte : (getD src at 0 ≡ 62 → ⊥) → nameLeft g src (spot at (p .mode) f) ≡ getD src at 0 ∷ nameLeft g src (spot (at + 1) (p .mode) false)
-  left-byte n = byte-inside g src (spot at (p .mode) f) l (i .0) (sym s ∙ not-false t y) n
+  left-byte n = byte-inside g src (spot at (p .mode) f) (first-within (g .escape) src at to s y) (i .0) left n
 
   right-byte : (getD src to 0 ≡ 62 → ⊥) → nameLeft g src (spot to (q .mode) k) ≡ getD src to 0 ∷ nameLeft g src (spot (to + 1) (q .mode) false)
-  right-byte n = byte-inside g src (spot to (q .mode) k) m (i .1) (sym r ∙ not-false u z) n
+  right-byte n = byte-inside g src (spot to (q .mode) k) (second-within (g .escape) src at to s y) (i .1) right n
 
   left-close : getD src at 0 ≡ 62 → nameLeft g src (spot at (p .mode) f) ≡ []
-  left-close e = close-inside g src (spot at (p .mode) f) l (i .0) (sym s ∙ not-false t y) e
+  left-close e = close-inside g src (spot at (p .mode) f) (first-within (g .escape) src at to s y) (i .0) left e
 
   right-close : getD src to 0 ≡ 62 → nameLeft g src (spot to (q .mode) k) ≡ []
-  right-close e = close-inside g src (spot to (q .mode) k) m (i .1) (sym r ∙ not-false u z) e
+  right-close e = close-inside g src (spot to (q .mode) k) (second-within (g .escape) src at to s y) (i .1) right e
 
   pub agree-inside-not : (getD src at 0 ≡ getD src to 0 → ⊥) → false ≡ same (nameLeft g src p) (nameLeft g src q)
   unfolding same
@@ -166,6 +178,8 @@ module _ {g : Signs} {src : List ℕ} {p q : Spot} {at to : ℕ} {f k : Bool} (v
     pub agree-inside-more : (getD src at 0 ≡ 62 → ⊥) → Agree g src p q (spot (at + 1) (p .mode) false) (spot (to + 1) (q .mode) false)
     unfolding same
     agree-inside-more n =
+        let l = first-within (g .escape) src at to s y in
+        let m = second-within (g .escape) src at to s y in
         record {
           rest = v .rest ∙ rw (left-byte n, right-byte (λ h. n (e ∙ h))) (simp (eq-eqb (getD src at 0) (getD src to 0) e));
           first = omega arith;

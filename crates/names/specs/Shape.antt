@@ -3,13 +3,17 @@ use mathlib.Core.Bool.{Bool, not, _&&_, _||_}
 use mathlib.Core.List.{List, [], _∷_}
 use Prim.Native.Nat.{ℕ, _+_}
 use lib.ListN.{length, getD}
-use lib.Dec.{leb, eqb}
+use lib.Dec.{ltb, leb, eqb}
 use Rattle.rules.specs.Text.{if_then_else_, within, every}
 use Rattle.rules.specs.Names.{isVisible, isHex, hexValue}
 
 -- a byte of a name that is meant as it stands: visible, and no escape
 abbrev pub standsIn : ℕ → ℕ → Bool
 standsIn escape b = isVisible b && not (eqb b escape)
+
+-- the same of the byte at a place
+unfoldable pub standsAt : ℕ → List ℕ → ℕ → Bool
+standsAt escape src at = ltb at (length src) && standsIn escape (getD src at 0)
 
 -- an escape that is no digit, no capital letter and no `>`
 abbrev pub isApart : ℕ → Bool

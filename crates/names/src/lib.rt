@@ -1,6 +1,6 @@
-// Names in a source, each from the spot right after its `<`: beside other bytes or another name, as a character by its code, as a number.
+// Names in a source, each from the spot right after its `<`: beside other bytes or another name, as a character by its code, as a hash, packed into eight numbers.
 ghost use mathlib.Core.Path.{_≡_};
-ghost use mathlib.Core.Bool.{true};
+ghost use mathlib.Core.Bool.{true, _&&_};
 ghost use mathlib.Core.List.{[]};
 ghost use Prim.Native.Nat.{_+_, _*_, _%_, _^_, _≤_, _<_};
 ghost use lib.ListN.{length, drop, replicate};
@@ -8,7 +8,7 @@ ghost use Rattle.rules.specs.Text.{same};
 ghost use Rattle.rules.specs.Names.{isVisible};
 ghost use Rattle.tokens.specs.Left.{isInside};
 ghost use Rattle.names.specs.Named.{nameLeft, hexOf, MadeIs, DigitsAre, CodeIs, hashFrom, hashOf, NamedIs};
-ghost use Rattle.names.specs.Shape.{standsIn, isApart, shortOf, shapeOf};
+ghost use Rattle.names.specs.Shape.{standsIn, standsAt, isApart, shortOf, shapeOf};
 ghost use Rattle.names.specs.Packed.{PackedIs, Begun, PutIs, PackedOn};
 use lines::Signs;
 use lines::Spot;
@@ -88,6 +88,16 @@ fn stands(b: u8, escape: u8) -> bool
         return false;
     }
     visible(b)
+}
+
+// Whether a byte of a name that is meant as it stands is at a place.
+fn stands_at(src: &[u8], escape: u8, at: usize) -> bool
+    ensures { λ r. ⌜ r ≡ standsAt escape (now (src .entry)) at ⌝ }
+{
+    if at < src.len() {
+        return stands(src[at], escape);
+    }
+    false
 }
 
 fn wide(b: u8) -> u32
@@ -312,9 +322,9 @@ fn hash_inside(src: &[u8], g: Signs, p: Spot) -> usize
     let mut at = p.at;
     let mut fresh = p.fresh;
     let mut h: usize = 0;
-    while at < src.len() {
-        let b = src[at];
-        if stands(b, g.escape) {
+    loop {
+        if stands_at(src, g.escape, at) {
+            let b = src[at];
             if b == 62 {
                 return h;
             }
@@ -330,12 +340,6 @@ fn hash_inside(src: &[u8], g: Signs, p: Spot) -> usize
             return hash_from(src, g, q, h);
         }
     }
-    let q = Spot {
-        at: at,
-        mode: p.mode,
-        fresh: fresh,
-    };
-    hash_from(src, g, q, h)
 }
 
 // A number that is the same for the same name, below 2 to the 24th.
@@ -429,9 +433,9 @@ fn pack_inside(src: &[u8], g: Signs, p: Spot, key: &mut [u32]) -> Pack
     let mut fresh = p.fresh;
     let mut h: usize = 0;
     let mut n: usize = 0;
-    while at < src.len() {
-        let b = src[at];
-        if stands(b, g.escape) {
+    loop {
+        if stands_at(src, g.escape, at) {
+            let b = src[at];
             if b == 62 {
                 return Pack {
                     hash: h,
@@ -451,12 +455,6 @@ fn pack_inside(src: &[u8], g: Signs, p: Spot, key: &mut [u32]) -> Pack
             return pack_from(src, g, q, key, h, n);
         }
     }
-    let q = Spot {
-        at: at,
-        mode: p.mode,
-        fresh: fresh,
-    };
-    pack_from(src, g, q, key, h, n)
 }
 
 // A name in its numbers, and its hash.
@@ -515,6 +513,16 @@ fn same_from(src: &[u8], g: Signs, p: Spot, q: Spot) -> bool
     }
 }
 
+// Whether such bytes are at two places.
+fn both_stand(src: &[u8], escape: u8, i: usize, j: usize) -> bool
+    ensures { λ r. ⌜ r ≡ (standsAt escape (now (src .entry)) i && standsAt escape (now (src .entry)) j) ⌝ }
+{
+    if stands_at(src, escape, i) {
+        return stands_at(src, escape, j);
+    }
+    false
+}
+
 // Whether the names at two spots inside them have the same bytes: bytes that stand are compared as they are, and any other goes the long way.
 fn same_inside(src: &[u8], g: Signs, p: Spot, q: Spot) -> bool
     requires { ⌜ (p .at ≤ length (now src)) × (q .at ≤ length (now src)) ⌝ }
@@ -526,40 +534,33 @@ fn same_inside(src: &[u8], g: Signs, p: Spot, q: Spot) -> bool
     let mut first = p.fresh;
     let mut second = q.fresh;
     loop {
-        let from = Spot {
-            at: i,
-            mode: p.mode,
-            fresh: first,
-        };
-        let beside = Spot {
-            at: j,
-            mode: q.mode,
-            fresh: second,
-        };
-        if i >= src.len() {
+        if both_stand(src, g.escape, i, j) {
+            let a = src[i];
+            let b = src[j];
+            if a == b {
+                if a == 62 {
+                    return true;
+                }
+                i += 1;
+                j += 1;
+                first = false;
+                second = false;
+            } else {
+                return false;
+            }
+        } else {
+            let from = Spot {
+                at: i,
+                mode: p.mode,
+                fresh: first,
+            };
+            let beside = Spot {
+                at: j,
+                mode: q.mode,
+                fresh: second,
+            };
             return same_from(src, g, from, beside);
         }
-        if j >= src.len() {
-            return same_from(src, g, from, beside);
-        }
-        let a = src[i];
-        let b = src[j];
-        if !stands(a, g.escape) {
-            return same_from(src, g, from, beside);
-        }
-        if !stands(b, g.escape) {
-            return same_from(src, g, from, beside);
-        }
-        if a != b {
-            return false;
-        }
-        if a == 62 {
-            return true;
-        }
-        i += 1;
-        j += 1;
-        first = false;
-        second = false;
     }
 }
 

@@ -1,5 +1,6 @@
 -- `names::hash_inside` meets its contract. The invariant: what the bytes so far make. The measure is what is left of the source.
 use Rattle.names.proofs.WalkLaws.{Hashing, hashing-none, hashing-rest, hashing-inside-close, hashing-inside-more}
+use Rattle.names.proofs.InsideLaws.{test-within, test-less}
 use Rattle.lines.proofs.LineLaws.{spot}
 use Prim.Native.Nat.{_-_}
 use lib.ListN.{length}
@@ -16,11 +17,11 @@ abbrev μ-loop : tie.MeasureT-loop
 loop-holds : tie.Need-loop-holds Inv-loop μ-loop
 loop-holds c = search (hashing-none, needs)
 
-shared-slice-read-b : tie.Need-shared-slice-read-b Inv-loop μ-loop
-shared-slice-read-b c = search needs
+stands-at-requires : tie.Need-stands-at-requires Inv-loop μ-loop
+stands-at-requires c κs = search needs
 
-stands-requires : tie.Need-stands-requires Inv-loop μ-loop
-stands-requires c κs = search needs
+shared-slice-read-b : tie.Need-shared-slice-read-b Inv-loop μ-loop
+shared-slice-read-b c = search test-within
 
 returns : tie.Need-returns Inv-loop μ-loop
 returns c = (search hashing-inside-close, search needs)
@@ -32,7 +33,7 @@ add-at : tie.Need-add-at Inv-loop μ-loop
 add-at c = search needs
 
 loop-less : tie.Need-loop-less Inv-loop μ-loop
-loop-less c = search needs
+loop-less c = search test-less
 
 loop-again : tie.Need-loop-again Inv-loop μ-loop
 loop-again c = search hashing-inside-more
@@ -43,12 +44,6 @@ hash-from-requires c κs = search needs
 returns-2 : tie.Need-returns-2 Inv-loop μ-loop
 returns-2 c = (search hashing-rest, search needs)
 
-hash-from-requires-2 : tie.Need-hash-from-requires-2 Inv-loop μ-loop
-hash-from-requires-2 c κs = search needs
-
-returns-3 : tie.Need-returns-3 Inv-loop μ-loop
-returns-3 c = (search hashing-rest, search needs)
-
 pub hash-inside-spec : {M : Type 1} → statement M
 hash-inside-spec =
     tie.close
@@ -56,14 +51,12 @@ hash-inside-spec =
     Inv-loop
     μ-loop
     loop-holds
+    stands-at-requires
     shared-slice-read-b
-    stands-requires
     returns
     mixed-requires
     add-at
     loop-less
     loop-again
     hash-from-requires
-    returns-2
-    hash-from-requires-2
-    returns-3)
+    returns-2)

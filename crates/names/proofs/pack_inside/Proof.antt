@@ -1,5 +1,6 @@
 -- `names::pack_inside` meets its contract. The invariant: what the bytes so far make of the hash and of the numbers, which are the name's own. The measure is what is left of the source.
 use Rattle.names.proofs.PackLaws.{Packing, inside-none, inside-rest, inside-close, inside-more}
+use Rattle.names.proofs.InsideLaws.{test-within, test-less}
 use Rattle.lines.proofs.LineLaws.{spot}
 use Prim.Native.Nat.{_-_}
 use lib.ListN.{length}
@@ -16,11 +17,11 @@ abbrev μ-loop : tie.MeasureT-loop
 loop-holds : tie.Need-loop-holds Inv-loop μ-loop
 loop-holds c = search inside-none
 
-shared-slice-read-b : tie.Need-shared-slice-read-b Inv-loop μ-loop
-shared-slice-read-b c = search needs
+stands-at-requires : tie.Need-stands-at-requires Inv-loop μ-loop
+stands-at-requires c κs = search needs
 
-stands-requires : tie.Need-stands-requires Inv-loop μ-loop
-stands-requires c κs = search needs
+shared-slice-read-b : tie.Need-shared-slice-read-b Inv-loop μ-loop
+shared-slice-read-b c = search test-within
 
 same-length : tie.Need-same-length Inv-loop μ-loop
 same-length c = search needs
@@ -38,7 +39,7 @@ add-at : tie.Need-add-at Inv-loop μ-loop
 add-at c = search needs
 
 loop-less : tie.Need-loop-less Inv-loop μ-loop
-loop-less c = search needs
+loop-less c = search test-less
 
 loop-again : tie.Need-loop-again Inv-loop μ-loop
 loop-again c = search inside-more
@@ -52,15 +53,6 @@ same-length-2 c = search needs
 returns-2 : tie.Need-returns-2 Inv-loop μ-loop
 returns-2 c = search inside-rest
 
-pack-from-requires-2 : tie.Need-pack-from-requires-2 Inv-loop μ-loop
-pack-from-requires-2 c κs = search needs
-
-same-length-3 : tie.Need-same-length-3 Inv-loop μ-loop
-same-length-3 c = search needs
-
-returns-3 : tie.Need-returns-3 Inv-loop μ-loop
-returns-3 c = search inside-rest
-
 pub pack-inside-spec : {M : Type 1} → statement M
 pack-inside-spec =
     tie.close
@@ -68,8 +60,8 @@ pack-inside-spec =
     Inv-loop
     μ-loop
     loop-holds
+    stands-at-requires
     shared-slice-read-b
-    stands-requires
     same-length
     returns
     put-requires
@@ -79,7 +71,4 @@ pack-inside-spec =
     loop-again
     pack-from-requires
     same-length-2
-    returns-2
-    pack-from-requires-2
-    same-length-3
-    returns-3)
+    returns-2)
