@@ -5,7 +5,7 @@ use Rattle.writes.proofs.code_told.Statement.{statement}
 use Rattle.writes.proofs.code_told.Tie as tie
 
 sub-t2 : tie.Need-sub-t2
-sub-t2 c = search even-some
+sub-t2 c = search (needs, even-some)
 
 returns : tie.Need-returns
 returns c = search needs
