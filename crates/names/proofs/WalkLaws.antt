@@ -1,4 +1,4 @@
--- A name as a number, a name beside another, and the names in quotes: the turns of the loops.
+-- A name beside another, and the names in quotes: the turns of the loops.
 use mathlib.Core.Path.{_≡_, refl, sym, _∙_, subst}
 use mathlib.Core.Bool.{Bool, true, false, _&&_}
 use mathlib.Core.List.{List, [], _∷_}
@@ -20,61 +20,10 @@ use Rattle.tokens.specs.declared.NameStep.the-variants.{Byte, Close, Open}
 use Rattle.lines.proofs.LineLaws.{spot}
 use Rattle.tokens.specs.Left.{isInside, namesFrom, namesIn, NameByte, NameStepIs}
 use Rattle.tokens.proofs.TokenLaws.{namesIn-close, namesIn-name}
-use Rattle.names.specs.Named.{nameLeft, hashFrom, hashOf, NameAt}
+use Rattle.names.specs.Named.{nameLeft, NameAt}
 use Rattle.names.specs.Shape.{standsIn, standsAt}
 use Rattle.names.proofs.InsideLaws.{place-within, place-is, first-stands, second-stands, first-within, second-within, byte-inside, close-inside}
 use Rattle.names.proofs.CompareLaws.{step-byte, step-close, step-open}
-
--- ## A name as a number
-
--- The bytes from p to q make h of what was before.
-pub record Hashing (g : Signs) (src : List ℕ) (p q : Spot) (before h : ℕ) : Type 0 where
-  pub rest : hashFrom h (nameLeft g src q) ≡ hashFrom before (nameLeft g src p)
-  pub small : h < 16777216
-  pub to : q .at ≤ length src
-
-pub hashing-none : (g : Signs) (src : List ℕ) (p : Spot) (h : ℕ) → p .at ≤ length src → h < 16777216 → Hashing g src p p h h
-hashing-none g src p h l k = record { rest = refl; small = k; to = l }
-
-module _ {g : Signs} {src : List ℕ} {p q : Spot} {before h : ℕ} (v : Hashing g src p q before h) where
-  hashing-end : nameLeft g src q ≡ [] → h ≡ hashFrom before (nameLeft g src p)
-  unfolding hashFrom
-  hashing-end e = rw e at (v .rest)
-
-  hashing-on : {b i : ℕ} {r : Spot} → nameLeft g src q ≡ b ∷ nameLeft g src r → r .at ≤ length src
-      → (i ≡ (h * 10368889 + b) % 16777216) × (i < 16777216) → Hashing g src p r before i
-  unfolding hashFrom
-  hashing-on e t k = record { rest = rw (k .0) (rw e at (v .rest)); small = k .1; to = t }
-
-  -- what the rest makes
-  pub hashing-rest : {i : ℕ} → i ≡ hashFrom h (nameLeft g src q) → i ≡ hashFrom before (nameLeft g src p)
-  hashing-rest e = e ∙ v .rest
-
-  module _ {s : NameStep} (w : NameStepIs g src q s) where
-    pub hashing-close : {r : Spot} → s ≡ Close r → h ≡ hashFrom before (nameLeft g src p)
-    hashing-close e = hashing-end (step-close g src q w e)
-
-    pub hashing-open : s ≡ Open → h ≡ hashFrom before (nameLeft g src p)
-    hashing-open e = hashing-end (step-open g src q w e)
-
-    pub hashing-more : {b i : ℕ} {r : Spot} → s ≡ Byte b r → (i ≡ (h * 10368889 + b) % 16777216) × (i < 16777216) → Hashing g src p r before i
-    hashing-more {b} {r = r} e k = let y : NameByte g src q b r = step-byte g src q w e in hashing-on (y .bytes) (y .to) k
-
--- from place to place inside the name
-module _ {g : Signs} {src : List ℕ} {p : Spot} {at : ℕ} {fresh : Bool} {h : ℕ} (v : Hashing g src p (spot at (p .mode) fresh) 0 h)
-    (i : isInside (p .mode) ≡ true) {t : Bool} (s : t ≡ standsAt (g .escape) src at) (y : t ≡ true) where
-  place : at < length src
-  place = place-within (g .escape) src at (sym s ∙ y)
-
-  byte : standsIn (g .escape) (getD src at 0) ≡ true
-  byte = place-is (g .escape) src at (sym s ∙ y)
-
-  pub hashing-inside-close : getD src at 0 ≡ 62 → h ≡ hashOf (nameLeft g src p)
-  hashing-inside-close e = hashing-end v (close-inside g src (spot at (p .mode) fresh) place i byte e)
-
-  pub hashing-inside-more : {j : ℕ} → (getD src at 0 ≡ 62 → ⊥) → (j ≡ (h * 10368889 + getD src at 0) % 16777216) × (j < 16777216)
-      → Hashing g src p (spot (at + 1) (p .mode) false) 0 j
-  hashing-inside-more n k = let l = place in hashing-on v (byte-inside g src (spot at (p .mode) fresh) place i byte n) (omega arith) k
 
 -- ## A name beside another
 

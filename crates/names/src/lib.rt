@@ -7,7 +7,7 @@ ghost use lib.ListN.{length, drop, replicate};
 ghost use Rattle.rules.specs.Text.{same};
 ghost use Rattle.rules.specs.Names.{isVisible};
 ghost use Rattle.tokens.specs.Left.{isInside};
-ghost use Rattle.names.specs.Named.{nameLeft, hexOf, MadeIs, DigitsAre, CodeIs, hashFrom, hashOf, NamedIs};
+ghost use Rattle.names.specs.Named.{nameLeft, hexOf, MadeIs, DigitsAre, CodeIs, NamedIs};
 ghost use Rattle.names.specs.Shape.{standsIn, standsAt, isApart, shortOf, shapeOf};
 ghost use Rattle.names.specs.Packed.{PackedIs, Begun, PutIs, PackedOn};
 use lines::Signs;
@@ -292,65 +292,6 @@ fn mixed(h: usize, b: u8) -> usize
 {
     let x = number(b);
     (h * 10368889 + x) % 16777216
-}
-
-// The hash of what is left of a name, behind bytes that make before.
-fn hash_from(src: &[u8], g: Signs, p: Spot, before: usize) -> usize
-    requires { ⌜ (p .at ≤ length (now src)) × (before < 16777216) ⌝ }
-    ensures { λ r. ⌜ (r ≡ hashFrom before (nameLeft g (now (src .entry)) p)) × (r < 16777216) ⌝ }
-{
-    let mut q = p;
-    let mut h = before;
-    loop {
-        let s = name_byte(src, g, q);
-        match s {
-            NameStep::Byte(b, r) => {
-                h = mixed(h, b);
-                q = r;
-            }
-            NameStep::Close(_) => return h,
-            NameStep::Open => return h,
-        }
-    }
-}
-
-// The hash of a name, from a spot inside it: bytes that stand are taken one after the other, and any other goes the long way.
-fn hash_inside(src: &[u8], g: Signs, p: Spot) -> usize
-    requires { ⌜ (p .at ≤ length (now src)) × (isInside (p .mode) ≡ true) ⌝ }
-    ensures { λ r. ⌜ (r ≡ hashOf (nameLeft g (now (src .entry)) p)) × (r < 16777216) ⌝ }
-{
-    let mut at = p.at;
-    let mut fresh = p.fresh;
-    let mut h: usize = 0;
-    loop {
-        if stands_at(src, g.escape, at) {
-            let b = src[at];
-            if b == 62 {
-                return h;
-            }
-            h = mixed(h, b);
-            fresh = false;
-            at += 1;
-        } else {
-            let q = Spot {
-                at: at,
-                mode: p.mode,
-                fresh: fresh,
-            };
-            return hash_from(src, g, q, h);
-        }
-    }
-}
-
-// A number that is the same for the same name, below 2 to the 24th.
-pub fn name_hash(src: &[u8], g: Signs, p: Spot) -> usize
-    requires { ⌜ p .at ≤ length (now src) ⌝ }
-    ensures { λ r. ⌜ (r ≡ hashOf (nameLeft g (now (src .entry)) p)) × (r < 16777216) ⌝ }
-{
-    if is_inside(p.mode) {
-        return hash_inside(src, g, p);
-    }
-    hash_from(src, g, p, 0)
 }
 
 // What a byte adds to its number, from place k of four.
