@@ -62,7 +62,13 @@ module _ {src w : List ℕ} {at number : ℕ} (v : Ready src w at number) (g : S
         chains = ap (λ (x : Blocks). x .chains) (b .blocks);
         inner = ap (λ (x : Blocks). x .inner) (b .blocks);
         toggles = ap (λ (x : Blocks). x .toggles) (b .blocks);
-        kept = record { room = let r = v .roomy .room in omega (arith, r); few = omega arith; inside = λ i h. absurd (omega (arith, h)) };
+        kept = record {
+          room = let r = v .roomy .room in omega (arith, r);
+          few = omega arith;
+          inside = λ i h. absurd (omega (arith, h));
+          proper = λ i h. absurd (omega (arith, h));
+          decided = λ i h. absurd (omega (arith, h));
+        };
         n = 0;
         known = known′;
         rows = λ h. omega arith;

@@ -20,8 +20,8 @@ use Rattle.operands.specs.declared.One.{One}
 use Rattle.operands.specs.declared.One.the-variants as one
 use Rattle.operands.specs.Operand.{WordAlone, OneIs}
 use Rattle.operands.proofs.LineLaws.{Known, refusal-known, spot-start, word-single, word-text, word-unrefused}
-use Rattle.toggles.specs.Kept.{wordLeft, togglesIn, Kept, isFree, refusalFor, MayTurn, Turned}
-use Rattle.toggles.proofs.RefusalLaws.{paper-refusal, paper-foul, refusal-free}
+use Rattle.toggles.specs.Kept.{wordLeft, togglesIn, Proper, Kept, isFree, refusalFor, MayTurn, Turned}
+use Rattle.toggles.proofs.RefusalLaws.{paper-refusal, paper-foul, refusal-free, refusal-proper}
 use Rattle.naming.specs.declared.Set.{Set}
 use Rattle.naming.specs.Named.{setTo, MayName, Has, NamedIs, RefusedIs}
 
@@ -83,6 +83,9 @@ module _ (g : Signs) (src : List ℕ) (os : List Token) {o : One} (v : OneIs g s
             ap (λ (x : Spot). isFree (wordLeft g src x) (togglesIn g src work base n)) (sym at-start)
             ∙ refusal-free (wordLeft g src q) (togglesIn g src work base n) (sym f ∙ z)
 
+        proper-here : Proper (wordLeft g src (lineStart (q .at)))
+        proper-here = subst (λ (x : Spot). Proper (wordLeft g src x)) at-start (refusal-proper (wordLeft g src q) (togglesIn g src work base n) (sym f ∙ z))
+
         pub word-named : {after : List ℕ} {m : ℕ} {set : Set} {was on : Bool} → was ≡ isOn (wordLeft g src q) (togglesIn g src work base n) → on ≡ setTo set was
             → Turned g src work after base n m (q .at) on → NamedIs g src work after base n os set was m
         word-named {after} {m} {set} {was} {on} w k t =
@@ -102,13 +105,20 @@ module _ (g : Signs) (src : List ℕ) (os : List Token) {o : One} (v : OneIs g s
 
 -- ## What the callees ask
 
-module _ (g : Signs) {src work : List ℕ} {base n : ℕ} {p : Spot} (m : MayName src work base n p) (q : Spot) {o : One}
+module _ (g : Signs) {src work : List ℕ} {base n : ℕ} {p : Spot} (m : MayName g src work base n p) (q : Spot) {o : One}
     (v : OneIs g src (operands (tokensLeft g src p)) o) (e : o ≡ one.Word q) where
   -- the toggle may be looked up
-  pub word-kept : Kept src work base n × (q .at ≤ length src)
+  pub word-kept : Kept g src work base n × (q .at ≤ length src)
   word-kept = (m .kept, alone g src (operands (tokensLeft g src p)) v e .to)
 
   -- and turned, where it is not refused
   pub word-turns : {r : ℕ} → r ≡ refusalFor (wordLeft g src q) (togglesIn g src work base n) → r ≡ 0 → MayTurn g src work base n (q .at)
   word-turns f z =
-      record { kept = m .kept; inside = word-kept .1; short = m .short; free = free-here g src (operands (tokensLeft g src p)) v e work base n f z }
+      let os = operands (tokensLeft g src p) in
+      record {
+        kept = m .kept;
+        inside = word-kept .1;
+        proper = proper-here g src os v e work base n f z;
+        short = m .short;
+        free = free-here g src os v e work base n f z;
+      }

@@ -25,8 +25,8 @@ setTo set.Off was = false
 setTo set.Keep was = was
 
 -- The operands begin at p, after the line's first word, and toggles are kept from `base` on.
-pub record MayName (src work : List ℕ) (base n : ℕ) (p : Spot) : Type 0 where
-  pub kept : Kept src work base n
+pub record MayName (g : Signs) (src work : List ℕ) (base n : ℕ) (p : Spot) : Type 0 where
+  pub kept : Kept g src work base n
   pub mode : p .mode ≡ outside
   pub inside : p .at ≤ length src
   pub short : length src ≤ 1048576
@@ -41,9 +41,9 @@ pub record NamedIs (g : Signs) (src work after : List ℕ) (base n : ℕ) (os : 
   pub toggle : (s : State) → Has g src work base n s → toggleRefusal s os ≡ 0
   pub before : was ≡ isOn (tokenAt os 0 .text) (togglesIn g src work base n)
   pub toggles : togglesIn g src after base m ≡ turned (tokenAt os 0 .text) (setTo set was) (togglesIn g src work base n)
-  pub kept : Kept src after base m
+  pub kept : Kept g src after base m
   pub below : (i : ℕ) → i < base → getD after i 0 ≡ getD work i 0
-  pub behind : (i : ℕ) → base + 16 ≤ i → getD after i 0 ≡ getD work i 0
+  pub behind : (i : ℕ) → base + 32 ≤ i → getD after i 0 ≡ getD work i 0
   pub long : length after ≡ length work
 
 -- The operands os are refused, malformed or by a limit; the area is as it was.

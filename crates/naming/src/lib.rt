@@ -45,7 +45,7 @@ pub fn name_toggle(
     p: Spot,
     set: Set,
 ) -> Toggled
-    requires { ⌜ MayName (now src) (now work) base n p ⌝ }
+    requires { ⌜ MayName g (now src) (now work) base n p ⌝ }
     ensures { λ r. ⌜ ToggledIs g (now (src .entry)) (now (work .entry)) (now (work .exit)) base n (operands (tokensLeft g (now (src .entry)) p)) set r ⌝ }
 {
     let o = single_word(src, g, p);

@@ -79,7 +79,7 @@ module _ (g : Signs) (src w : List ℕ) (sh : Sheet) (cs : List Chain) (at : ℕ
     collated = o .collated;
     chains = o .chains;
     inner = o .inner;
-    toggles = o .toggles ∙ sym (toggles-same w′ (o .kept) l (λ i a c. b i (omega (arith, a))) g);
+    toggles = o .toggles ∙ sym (toggles-same w′ (o .kept) l (λ i a c. b i (omega (arith, a))));
     kept = kept-same w′ (o .kept) l (λ i a c. b i (omega (arith, a)));
     n = n′;
     known = k;
@@ -118,7 +118,7 @@ module _ (g : Signs) (src w : List ℕ) (sh : Sheet) (cs : List Chain) (at : ℕ
     collated = o .collated;
     chains = o .chains;
     inner = o .inner;
-    toggles = o .toggles ∙ sym (toggles-same w′ (o .kept) l (λ i a d. b i (omega (arith, a))) g);
+    toggles = o .toggles ∙ sym (toggles-same w′ (o .kept) l (λ i a d. b i (omega (arith, a))));
     kept = kept-same w′ (o .kept) l (λ i a d. b i (omega (arith, a)));
     n = n′;
     known = k;

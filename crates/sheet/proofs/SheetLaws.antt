@@ -84,7 +84,7 @@ module _ (g : Signs) (src w : List ℕ) (sh : Sheet) (cs : List Chain) (at : ℕ
 
   -- a line that changes conditionals alone
   pub open-turned : (w′ : List ℕ) (m : ℕ) (ds : List Chain)
-      → Kept src w′ (togglesAt (length src)) m → length w′ ≡ length w → ((i : ℕ) → i < togglesAt (length src) → getD w′ i 0 ≡ getD w i 0)
+      → Kept g src w′ (togglesAt (length src)) m → length w′ ≡ length w → ((i : ℕ) → i < togglesAt (length src) → getD w′ i 0 ≡ getD w i 0)
       → Open g src w′ (record { phase = sh .phase; toggles = m; rules = sh .rules; levels = sh .levels; order = sh .order; block = sh .block }) ds next
       (withBlocks s (blocks ds 0 (togglesIn g src w′ (togglesAt (length src)) m)))
   open-turned w′ m ds k l b =

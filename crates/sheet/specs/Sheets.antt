@@ -61,7 +61,7 @@ pub record Open (g : Signs) (src w : List ℕ) (sh : Sheet) (cs : List Chain) (a
   pub chains : s .blocks .chains ≡ cs
   pub inner : s .blocks .inner ≡ 0
   pub toggles : s .blocks .toggles ≡ togglesIn g src w (togglesAt (length src)) (sh .toggles)
-  pub kept : Kept src w (togglesAt (length src)) (sh .toggles)
+  pub kept : Kept g src w (togglesAt (length src)) (sh .toggles)
   pub n : ℕ
   pub known : Known g src w (sh .order) (s .ordered .rules) n (s .declared) (s .ordered .lines)
   pub rows : at < length src → n ≤ rowsBefore (sh .phase) at

@@ -1,64 +1,69 @@
--- The search for a toggle, and what is told of the one that is found.
+-- The toggle of a word is its candidate or none, and what is told of the one that is found.
 use mathlib.Core.Path.{_≡_, refl, sym, ap, _∙_, subst}
 use mathlib.Core.Bool.{Bool, true, false}
 use mathlib.Core.List.{List, [], _∷_}
 use Prim.Native.Nat.{ℕ, zero, suc, _+_, _/_, _≤_, _<_}
-use native.Mathlib.Numerals.{add-one}
 use native.Mathlib.Omega.{arith}
 use lib.ListN.{length, getD, take}
-use lib.Seq.{take-suc, take-all}
-use Rattle.lists.proofs.Bools.{or-false-left, or-false-right, or-false-intro}
+use lib.Seq.{take-all, length-take-le, getD-take}
+use Rattle.lists.proofs.Bools.{by, clash, or-false-left, or-false-right, or-false-intro}
 use Rattle.rules.specs.Text.{oneOf}
 use Rattle.rules.specs.State.{Toggle}
 use Rattle.rules.specs.Conditionals.{isToggle, isOn}
-use Rattle.rules.proofs.TextLaws.{oneOf-append, oneOf-getD}
+use Rattle.rules.proofs.TextLaws.{oneOf-getD}
 use Rattle.lines.specs.declared.Signs.{Signs}
 use Rattle.toggles.specs.declared.Place.{Place}
 use Rattle.toggles.specs.declared.Place.the-variants.{At, Nothing}
+use Rattle.toggles.specs.Candidates.{candidate}
 use Rattle.toggles.specs.Kept.{isDefined, toggleAt, togglesIn, Kept, noToggle, First, PlaceIs, Slot}
-use Rattle.toggles.proofs.AreaLaws.{toggle-on, toggles-length, toggles-getD}
+use Rattle.toggles.proofs.AreaLaws.{toggle-on, word-is, toggles-length, toggles-getD}
 
 -- ## The search
 
--- None of the first i toggles is the word's.
-pub record Seeking (w : List ℕ) (ts : List Toggle) (n i : ℕ) : Type 0 where
-  pub few : i ≤ n
-  pub before : oneOf (isToggle w) (take i ts) ≡ false
-
-pub seek-start : (w : List ℕ) (ts : List Toggle) (n : ℕ) → Seeking w ts n 0
+-- none is, where each that is would be something else
+none-of : {A : Type 0} (p : A → Bool) (xs : List A) (d : A) → ((j : ℕ) → j < length xs → p (getD xs j d) ≡ true → ⊥) → oneOf p xs ≡ false
 unfolding oneOf
-seek-start w ts n = record { few = omega arith; before = refl }
+none-of p [] d h = refl
+none-of p (x ∷ xs) d h = or-false-intro (by (p x) (λ t. absurd (h 0 (omega arith) t)) (λ t. t)) (none-of p xs d (λ j l t. h (suc j) (omega arith) t))
 
-module _ (g : Signs) {src work : List ℕ} {base n : ℕ} {w : List ℕ} {i : ℕ} (k : Kept src work base n) (v : Seeking w (togglesIn g src work base n) n i) where
-  pub seek-end : n ≤ i → oneOf (isToggle w) (togglesIn g src work base n) ≡ false
-  seek-end h =
+module _ (g : Signs) {src work : List ℕ} {base n : ℕ} (w : List ℕ) {c : ℕ} (k : Kept g src work base n) (e : c ≡ candidate w work (base + 16) n) where
+  -- no other toggle than the candidate can be the word's
+  only : (i : ℕ) → i < n → isToggle w (getD (togglesIn g src work base n) i noToggle) ≡ true → i ≡ c
+  only i h t =
+      let l = word-is g src (getD work (base + i) 0) w (ap (isToggle w) (sym (toggles-getD g k i h)) ∙ t) in
+      sym (k .decided i h) ∙ ap (λ (x : List ℕ). candidate x work (base + 16) n) (sym l) ∙ sym e
+
+  pub find-none : n ≤ c → oneOf (isToggle w) (togglesIn g src work base n) ≡ false
+  find-none h =
       let l = toggles-length g k in
-      ap (oneOf (isToggle w)) (sym (take-all i (togglesIn g src work base n) (omega arith))) ∙ v .before
+      none-of (isToggle w) (togglesIn g src work base n) noToggle (λ j i t. let o = only j (omega arith) t in omega arith)
 
-  module _ (h : i < n) {t : Bool} (e : t ≡ isToggle w (toggleAt g src (getD work (base + i) 0))) where
-    pub seek-hit : t ≡ true → First w (togglesIn g src work base n) i
-    seek-hit y =
-        let l = toggles-length g k in
-        record { inside = omega arith; there = ap (isToggle w) (toggles-getD g k i h) ∙ sym e ∙ y; before = v .before }
+  module _ (h : c < n) where
+    -- its word begins inside the source
+    pub find-inside : getD work (base + c) 0 / 2 ≤ length src
+    find-inside = k .inside c h
 
-    pub seek-more : t ≡ false → Seeking w (togglesIn g src work base n) n (i + 1)
-    unfolding oneOf
-    seek-more y =
-        let l = toggles-length g k in
-        let ts = togglesIn g src work base n in
-        let here : isToggle w (getD (togglesIn g src work base n) i noToggle) ≡ false = ap (isToggle w) (toggles-getD g k i h) ∙ sym e ∙ y in
-        record {
-          few = omega arith;
-          before =
-              ap (λ (m : ℕ). oneOf (isToggle w) (take m (togglesIn g src work base n))) (add-one i)
-              ∙ ap (oneOf (isToggle w)) (take-suc ts i noToggle (omega arith))
-              ∙ oneOf-append (isToggle w) (take i ts) (getD ts i noToggle ∷ [])
-              ∙ or-false-intro (v .before) (or-false-intro here refl);
-        }
+    module _ {t : Bool} (f : t ≡ isToggle w (toggleAt g src (getD work (base + c) 0))) where
+      pub find-miss : t ≡ false → oneOf (isToggle w) (togglesIn g src work base n) ≡ false
+      find-miss y =
+          let l = toggles-length g k in
+          let ts = togglesIn g src work base n in
+          none-of (isToggle w) ts noToggle
+          (λ j i u. let o : j ≡ c = only j (omega arith) u in
+          clash (ap (λ (x : ℕ). isToggle w (getD ts x noToggle)) (sym o) ∙ u) (ap (isToggle w) (toggles-getD g k c h) ∙ sym f ∙ y))
 
--- the word of a toggle that is looked at begins inside the source
-pub seek-inside : {src work : List ℕ} {base n : ℕ} (i : ℕ) → Kept src work base n → i < n → getD work (base + i) 0 / 2 ≤ length src
-seek-inside i k h = k .inside i h
+      pub find-hit : t ≡ true → First w (togglesIn g src work base n) c
+      find-hit y =
+          let l = toggles-length g k in
+          let ts = togglesIn g src work base n in
+          let m = length-take-le c ts (omega arith) in
+          record {
+            inside = omega arith;
+            there = ap (isToggle w) (toggles-getD g k c h) ∙ sym f ∙ y;
+            before =
+                none-of (isToggle w) (take c ts) noToggle
+                (λ j i u. let o : j ≡ c = only j (omega arith) (ap (isToggle w) (sym (getD-take c ts j noToggle (omega arith))) ∙ u) in omega arith);
+          }
 
 -- ## What is told of the one that is found
 
@@ -95,7 +100,7 @@ module _ (w : List ℕ) (ts : List Toggle) {f : Place} (v : PlaceIs w ts f) wher
   pub slot-there : {i : ℕ} → f ≡ At i → Slot w ts i
   slot-there e = let x = first-there e in record { inside = omega (arith, x .inside); there = λ _. x .there; before = x .before }
 
-module _ (g : Signs) {src work : List ℕ} {base n : ℕ} (w : List ℕ) {f : Place} (k : Kept src work base n) (v : PlaceIs w (togglesIn g src work base n) f) where
+module _ (g : Signs) {src work : List ℕ} {base n : ℕ} (w : List ℕ) {f : Place} (k : Kept g src work base n) (v : PlaceIs w (togglesIn g src work base n) f) where
   pub slot-behind : f ≡ Nothing → Slot w (togglesIn g src work base n) n
   slot-behind e =
       let l = toggles-length g k in

@@ -1,5 +1,9 @@
 pub mod WordLaws
+pub mod CandidateLaws
+pub mod CopyLaws
 pub mod AreaLaws
+pub mod KeptLaws
 pub mod FindLaws
+pub mod DecideLaws
 pub mod TurnLaws
 pub mod RefusalLaws

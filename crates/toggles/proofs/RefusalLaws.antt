@@ -6,8 +6,8 @@ use Prim.Native.Nat.{ℕ, _≤_, _<_}
 use native.Mathlib.Omega.{arith}
 use lib.ListN.{length}
 use lib.Dec.{leb}
-use borrow.Author.Tests.{lt-ltb, le-ltb}
-use Rattle.lists.proofs.Bools.{by, and-right}
+use borrow.Author.Tests.{leb-true, lt-ltb, le-ltb}
+use Rattle.lists.proofs.Bools.{by, and-left, and-right}
 use Rattle.rules.specs.Text.{every, oneOf, lower, lowest}
 use Rattle.rules.specs.Tokens.{word, Token, tokenAt, single}
 use Rattle.rules.specs.State.{State, Toggle}
@@ -15,7 +15,7 @@ use Rattle.rules.specs.Conditionals.{isToggleByte, isToggle, toggleRefusal}
 use Rattle.rules.proofs.TextLaws.{lowest-unless}
 use Rattle.lines.specs.declared.Signs.{Signs}
 use Rattle.toggles.specs.declared.Shape.{Shape}
-use Rattle.toggles.specs.Kept.{togglesIn, Kept, isFree, ShapeIs, refusalFor}
+use Rattle.toggles.specs.Kept.{togglesIn, Proper, Kept, isFree, ShapeIs, refusalFor}
 use Rattle.toggles.proofs.AreaLaws.{toggles-length}
 
 -- ## The paper's
@@ -40,9 +40,17 @@ refusal-free w known e =
     let p = lowest-unless 3 (every isToggleByte w) _ (omega arith) e in
     and-right (leb (length w) 32) (isFree w known) (lowest-unless 7 (leb (length w) 32 && isFree w known) [] (omega arith) (p .1) .0)
 
+-- and its word can be kept
+pub refusal-proper : (w : List ℕ) (known : List Toggle) → refusalFor w known ≡ 0 → Proper w
+unfolding refusalFor
+refusal-proper w known e =
+    let p = lowest-unless 3 (every isToggleByte w) _ (omega arith) e in
+    let q = lowest-unless 7 (leb (length w) 32 && isFree w known) [] (omega arith) (p .1) .0 in
+    record { clean = p .0; short = leb-true (length w) 32 (and-left (leb (length w) 32) (isFree w known) q) }
+
 -- ## The code's, way by way
 
-module _ (g : Signs) {src work : List ℕ} {base n : ℕ} (w : List ℕ) {s : Shape} (k : Kept src work base n) (v : ShapeIs w s) where
+module _ (g : Signs) {src work : List ℕ} {base n : ℕ} (w : List ℕ) {s : Shape} (k : Kept g src work base n) (v : ShapeIs w s) where
   pub refusal-foul : s .clean ≡ false → 3 ≡ refusalFor w (togglesIn g src work base n)
   unfolding refusalFor lowest lower
   refusal-foul c =

@@ -1,22 +1,23 @@
--- A toggle is turned: the paper's list after it is the list that the area keeps after one store.
+-- A toggle is turned: the paper's list after it is the list that the area keeps after one store, or after two where the toggle is new.
 use mathlib.Core.Path.{_≡_, refl, sym, ap, _∙_, subst}
 use mathlib.Core.Bool.{Bool, true, false}
 use mathlib.Core.List.{List, [], _∷_, _++_, map}
-use Prim.Native.Nat.{ℕ, zero, suc, _+_, _-_, _≤_, _<_}
+use Prim.Native.Nat.{ℕ, zero, suc, _+_, _-_, _/_, _≤_, _<_}
 use native.Mathlib.Numerals.{add-one}
 use native.Mathlib.Omega.{arith}
 use lib.ListN.{length, getD, take, drop, set, length-set, length-drop, drop-of-length-le}
 use lib.Seq.{take-all, take-take, take-suc-set, take-set-lt, set-split, drop-set-add, getD-set-same, getD-set-other, length-take-le}
-use lib.Dec.{eqb, ltb}
-use borrow.Author.Tests.{eqb-true, eqb-false, ltb-true}
-use Rattle.lists.proofs.Bools.{by, or-false-left, or-false-right}
+use lib.Dec.{ltb}
+use borrow.Author.Tests.{ltb-true}
+use Rattle.lists.proofs.Bools.{or-false-left, or-false-right}
 use Rattle.rules.specs.Text.{oneOf}
 use Rattle.rules.specs.State.{Toggle}
 use Rattle.rules.specs.Conditionals.{isToggle, turned}
 use Rattle.lines.specs.declared.Signs.{Signs}
 use Rattle.lines.specs.Stream.{lineStart}
-use Rattle.toggles.specs.Kept.{wordLeft, toggle, toggleAt, storedAs, togglesIn, Kept, Slot, MayTurn, Turned}
-use Rattle.toggles.proofs.AreaLaws.{stored-place, stored-toggle, toggles-length}
+use Rattle.toggles.specs.Kept.{wordLeft, wordOf, toggle, toggleAt, storedAs, togglesIn, Slot, IsNew, Decides, MayTurn, Turned}
+use Rattle.toggles.proofs.AreaLaws.{stored-place, stored-toggle, word-is, toggles-room, toggles-length, toggles-getD, toggles-alike}
+use Rattle.toggles.proofs.KeptLaws.{kept-again, kept-more}
 
 -- ## The paper's list
 
@@ -69,93 +70,140 @@ outer xs n a h =
     ∙ ap (λ (x : List ℕ). x ++ a ∷ []) (sym (take-take n n xs (omega arith)))
     ∙ ap (λ (x : List ℕ). take n (take n xs) ++ a ∷ x) (sym (drop-of-length-le (take n xs) {i = suc n} (omega arith)))
 
-module _ {g : Signs} {src work : List ℕ} {base n at : ℕ} (m : MayTurn g src work base n at) (on : Bool) {i : ℕ}
+-- the toggles after a store
+together : (g : Signs) (src work : List ℕ) (base n at : ℕ) (on : Bool) {i : ℕ} → Slot (wordLeft g src (lineStart at)) (togglesIn g src work base n) i
+    → (k x : ℕ) → x ≡ storedAs at on
+    → take k (set (drop base work) i x) ≡ take i (take n (drop base work)) ++ x ∷ drop (suc i) (take n (drop base work))
+    → togglesIn g src (set work (base + i) x) base k ≡ turned (wordLeft g src (lineStart at)) on (togglesIn g src work base n)
+unfolding togglesIn
+together g src work base n at on {i} v k x s e =
+    ap (λ (y : List ℕ). map (toggleAt g src) (take k y)) (drop-set-add base work i x)
+    ∙ ap (map (toggleAt g src)) e
+    ∙ stored-list (toggleAt g src) (take n (drop base work)) i x
+    ∙ ap (λ (y : Toggle). take i (map (toggleAt g src) (take n (drop base work))) ++ y ∷ drop (suc i) (map (toggleAt g src) (take n (drop base work))))
+    (ap (toggleAt g src) s ∙ stored-toggle g src at on)
+    ∙ sym (turned-slot (wordLeft g src (lineStart at)) on (map (toggleAt g src) (take n (drop base work))) i v)
+
+-- ## One that is known, and one more
+
+-- the place that a stored number tells
+stored-at : (at : ℕ) (on : Bool) {x : ℕ} → x ≡ storedAs at on → x / 2 ≡ at
+stored-at at on s = ap (λ (y : ℕ). y / 2) s ∙ stored-place at on
+
+module _ {g : Signs} {src work : List ℕ} {base n at : ℕ} (m : MayTurn g src work base n at) {i : ℕ}
     (v : Slot (wordLeft g src (lineStart at)) (togglesIn g src work base n) i) where
   slot-few : i ≤ n
   slot-few = let l = toggles-length g (m .kept) in omega (arith, v .inside)
 
-  -- the place is one of the 16: where none is the word's, there is room for one more
-  pub slot-below : i < 16
-  slot-below =
-      let l = toggles-length g (m .kept) in
-      let ts = togglesIn g src work base n in
-      let w = wordLeft g src (lineStart at) in
-      by (eqb i n)
-      (λ t. let e = eqb-true i n t in
-      let none : oneOf (isToggle w) ts ≡ false = ap (oneOf (isToggle w)) (sym (take-all i ts (omega arith))) ∙ v .before in
-      let few : ltb (length ts) 16 ≡ true = rw none at (m .free) in
-      omega (arith, ltb-true (length ts) 16 few))
-      (λ t. let d = eqb-false i n t in omega (arith, slot-few, m .kept .few))
+  -- the area behind its first numbers
+  rest : length (drop base work) ≡ length work - base
+  rest = length-drop base work
 
-  -- the toggles after it
-  together : (k x : ℕ) → x ≡ storedAs at on
-      → take k (set (drop base work) i x) ≡ take i (take n (drop base work)) ++ x ∷ drop (suc i) (take n (drop base work))
-      → togglesIn g src (set work (base + i) x) base k ≡ turned (wordLeft g src (lineStart at)) on (togglesIn g src work base n)
-  unfolding togglesIn
-  together k x s e =
-      ap (λ (y : List ℕ). map (toggleAt g src) (take k y)) (drop-set-add base work i x)
-      ∙ ap (map (toggleAt g src)) e
-      ∙ stored-list (toggleAt g src) (take n (drop base work)) i x
-      ∙ ap (λ (y : Toggle). take i (map (toggleAt g src) (take n (drop base work))) ++ y ∷ drop (suc i) (map (toggleAt g src) (take n (drop base work))))
-      (ap (toggleAt g src) s ∙ stored-toggle g src at on)
-      ∙ sym (turned-slot (wordLeft g src (lineStart at)) on (map (toggleAt g src) (take n (drop base work))) i v)
+  module _ (on : Bool) {x : ℕ} (s : x ≡ storedAs at on) where
+    -- the number's word
+    stored-word : wordOf g src x ≡ wordLeft g src (lineStart at)
+    stored-word = ap (λ (y : ℕ). wordLeft g src (lineStart y)) (stored-at at on s)
 
-  -- every word still begins inside the source
-  kept-after : (k x : ℕ) → x ≡ storedAs at on → k ≤ 16 → ((j : ℕ) → j < k → (j ≡ i → ⊥) → j < n) → Kept src (set work (base + i) x) base k
-  kept-after k x s few other =
-      let r = m .kept .room in
-      let b = slot-below in
-      let l = length-set work (base + i) x in
-      record {
-        room = omega arith;
-        few = few;
-        inside = λ j h.
-            by (eqb j i)
-            (λ t. let e : base + j ≡ base + i = ap (λ (y : ℕ). base + y) (eqb-true j i t) in
-            let v : getD (set work (base + i) x) (base + j) 0 ≡ storedAs at on =
-            ap (λ (y : ℕ). getD (set work (base + i) x) y 0) e ∙ getD-set-same work (base + i) x 0 (omega arith) ∙ s in
-            rw (v, stored-place at on) (m .inside))
-            (λ t. let d = eqb-false j i t in
-            let v : getD (set work (base + i) x) (base + j) 0 ≡ getD work (base + j) 0 = getD-set-other work (base + i) (base + j) x 0 (λ e. d (omega arith)) in
-            rw v (m .kept .inside j (other j h d)));
-      }
+    stored-inside : x / 2 ≤ length src
+    stored-inside = let e = stored-at at on s in omega (arith, m .inside)
 
-  -- with the list after the store, all that is promised
-  all-after : (k x : ℕ) → x ≡ storedAs at on → k ≤ 16 → ((j : ℕ) → j < k → (j ≡ i → ⊥) → j < n)
-      → take k (set (drop base work) i x) ≡ take i (take n (drop base work)) ++ x ∷ drop (suc i) (take n (drop base work))
-      → Turned g src work (set work (base + i) x) base n k at on
-  all-after k x s few other e =
-      let b = slot-below in
-      record {
-        toggles = together k x s e;
-        kept = kept-after k x s few other;
-        before = λ j h. getD-set-other work (base + i) j x 0 (λ q. absurd (omega arith));
-        behind = λ j h. getD-set-other work (base + i) j x 0 (λ q. absurd (omega arith));
-        long = length-set work (base + i) x;
-      }
+  module _ (h : i < n) where
+    -- the store is inside the area
+    pub again-room : base + i < length work
+    again-room = omega (arith, m .kept .room, m .kept .few)
 
-  room : length (drop base work) ≡ length work - base
-  room = length-drop base work
+    -- the word is the one that is kept there
+    again-word : wordLeft g src (lineStart at) ≡ wordOf g src (getD work (base + i) 0)
+    again-word =
+        let l = toggles-length g (m .kept) in
+        let w = wordLeft g src (lineStart at) in
+        word-is g src (getD work (base + i) 0) w (ap (isToggle w) (sym (toggles-getD g (m .kept) i h)) ∙ v .there (omega arith))
 
-  -- the store is inside the area
-  pub slot-room : base + i < length work
-  slot-room = omega (arith, slot-below, m .kept .room)
+    pub turn-again : (on : Bool) {x : ℕ} → x ≡ storedAs at on → Turned g src work (set work (base + i) x) base n n at on
+    turn-again on {x} s =
+        let r = m .kept .room in
+        let f = m .kept .few in
+        let l = rest in
+        let long = length-set work (base + i) x in
+        record {
+          toggles = together g src work base n at on v n x s (inner (drop base work) n i x h (omega arith));
+          kept =
+              kept-again (m .kept) (set work (base + i) x) i x long
+              (getD-set-same work (base + i) x 0 (omega arith))
+              (λ j a b. getD-set-other work (base + i) (base + j) x 0 (λ e. b (omega arith)))
+              (λ j a. getD-set-other work (base + i) (base + 16 + j) x 0 (λ e. absurd (omega arith)))
+              (stored-inside on s)
+              (stored-word on s ∙ again-word);
+          before = λ j a. getD-set-other work (base + i) j x 0 (λ e. absurd (omega arith));
+          behind = λ j a. getD-set-other work (base + i) j x 0 (λ e. absurd (omega arith));
+          long = long;
+        }
 
-  pub turn-again : {x : ℕ} → x ≡ storedAs at on → i < n → Turned g src work (set work (base + i) x) base n n at on
-  turn-again {x} s h =
-      let r = m .kept .room in
-      let f = m .kept .few in
-      let l = room in
-      all-after n x s f (λ j p q. p) (inner (drop base work) n i x h (omega arith))
+  module _ (h : n ≤ i) where
+    no-other : oneOf (isToggle (wordLeft g src (lineStart at))) (togglesIn g src work base n) ≡ false
+    no-other =
+        let l = toggles-length g (m .kept) in
+        let ts = togglesIn g src work base n in
+        ap (oneOf (isToggle (wordLeft g src (lineStart at)))) (sym (take-all i ts (omega arith))) ∙ v .before
 
-  pub turn-new : {x : ℕ} → x ≡ storedAs at on → n ≤ i → Turned g src work (set work (base + i) x) base n (n + 1) at on
-  turn-new {x} s h =
-      let r = m .kept .room in
-      let b = slot-below in
-      let l = room in
-      let e : i ≡ n = omega (arith, slot-few) in
-      let f : n < length (drop base work) = omega arith in
-      all-after (n + 1) x s (omega arith) (λ j p q. omega arith)
-      (ap (λ (k : ℕ). take k (set (drop base work) i x)) (add-one n)
-      ∙ subst (λ (y : ℕ). take (suc n) (set (drop base work) y x) ≡ take y (take n (drop base work)) ++ x ∷ drop (suc y) (take n (drop base work))) (sym e)
-      (outer (drop base work) n x f))
+    -- there is room for one more
+    more-room : n < 16
+    more-room =
+        let l = toggles-length g (m .kept) in
+        let ts = togglesIn g src work base n in
+        let none = no-other in
+        let few : ltb (length ts) 16 ≡ true = rw none at (m .free) in
+        omega (arith, ltb-true (length ts) 16 few)
+
+    pub turn-is-new : IsNew g src work base n (lineStart at)
+    turn-is-new = record { kept = m .kept; inside = m .inside; room = more-room; proper = m .proper; other = no-other }
+
+    -- both stores are inside the area
+    pub decision-room : base + 16 + n < length work
+    decision-room = omega (arith, more-room, m .kept .room)
+
+    pub new-room : (d : ℕ) → base + n < length (set work (base + 16 + n) d)
+    new-room d = let l = length-set work (base + 16 + n) d in omega (arith, more-room, m .kept .room)
+
+    pub turn-new : (on : Bool) {x d : ℕ} → Decides g src work base n (wordLeft g src (lineStart at)) d → x ≡ storedAs at on
+        → Turned g src work (set (set work (base + 16 + n) d) (base + n) x) base n (n + 1) at on
+    turn-new on {x} {d} c s =
+        let r = m .kept .room in
+        let b = more-room in
+        let between = set work (base + 16 + n) d in
+        let e : i ≡ n = omega (arith, slot-few) in
+        let first = length-set work (base + 16 + n) d in
+        let second = length-set between (base + n) x in
+        let long : length (set between (base + n) x) ≡ length work = second ∙ first in
+        let l = length-drop base between in
+        let f : n < length (drop base between) = omega arith in
+        let alike =
+        toggles-alike g src work between base n (toggles-room g (m .kept)) first
+        (λ j a. getD-set-other work (base + 16 + n) (base + j) d 0 (λ q. absurd (omega arith))) in
+        let w = wordLeft g src (lineStart at) in
+        let v′ : Slot w (togglesIn g src between base n) n = rw alike (subst (Slot w (togglesIn g src work base n)) e v) in
+        let word = stored-word on s in
+        record {
+          toggles =
+              together g src between base n at on v′ (n + 1) x s (ap (λ (k : ℕ). take k (set (drop base between) n x)) (add-one n) ∙ outer (drop base between) n x f)
+              ∙ ap (turned w on) alike;
+          kept =
+              kept-more (m .kept) b (set between (base + n) x) x d long
+              (getD-set-same between (base + n) x 0 (omega arith))
+              (λ j a. getD-set-other between (base + n) (base + j) x 0 (λ q. absurd (omega arith))
+              ∙ getD-set-other work (base + 16 + n) (base + j) d 0 (λ q. absurd (omega arith)))
+              (getD-set-other between (base + n) (base + 16 + n) x 0 (λ q. absurd (omega arith))
+              ∙ getD-set-same work (base + 16 + n) d 0 (omega arith))
+              (λ j a. getD-set-other between (base + n) (base + 16 + j) x 0 (λ q. absurd (omega arith))
+              ∙ getD-set-other work (base + 16 + n) (base + 16 + j) d 0 (λ q. absurd (omega arith)))
+              (stored-inside on s)
+              (rw word (m .proper))
+              (rw word c);
+          before = λ j a.
+              getD-set-other between (base + n) j x 0 (λ q. absurd (omega arith))
+              ∙ getD-set-other work (base + 16 + n) j d 0 (λ q. absurd (omega arith));
+          behind = λ j a.
+              getD-set-other between (base + n) j x 0 (λ q. absurd (omega arith))
+              ∙ getD-set-other work (base + 16 + n) j d 0 (λ q. absurd (omega arith));
+          long = long;
+        }

@@ -19,10 +19,10 @@ use Rattle.toggles.specs.Kept.{wordLeft, ShapeIs}
 -- ## The next byte
 
 module _ (g : Signs) (src : List ℕ) (q : Spot) {s : WordStep} (w : WordStepIs g src q s) where
-  step-byte : {b : ℕ} {r : Spot} → s ≡ Byte b r → WordByte g src q b r
+  pub step-byte : {b : ℕ} {r : Spot} → s ≡ Byte b r → WordByte g src q b r
   step-byte e = subst (WordStepIs g src q) e w
 
-  step-end : s ≡ End → wordLeft g src q ≡ []
+  pub step-end : s ≡ End → wordLeft g src q ≡ []
   step-end e = let x : WordStops g src q = subst (WordStepIs g src q) e w in x .bytes
 
   pub step-less : {b : ℕ} {r : Spot} → s ≡ Byte b r → length src - r .at < length src - q .at

@@ -12,6 +12,7 @@ use Rattle.lines.specs.declared.Signs.{Signs}
 use Rattle.lines.specs.declared.Spot.{Spot}
 use Rattle.lines.specs.Stream.{marksLeft, lineStart}
 use Rattle.tokens.specs.Left.{wordIn}
+use Rattle.toggles.specs.Candidates.{takes, candidate}
 use Rattle.toggles.specs.declared.Place.{Place}
 use Rattle.toggles.specs.declared.Place.the-variants as place
 use Rattle.toggles.specs.declared.Shape.{Shape}
@@ -42,11 +43,22 @@ storedAs at on = if on then at * 2 + 1 else at * 2
 unfoldable pub togglesIn : Signs → List ℕ → List ℕ → ℕ → ℕ → List Toggle
 togglesIn g src work base n = map (toggleAt g src) (take n (drop base work))
 
--- The area has room for 16, and every word begins inside the source.
-pub record Kept (src work : List ℕ) (base n : ℕ) : Type 0 where
-  pub room : base + 16 ≤ length work
+-- the word of the toggle that a number stands for
+abbrev pub wordOf : Signs → List ℕ → ℕ → List ℕ
+wordOf g src v = wordLeft g src (lineStart (v / 2))
+
+-- A word that can be a toggle's.
+pub record Proper (w : List ℕ) : Type 0 where
+  pub clean : every isToggleByte w ≡ true
+  pub short : length w ≤ 32
+
+-- The area has room for 16 and, behind them, for their decisions; every word begins inside the source, and its candidate is the toggle itself.
+pub record Kept (g : Signs) (src work : List ℕ) (base n : ℕ) : Type 0 where
+  pub room : base + 32 ≤ length work
   pub few : n ≤ 16
   pub inside : (i : ℕ) → i < n → getD work (base + i) 0 / 2 ≤ length src
+  pub proper : (i : ℕ) → i < n → Proper (wordOf g src (getD work (base + i) 0))
+  pub decided : (i : ℕ) → i < n → candidate (wordOf g src (getD work (base + i) 0)) work (base + 16) n ≡ i
 
 -- ## Which toggle
 
@@ -76,19 +88,33 @@ pub record Slot (w : List ℕ) (ts : List Toggle) (i : ℕ) : Type 0 where
 abbrev pub isFree : List ℕ → List Toggle → Bool
 isFree w ts = oneOf (isToggle w) ts || ltb (length ts) 16
 
+-- The word at a spot can be that of one more toggle.
+pub record IsNew (g : Signs) (src work : List ℕ) (base n : ℕ) (q : Spot) : Type 0 where
+  pub kept : Kept g src work base n
+  pub inside : q .at ≤ length src
+  pub room : n < 16
+  pub proper : Proper (wordLeft g src q)
+  pub other : oneOf (isToggle (wordLeft g src q)) (togglesIn g src work base n) ≡ false
+
+-- A decision for one more toggle, of a word w: it makes that one the candidate of w, and leaves each word that is kept to its own toggle.
+pub record Decides (g : Signs) (src work : List ℕ) (base n : ℕ) (w : List ℕ) (d : ℕ) : Type 0 where
+  pub own : (if takes w (candidate w work (base + 16) n) d then n else candidate w work (base + 16) n) ≡ n
+  pub others : (i : ℕ) → i < n → takes (wordOf g src (getD work (base + i) 0)) i d ≡ false
+
 -- The toggle whose word begins at a place may be turned.
 pub record MayTurn (g : Signs) (src work : List ℕ) (base n at : ℕ) : Type 0 where
-  pub kept : Kept src work base n
+  pub kept : Kept g src work base n
   pub inside : at ≤ length src
+  pub proper : Proper (wordLeft g src (lineStart at))
   pub short : length src ≤ 1048576
   pub free : isFree (wordLeft g src (lineStart at)) (togglesIn g src work base n) ≡ true
 
 -- It is turned: the toggles after it, how many they are, and that the rest of the area is as before.
 pub record Turned (g : Signs) (src work after : List ℕ) (base n m at : ℕ) (on : Bool) : Type 0 where
   pub toggles : togglesIn g src after base m ≡ turned (wordLeft g src (lineStart at)) on (togglesIn g src work base n)
-  pub kept : Kept src after base m
+  pub kept : Kept g src after base m
   pub before : (i : ℕ) → i < base → getD after i 0 ≡ getD work i 0
-  pub behind : (i : ℕ) → base + 16 ≤ i → getD after i 0 ≡ getD work i 0
+  pub behind : (i : ℕ) → base + 32 ≤ i → getD after i 0 ≡ getD work i 0
   pub long : length after ≡ length work
 
 -- ## Refusals

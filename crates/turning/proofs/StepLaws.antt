@@ -83,7 +83,7 @@ line-moves v = let l = v .line in record { end = l .end; feeds = l .feeds; on = 
 
 module _ {g : Signs} {src work : List ℕ} {sh : Sheet} {at depth : ℕ} {p : Spot} {e : LineEnd} {w : List ℕ} (m : MayRead g src work sh at depth p e w) where
   -- its operand may be looked up
-  pub may-name : MayName src work (togglesAt (length src)) (sh .toggles) p
+  pub may-name : MayName g src work (togglesAt (length src)) (sh .toggles) p
   may-name = record { kept = m .some .held .kept; mode = m .line .plain; inside = m .line .to; short = m .some .short }
 
   -- what the paper makes of it in a used branch

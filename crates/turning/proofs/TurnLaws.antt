@@ -93,7 +93,7 @@ module _ {g : Signs} {src : List ℕ} {at : ℕ} {p : Spot} {e : LineEnd} {w : L
 
 module _ {g : Signs} {src work : List ℕ} {sh : Sheet} {at : ℕ} {p : Spot} {e : LineEnd} (m : KeyTurn g src work sh at p e (bytes "elif")) where
   -- its operand may be looked up
-  pub elif-name : MayName src work (togglesAt (length src)) (sh .toggles) p
+  pub elif-name : MayName g src work (togglesAt (length src)) (sh .toggles) p
   elif-name = record { kept = m .some .held .kept; mode = m .line .plain; inside = m .line .to; short = m .some .short }
 
   module _ (number : ℕ) (taken closed : Bool) where

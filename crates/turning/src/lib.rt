@@ -74,7 +74,7 @@ fn holds_for(wanted: bool, on: bool) -> bool
 
 // The toggle that a line names, from the spot after its first word on.
 fn named_at(src: &[u8], g: Signs, work: &mut [u32], n: usize, p: Spot, set: Set) -> Toggled
-    requires { ⌜ MayName (now src) (now work) (togglesAt (length (now src))) n p ⌝ }
+    requires { ⌜ MayName g (now src) (now work) (togglesAt (length (now src))) n p ⌝ }
     ensures { λ r. ⌜ ToggledIs g (now (src .entry)) (now (work .entry)) (now (work .exit)) (togglesAt (length (now (src .entry)))) n (operands (tokensLeft g (now (src .entry)) p)) set r ⌝ }
 {
     name_toggle(src, g, work, 8 * (src.len() / 8 + 2), n, p, set)

@@ -1,60 +1,46 @@
--- `toggles::find_toggle` meets its contract. The invariant: none of the toggles so far is the word's. The measure is how many are left.
-use Rattle.toggles.proofs.FindLaws.{Seeking, seek-start, seek-hit, seek-more, seek-end, seek-inside}
-use Prim.Native.Nat.{_-_}
-use Rattle.toggles.specs.Kept.{wordLeft, togglesIn}
+-- `toggles::find_toggle` meets its contract: the candidate has the word, or none.
+use Rattle.toggles.proofs.FindLaws.{find-inside, find-hit, find-miss, find-none}
 use borrow.Author.Needs.{needs}
 use Rattle.toggles.proofs.find_toggle.Statement.{statement}
 use Rattle.toggles.proofs.find_toggle.Tie as tie
 
-abbrev Inv-loop : tie.InvT-loop
-Inv-loop src g work base n q i₀ i = Seeking (wordLeft g src q) (togglesIn g src work base n) n i
+add-candidate-of : tie.Need-add-candidate-of
+add-candidate-of c = search needs
 
-abbrev μ-loop : tie.MeasureT-loop
-μ-loop src g work base n q i₀ i = n - i
+candidate-of-requires : tie.Need-candidate-of-requires
+candidate-of-requires c κs = search needs
 
-loop-holds : tie.Need-loop-holds Inv-loop μ-loop
-loop-holds c = search seek-start
-
-add-v : tie.Need-add-v Inv-loop μ-loop
+add-v : tie.Need-add-v
 add-v c = search needs
 
-mul-v : tie.Need-mul-v Inv-loop μ-loop
+mul-v : tie.Need-mul-v
 mul-v c = search needs
 
-shared-slice-read-v : tie.Need-shared-slice-read-v Inv-loop μ-loop
+shared-slice-read-v : tie.Need-shared-slice-read-v
 shared-slice-read-v c = search needs
 
-has-label-requires : tie.Need-has-label-requires Inv-loop μ-loop
-has-label-requires c κs = (search seek-inside, search needs)
+has-label-requires : tie.Need-has-label-requires
+has-label-requires c κs = (search find-inside, search needs)
 
-returns : tie.Need-returns Inv-loop μ-loop
-returns c = search seek-hit
+returns : tie.Need-returns
+returns c = search find-hit
 
-add-i : tie.Need-add-i Inv-loop μ-loop
-add-i c = search needs
+returns-2 : tie.Need-returns-2
+returns-2 c = search find-miss
 
-loop-less : tie.Need-loop-less Inv-loop μ-loop
-loop-less c = search needs
-
-loop-again : tie.Need-loop-again Inv-loop μ-loop
-loop-again c = search seek-more
-
-returns-2 : tie.Need-returns-2 Inv-loop μ-loop
-returns-2 c = search seek-end
+returns-3 : tie.Need-returns-3
+returns-3 c = search find-none
 
 pub find-toggle-spec : {M : Type 1} → statement M
 find-toggle-spec =
     tie.close
     (tie.spec
-    Inv-loop
-    μ-loop
-    loop-holds
+    add-candidate-of
+    candidate-of-requires
     add-v
     mul-v
     shared-slice-read-v
     has-label-requires
     returns
-    add-i
-    loop-less
-    loop-again
-    returns-2)
+    returns-2
+    returns-3)

@@ -1,17 +1,17 @@
 -- `toggles::has_label` meets its contract: the words are compared.
-use Rattle.toggles.proofs.AreaLaws.{label-is}
+use Rattle.toggles.proofs.AreaLaws.{spot-inside, label-is}
 use borrow.Author.Needs.{needs}
 use Rattle.toggles.proofs.has_label.Statement.{statement}
 use Rattle.toggles.proofs.has_label.Tie as tie
 
-place-of-requires : tie.Need-place-of-requires
-place-of-requires c κs = search needs
+spot-of-requires : tie.Need-spot-of-requires
+spot-of-requires c κs = search needs
 
 same-word-requires : tie.Need-same-word-requires
-same-word-requires c κs = search needs
+same-word-requires c κs = (search needs, search spot-inside)
 
 returns : tie.Need-returns
 returns c = search label-is
 
 pub has-label-spec : {M : Type 1} → statement M
-has-label-spec = tie.close (tie.spec place-of-requires same-word-requires returns)
+has-label-spec = tie.close (tie.spec spot-of-requires same-word-requires returns)

@@ -1,8 +1,5 @@
--- `toggles::turn` meets its contract: one store, where the toggle stands or behind the last.
-use Rattle.toggles.proofs.TurnLaws.{slot-room, turn-again, turn-new}
-use Prim.Native.Nat.{_+_, _<_}
-use native.Mathlib.Omega.{arith}
-use lib.ListN.{length}
+-- `toggles::turn` meets its contract: one store where the toggle is known, and its decision and its number behind the last where it is new.
+use Rattle.toggles.proofs.TurnLaws.{turn-again, turn-is-new, decision-room, new-room, turn-new}
 use borrow.Author.Needs.{needs}
 use Rattle.toggles.proofs.turn.Statement.{statement}
 use Rattle.toggles.proofs.turn.Tie as tie
@@ -14,25 +11,46 @@ stored-requires : tie.Need-stored-requires
 stored-requires c κs = search needs
 
 add-work : tie.Need-add-work
-add-work c =
-    let a = c .before .before .before .before .before .args in
-    let h : a .base + c .before .slot-of .result < length (a .work .now) = search slot-room in
-    omega arith
+add-work c = search needs
 
 mul-work : tie.Need-mul-work
-mul-work c =
-    let a = c .before .before .before .before .before .args in
-    let h : a .base + c .before .slot-of .result < length (a .work .now) = search slot-room in
-    omega arith
+mul-work c = search needs
 
 slice-write-work : tie.Need-slice-write-work
-slice-write-work c = search slot-room
+slice-write-work c = search needs
 
 same-length : tie.Need-same-length
 same-length c = search needs
 
 returns : tie.Need-returns
 returns c = search turn-again
+
+decide-requires : tie.Need-decide-requires
+decide-requires c κs = search turn-is-new
+
+add-work-2 : tie.Need-add-work-2
+add-work-2 c = search needs
+
+add-work-3 : tie.Need-add-work-3
+add-work-3 c = search needs
+
+mul-work-2 : tie.Need-mul-work-2
+mul-work-2 c = search needs
+
+slice-write-work-2 : tie.Need-slice-write-work-2
+slice-write-work-2 c = search decision-room
+
+stored-requires-2 : tie.Need-stored-requires-2
+stored-requires-2 c κs = search needs
+
+add-work-4 : tie.Need-add-work-4
+add-work-4 c = search needs
+
+mul-work-3 : tie.Need-mul-work-3
+mul-work-3 c = search needs
+
+slice-write-work-3 : tie.Need-slice-write-work-3
+slice-write-work-3 c = search new-room
 
 add-result : tie.Need-add-result
 add-result c = search needs
@@ -54,6 +72,15 @@ turn-spec =
     slice-write-work
     same-length
     returns
+    decide-requires
+    add-work-2
+    add-work-3
+    mul-work-2
+    slice-write-work-2
+    stored-requires-2
+    add-work-4
+    mul-work-3
+    slice-write-work-3
     add-result
     same-length-2
     returns-2)
