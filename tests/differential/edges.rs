@@ -141,6 +141,7 @@ pub fn edges(pieces: &Pieces) -> Vec<Request> {
         list.push(check(full_table(items)));
     }
     list.extend(beginnings());
+    list.extend(places());
     list.extend(one_number(pieces));
     list.extend(spellings());
     list.extend(toggles());
@@ -192,6 +193,26 @@ fn beginnings() -> Vec<Request> {
             name(length + 1, 'n'),
         ] {
             list.push(named(&declared, &[other]));
+        }
+    }
+    list
+}
+
+/// Declarations close to each other with names of each length, from each place modulo eight on.
+fn places() -> Vec<Request> {
+    let mut list = Vec::new();
+    for length in 1..=32 {
+        for more in 0..8 {
+            let [a, b, c, d] = ["a", "b", "c", "d"].map(|byte| repeated(byte, length));
+            let before = format!(
+                "#{}\ncollating-symbol <{a}>\ncollating-element <{b}> from \"<U0041><U0042>\"\n\
+                 collating-element <{c}> from \"<U0041><U0042><U0043><U00000044>\"\n\
+                 collating-symbol <{d}>\n",
+                repeated("x", more)
+            );
+            let names = format!("\"<{a}><{b}><{c}><{d}><U0041><U0042>\"");
+            let order = format!("<{a}>\n<{d}>\n<U0041>\n<U0042>\n<{b}> {names}\n<{c}>\n");
+            list.push(collate(&before, &order));
         }
     }
     list
@@ -379,16 +400,16 @@ fn comments() -> Vec<Request> {
 fn special_bytes() -> Vec<Request> {
     let mut list = Vec::new();
     for special in *b"\"<>\\#;,.! \t\n\r\x01\x1F\x7F\x80\xFF" {
-        for at in 0..=40 {
-            let mut line = vec![b'x'; 40];
-            line.insert(at, special);
-            for (before, behind) in [
-                ("LC_COLLATE\n", "\nx\n"),
-                ("LC_COLLATE\nifdef T\n", "\n\nelse\nx\nendif\n"),
-                ("LC_X\n", "\n\nEND LC_X\nx\n"),
-                ("#", "\nx\n"),
-                ("LC_COLLATE\ncollating-symbol <nn", ">\nx\n"),
-            ] {
+        for (count, before, behind) in [
+            (40, "LC_COLLATE\n", "\nx\n"),
+            (40, "LC_COLLATE\nifdef T\n", "\n\nelse\nx\nendif\n"),
+            (40, "LC_X\n", "\n\nEND LC_X\nx\n"),
+            (40, "#", "\nx\n"),
+            (31, "LC_COLLATE\ncollating-symbol <", ">\nx\n"),
+        ] {
+            for at in 0..=count {
+                let mut line = vec![b'x'; count];
+                line.insert(at, special);
                 let text = [before.as_bytes(), &line, behind.as_bytes()].concat();
                 list.push(compile(text, 100));
             }
