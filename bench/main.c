@@ -605,9 +605,10 @@ static void time_cells(double took, const struct source *source)
     cell(took / (double)source->text.count);
 }
 
-static void hostile_row(const char *what, struct source source, struct source twin)
+static void hostile_row(const char *what, struct source source, struct source twin, int has_peer)
 {
-    double ours = time_of(product_compile, &source), honest = time_of(product_compile, &twin), peer = localedef_net(&source);
+    double ours = time_of(product_compile, &source), honest = time_of(product_compile, &twin);
+    double peer = has_peer ? localedef_net(&source) : 0;
     printf("| %s |", what);
     whole_cell((double)source.text.count);
     time_cells(ours, &source);
@@ -646,26 +647,26 @@ static void hostile_table(void)
     struct source small = small_source();
     write_source(folder, &small);
     printf("## Hostile sources\n\nOne source, in milliseconds, beside its honest twin: as many bytes in the same lines, without what makes "
-           "the source slow. All but one are up to 1 MiB divided by %zu, with %d elements or %d names. localedef without its start; it refuses "
-           "lines that are nothing but a join.\n\n", part(), elements, names);
+           "the source slow. All but one are up to 1 MiB divided by %zu, with %d elements or %d names. localedef without its start; it "
+           "refuses lines that are nothing but a join, or never ends on them.\n\n", part(), elements, names);
     printf("| source | bytes | ours | ns a byte | honest twin | ns a byte | ours / twin | localedef |\n|---|--:|--:|--:|--:|--:|--:|--:|\n");
     hostile_row("a toggle joined over one half, conditionals that name it", joined_toggle_source(size, 0, HOSTILE),
-                joined_toggle_source(size, 0, HONEST));
+                joined_toggle_source(size, 0, HONEST), 0);
     hostile_row("the same, conditionals that name another that begins alike", joined_toggle_source(size, 1, HOSTILE),
-                joined_toggle_source(size, 1, HONEST));
+                joined_toggle_source(size, 1, HONEST), 0);
     hostile_row("elements whose characters have one hash", alike_elements_source(elements, 0, HOSTILE),
-                alike_elements_source(elements, 0, HONEST));
+                alike_elements_source(elements, 0, HONEST), 1);
     hostile_row("the same, the first joined over one half", alike_elements_source(elements, size / 2, HOSTILE),
-                alike_elements_source(elements, size / 2, HONEST));
+                alike_elements_source(elements, size / 2, HONEST), 0);
     hostile_row("names with one hash, weights that name the first", deepest_source(names, size, HOSTILE),
-                deepest_source(names, size, HONEST));
-    hostile_row("names on the way to the one that all weights name", way_source(size, HOSTILE), way_source(size, HONEST));
+                deepest_source(names, size, HONEST), 1);
+    hostile_row("names on the way to the one that all weights name", way_source(size, HOSTILE), way_source(size, HONEST), 1);
     hostile_row("a symbol joined over one half, weights that name it", joined_symbol_source(size, HOSTILE),
-                joined_symbol_source(size, HONEST));
+                joined_symbol_source(size, HONEST), 0);
     hostile_row("a character joined over one half, weights that name it", joined_character_source(size, HOSTILE),
-                joined_character_source(size, HONEST));
-    hostile_row("characters in as few chains as they allow", chained_source(size, HOSTILE), chained_source(size, HONEST));
-    hostile_row("the same, in 16 KiB", chained_source(16384, HOSTILE), chained_source(16384, HONEST));
+                joined_character_source(size, HONEST), 0);
+    hostile_row("characters in as few chains as they allow", chained_source(size, HOSTILE), chained_source(size, HONEST), 1);
+    hostile_row("the same, in 16 KiB", chained_source(16384, HOSTILE), chained_source(16384, HONEST), 1);
     hostile_charmaps(size);
 }
 
