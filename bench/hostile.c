@@ -247,10 +247,10 @@ struct source alike_elements_source(int count, size_t joined, enum kind kind)
     uint32_t place = 0, chars[3];
     put(&source.text, source_head);
     for (int k = 0; k < count; k++) {
-        char end[32];
+        char end[64];
         next_element(&place, chars, kind);
-        put(&source.text, "collating-element <e%d> from \"<U%04X>", k, chars[0]);
-        snprintf(end, sizeof end, "<U%04X><U%04X>\"", chars[1], chars[2]);
+        put(&source.text, "collating-element <e%d> from \"", k);
+        snprintf(end, sizeof end, "<U%04X><U%04X><U%04X>\"", chars[0], chars[1], chars[2]);
         put_joined(&source.text, k == 0 ? joined : 0, end, kind);
     }
     put(&source.text, "order_start forward\n");
