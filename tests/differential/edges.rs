@@ -234,16 +234,21 @@ fn one_number(pieces: &Pieces) -> Vec<Request> {
     ]
 }
 
-/// A name with a join or an escape, or many joins, before each of its bytes in turn.
+/// A name with a join, many joins or an escape before each of its bytes in turn, and before all.
 fn spelled(name: &str) -> Vec<String> {
     let many = repeated("\\\n", 40);
     let mut list = Vec::new();
-    for at in 0..=name.len() {
-        for put in ["\\\n", &many, "\\"] {
-            if at < name.len() || put != "\\" {
-                list.push([&name[..at], put, &name[at..]].concat());
-            }
+    for put in ["\\\n", &many, "\\"] {
+        // An escape at the end would take what stands behind the name.
+        let end = name.len() - usize::from(put == "\\");
+        for at in 0..=end {
+            list.push([&name[..at], put, &name[at..]].concat());
         }
+        list.push(
+            name.chars()
+                .map(|byte| format!("{}{}", put, byte))
+                .collect(),
+        );
     }
     list
 }
