@@ -58,13 +58,18 @@ void write_source(const char *folder, const struct source *source);
 /* A slow source, or its honest twin. */
 enum kind { HOSTILE, HONEST };
 
+/* Names with one hash. */
 struct source colliding_source(int count);
-struct source deepest_source(int count, size_t size, enum kind kind);
+
+/* Sources of up to so many bytes. */
+struct source joined_toggle_source(size_t size, enum kind kind);
+struct source other_toggle_source(size_t size, enum kind kind);
+struct source alike_elements_source(size_t size, enum kind kind);
+struct source joined_element_source(size_t size, enum kind kind);
+struct source deepest_source(size_t size, enum kind kind);
 struct source way_source(size_t size, enum kind kind);
 struct source joined_symbol_source(size_t size, enum kind kind);
 struct source joined_character_source(size_t size, enum kind kind);
-struct source joined_toggle_source(size_t size, int second, enum kind kind);
-struct source alike_elements_source(int count, size_t joined, enum kind kind);
 struct source chained_source(size_t size, enum kind kind);
 
 /* Charmaps. */

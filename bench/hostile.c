@@ -97,6 +97,12 @@ struct source colliding_source(int count)
     return source;
 }
 
+/* As many of a number as a source of this size has of the largest. */
+static int part_of(size_t most, size_t size)
+{
+    return (int)(most * size / MOST_SOURCE);
+}
+
 /* ---- Weights ---- */
 
 /* Begins an order of as many levels as there may be. */
@@ -124,11 +130,12 @@ static void put_symbol(struct text *text, const char *name)
     put(text, "collating-symbol <%s>\n", name);
 }
 
-/* Symbols whose names have one number, and weights that name the first, which is the last one found. */
-struct source deepest_source(int count, size_t size, enum kind kind)
+/* 9,000 symbols at most whose names have one number, and weights that name the first, which is the last one found. */
+struct source deepest_source(size_t size, enum kind kind)
 {
     struct source source = {.name = "deepest"};
     char name[MOST_NAME + 1];
+    int count = part_of(9000, size);
     put(&source.text, source_head);
     for (int k = 0; k < count; k++) {
         make_name(name, 8, k, kind);
@@ -208,18 +215,28 @@ struct source joined_character_source(size_t size, enum kind kind)
     return source;
 }
 
-/* A toggle that is joined over half of the source, and conditionals that name it, or a second toggle that begins alike. */
-struct source joined_toggle_source(size_t size, int second, enum kind kind)
+/* A toggle that is joined over half of the source, another that begins alike, and conditionals that name one of the two. */
+static struct source toggle_source(size_t size, const char *named, enum kind kind)
 {
-    struct source source = {.name = "joined_toggle"};
+    struct source source = {.name = "toggle"};
     put(&source.text, source_head);
     put(&source.text, "define T");
     put_joined(&source.text, size / 2, "X", kind);
     put(&source.text, "define TY\norder_start forward\n<U0061>\n");
     while (source.text.count < size - 64)
-        put(&source.text, "ifdef T%c\nendif\n", second ? 'Y' : 'X');
+        put(&source.text, "ifdef %s\nendif\n", named);
     put(&source.text, source_tail);
     return source;
+}
+
+struct source joined_toggle_source(size_t size, enum kind kind)
+{
+    return toggle_source(size, "TX", kind);
+}
+
+struct source other_toggle_source(size_t size, enum kind kind)
+{
+    return toggle_source(size, "TY", kind);
 }
 
 /* ---- Elements ---- */
@@ -240,11 +257,12 @@ static void next_element(uint32_t *place, uint32_t chars[3], enum kind kind)
     } while (chars[2] < FIRST_CHARACTER || chars[2] >= FIRST_CHARACTER + CHARACTERS);
 }
 
-/* Elements whose characters have one number; those of the first are joined over so many bytes of source, if any. */
-struct source alike_elements_source(int count, size_t joined, enum kind kind)
+/* 8,000 elements at most whose characters have one number; those of the first are joined up to so many bytes of source. */
+static struct source element_source(size_t size, size_t joined, enum kind kind)
 {
-    struct source source = {.name = "alike_elements"};
+    struct source source = {.name = "element"};
     uint32_t place = 0, chars[3];
+    int count = part_of(8000, size);
     put(&source.text, source_head);
     for (int k = 0; k < count; k++) {
         char end[64];
@@ -258,6 +276,16 @@ struct source alike_elements_source(int count, size_t joined, enum kind kind)
         put(&source.text, "<e%d>\n", k);
     put(&source.text, source_tail);
     return source;
+}
+
+struct source alike_elements_source(size_t size, enum kind kind)
+{
+    return element_source(size, 0, kind);
+}
+
+struct source joined_element_source(size_t size, enum kind kind)
+{
+    return element_source(size, size / 2, kind);
 }
 
 /* ---- Characters ---- */

@@ -605,11 +605,31 @@ static void time_cells(double took, const struct source *source)
     cell(took / (double)source->text.count);
 }
 
-static void hostile_row(const char *what, struct source source, struct source twin, int has_peer)
+/* A row of hostile sources, and whether localedef takes them. */
+struct hostile {
+    const char *what;
+    struct source (*make)(size_t size, enum kind kind);
+    int has_peer;
+};
+
+static const struct hostile hostile_sources[] = {
+    {"a toggle joined over one half, conditionals that name it", joined_toggle_source, 0},
+    {"the same, conditionals that name another that begins alike", other_toggle_source, 0},
+    {"elements whose characters have one hash", alike_elements_source, 1},
+    {"the same, the first joined over one half", joined_element_source, 0},
+    {"names with one hash, weights that name the first", deepest_source, 1},
+    {"names on the way to the one that all weights name", way_source, 1},
+    {"a symbol joined over one half, weights that name it", joined_symbol_source, 0},
+    {"a character joined over one half, weights that name it", joined_character_source, 0},
+    {"characters in as few chains as they allow", chained_source, 1},
+};
+
+static void hostile_row(const struct hostile *row, size_t size)
 {
+    struct source source = row->make(size, HOSTILE), twin = row->make(size, HONEST);
     double ours = time_of(product_compile, &source), honest = time_of(product_compile, &twin);
-    double peer = has_peer ? localedef_net(&source) : 0;
-    printf("| %s |", what);
+    double peer = row->has_peer ? localedef_net(&source) : 0;
+    printf("| %s |", row->what);
     whole_cell((double)source.text.count);
     time_cells(ours, &source);
     time_cells(honest, &twin);
@@ -642,31 +662,17 @@ static void hostile_charmaps(size_t size)
 
 static void hostile_table(void)
 {
+    static const struct hostile small_chains = {"the same, in 16 KiB", chained_source, 1};
     size_t size = MOST_SOURCE / part();
-    int elements = 8000 / (int)part(), names = 9000 / (int)part();
     struct source small = small_source();
     write_source(folder, &small);
     printf("## Hostile sources\n\nOne source, in milliseconds, beside its honest twin: as many bytes in the same lines, without what makes "
-           "the source slow. All but one are up to 1 MiB divided by %zu, with %d elements or %d names. localedef without its start; it "
-           "refuses lines that are nothing but a join, or never ends on them.\n\n", part(), elements, names);
+           "the source slow. Sources are of up to 1 MiB, 8,000 elements and 9,000 names, divided by %zu. localedef without its start; it "
+           "refuses lines that are nothing but a join, or never ends on them.\n\n", part());
     printf("| source | bytes | ours | ns a byte | honest twin | ns a byte | ours / twin | localedef |\n|---|--:|--:|--:|--:|--:|--:|--:|\n");
-    hostile_row("a toggle joined over one half, conditionals that name it", joined_toggle_source(size, 0, HOSTILE),
-                joined_toggle_source(size, 0, HONEST), 0);
-    hostile_row("the same, conditionals that name another that begins alike", joined_toggle_source(size, 1, HOSTILE),
-                joined_toggle_source(size, 1, HONEST), 0);
-    hostile_row("elements whose characters have one hash", alike_elements_source(elements, 0, HOSTILE),
-                alike_elements_source(elements, 0, HONEST), 1);
-    hostile_row("the same, the first joined over one half", alike_elements_source(elements, size / 2, HOSTILE),
-                alike_elements_source(elements, size / 2, HONEST), 0);
-    hostile_row("names with one hash, weights that name the first", deepest_source(names, size, HOSTILE),
-                deepest_source(names, size, HONEST), 1);
-    hostile_row("names on the way to the one that all weights name", way_source(size, HOSTILE), way_source(size, HONEST), 1);
-    hostile_row("a symbol joined over one half, weights that name it", joined_symbol_source(size, HOSTILE),
-                joined_symbol_source(size, HONEST), 0);
-    hostile_row("a character joined over one half, weights that name it", joined_character_source(size, HOSTILE),
-                joined_character_source(size, HONEST), 0);
-    hostile_row("characters in as few chains as they allow", chained_source(size, HOSTILE), chained_source(size, HONEST), 1);
-    hostile_row("the same, in 16 KiB", chained_source(16384, HOSTILE), chained_source(16384, HONEST), 1);
+    for (size_t r = 0; r < sizeof hostile_sources / sizeof *hostile_sources; r++)
+        hostile_row(&hostile_sources[r], size);
+    hostile_row(&small_chains, 16384);
     hostile_charmaps(size);
 }
 
