@@ -35,18 +35,46 @@ enum { MOST_LINES = 32000, MOST_SOURCE = 1048576 };
 struct source table_source(const char *name, int lines, enum order order, int backward);
 int table_lines(struct line *lines, int count, enum order order);
 
-/* The smallest source, and orders that are hostile to a compiler. */
+/* The smallest source, and orders with much of one thing. */
 struct source small_source(void);
 struct source elements_source(int count);
 struct source comments_source(void);
 struct source joined_source(const char *piece);
 struct source conditionals_source(int depth);
 struct source names_source(int count);
-struct source colliding_source(int count);
 struct source joined_name_source(int count);
+
+/* How a source begins and ends, and parts of sources. */
+extern const char source_head[], source_tail[];
+void put(struct text *text, const char *form, ...);
+void put_comments(struct text *text, size_t size);
+void declared_and_ordered(struct text *text, int count, void (*put_symbol)(struct text *, int));
 
 /* Writes NAME.src, with the categories that localedef asks for, and NAME.charmap, with ASCII and the characters that the source names. */
 void write_source(const char *folder, const struct source *source);
+
+/* ---- hostile.c: sources that are meant to be slow ---- */
+
+/* A slow source, or its honest twin. */
+enum kind { HOSTILE, HONEST };
+
+/* Names with one hash. */
+struct source colliding_source(int count);
+
+/* Sources of up to so many bytes. */
+struct source joined_toggle_source(size_t size, enum kind kind);
+struct source other_toggle_source(size_t size, enum kind kind);
+struct source alike_elements_source(size_t size, enum kind kind);
+struct source joined_element_source(size_t size, enum kind kind);
+struct source deepest_source(size_t size, enum kind kind);
+struct source way_source(size_t size, enum kind kind);
+struct source joined_symbol_source(size_t size, enum kind kind);
+struct source joined_character_source(size_t size, enum kind kind);
+struct source chained_source(size_t size, enum kind kind);
+
+/* Charmaps. */
+struct source entries_map(int count, size_t comment, enum kind kind);
+struct source comments_map(size_t size);
 
 /* ---- strings.c: pairs of strings, pages ---- */
 

@@ -65,11 +65,12 @@ static double turn(const struct timing *timing, int pairs)
     return processor_time() - from;
 }
 
-/* Times some calls on the same pairs, in turns. A call that is NULL is left out, with a best time of 0. */
+/* Times some calls on the same pairs, in turns: a slow one twice, one of more than ten seconds once. A call that is NULL is left out, with a
+ * best time of 0. */
 static void measure(struct timing *timings, int count, int pairs)
 {
     enum { TURNS = 20 };
-    const double least = 1.5e6, slow = 5e7;
+    const double least = 1.5e6, slow = 5e7, endless = 1e10;
     double first[8] = {0};
     for (int s = 0; s < count; s++) {
         if (timings[s].call == NULL)
@@ -85,7 +86,7 @@ static void measure(struct timing *timings, int count, int pairs)
     }
     for (int t = 0; t < TURNS; t++)
         for (int s = 0; s < count; s++) {
-            if (timings[s].call == NULL || (t > 0 && first[s] > slow))
+            if (timings[s].call == NULL || (t > 0 && first[s] > slow) || first[s] > endless)
                 continue;
             double took = turn(&timings[s], pairs);
             if (took < timings[s].best)
@@ -239,6 +240,16 @@ static long product_compile(int k)
     if (answer[0] != 0)
         fail("refused", compiled->name);
     return (long)answer[2];
+}
+
+static long product_charmap(int k)
+{
+    uint64_t answer[2];
+    (void)k;
+    zeharmeku_charmap((const uint8_t *)compiled->text.bytes, compiled->text.count, area, sizeof area / sizeof *area, answer, 2);
+    if (answer[0] != 0)
+        fail("refused", compiled->name);
+    return (long)area[0];
 }
 
 #ifdef WITH_ICU
@@ -569,6 +580,102 @@ static void compile_table(void)
     compile_row("100 lines that name a symbol joined over 512 KiB", &source, 0);
 }
 
+/* How many times smaller than the largest the hostile sources are, by the variable PART. */
+static size_t part(void)
+{
+    const char *word = getenv("PART");
+    long number = word == NULL ? 1 : strtol(word, NULL, 10);
+    if (number < 1 || number > 64)
+        fail("PART is 1 to 64, not", word);
+    return (size_t)number;
+}
+
+static double time_of(call call, const struct source *source)
+{
+    compiled = source;
+    struct timing timing = {.call = call};
+    measure(&timing, 1, 1);
+    return timing.best;
+}
+
+/* Milliseconds for a source, and nanoseconds for a byte of it. */
+static void time_cells(double took, const struct source *source)
+{
+    cell(took / 1e6);
+    cell(took / (double)source->text.count);
+}
+
+/* A row of hostile sources, and whether localedef takes them. */
+struct hostile {
+    const char *what;
+    struct source (*make)(size_t size, enum kind kind);
+    int has_peer;
+};
+
+static const struct hostile hostile_sources[] = {
+    {"a toggle joined over one half, conditionals that name it", joined_toggle_source, 0},
+    {"the same, conditionals that name another that begins alike", other_toggle_source, 0},
+    {"elements whose characters have one hash", alike_elements_source, 1},
+    {"the same, the first joined over one half", joined_element_source, 0},
+    {"names with one hash, weights that name the first", deepest_source, 1},
+    {"names on the way to the one that all weights name", way_source, 1},
+    {"a symbol joined over one half, weights that name it", joined_symbol_source, 0},
+    {"a character joined over one half, weights that name it", joined_character_source, 0},
+    {"characters in as few chains as they allow", chained_source, 1},
+};
+
+static void hostile_row(const struct hostile *row, size_t size)
+{
+    struct source source = row->make(size, HOSTILE), twin = row->make(size, HONEST);
+    double ours = time_of(product_compile, &source), honest = time_of(product_compile, &twin);
+    double peer = row->has_peer ? localedef_net(&source) : 0;
+    printf("| %s |", row->what);
+    whole_cell((double)source.text.count);
+    time_cells(ours, &source);
+    time_cells(honest, &twin);
+    cell(ours / honest);
+    cell(peer / 1e6);
+    printf("\n");
+    fflush(stdout);
+    free(source.text.bytes);
+    free(twin.text.bytes);
+}
+
+static void charmap_row(const char *what, struct source source)
+{
+    printf("| %s |", what);
+    whole_cell((double)source.text.count);
+    time_cells(time_of(product_charmap, &source), &source);
+    printf("\n");
+    fflush(stdout);
+    free(source.text.bytes);
+}
+
+static void hostile_charmaps(size_t size)
+{
+    printf("\n| charmap | bytes | ours | ns a byte |\n|---|--:|--:|--:|\n");
+    charmap_row("256 entries", entries_map(256, 40, HONEST));
+    charmap_row("comments", comments_map(size));
+    charmap_row("255 entries with long comments", entries_map(255, size / 256, HONEST));
+    charmap_row("255 entries with long comments that end in an escape", entries_map(255, size / 256, HOSTILE));
+}
+
+static void hostile_table(void)
+{
+    static const struct hostile small_chains = {"the same, in 16 KiB", chained_source, 1};
+    size_t size = MOST_SOURCE / part();
+    struct source small = small_source();
+    write_source(folder, &small);
+    printf("## Hostile sources\n\nOne source, in milliseconds, beside its honest twin: as many bytes in the same lines, without what makes "
+           "the source slow. Sources are of up to 1 MiB, 8,000 elements and 9,000 names, divided by %zu. localedef without its start; it "
+           "refuses lines that are nothing but a join, or never ends on them.\n\n", part());
+    printf("| source | bytes | ours | ns a byte | honest twin | ns a byte | ours / twin | localedef |\n|---|--:|--:|--:|--:|--:|--:|--:|\n");
+    for (size_t r = 0; r < sizeof hostile_sources / sizeof *hostile_sources; r++)
+        hostile_row(&hostile_sources[r], size);
+    hostile_row(&small_chains, 16384);
+    hostile_charmaps(size);
+}
+
 /* Both systems put each topic under the same heading, or the row would say nothing. */
 static void same_headings(call theirs)
 {
@@ -626,7 +733,8 @@ static const struct {
     const char *name;
     void (*print)(void);
 } tables[] = {{"check", check_table}, {"compare", compare_table}, {"growth", growth_table},
-              {"key", key_table},     {"compile", compile_table}, {"directory", directory_table}};
+              {"key", key_table},     {"compile", compile_table}, {"hostile", hostile_table},
+              {"directory", directory_table}};
 enum { TABLES = sizeof tables / sizeof *tables };
 
 /* Prints the tables that are named, all if none is. */

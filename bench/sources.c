@@ -1,4 +1,4 @@
-/* The locale sources that are measured: tables of many lines, and orders that are hostile to a compiler. */
+/* The locale sources that are measured: tables of many lines, and orders with much of one thing. */
 
 #define _POSIX_C_SOURCE 200809L
 #include <stdarg.h>
@@ -18,7 +18,7 @@ void *reserve(size_t size)
     return memory;
 }
 
-static void put(struct text *text, const char *form, ...)
+void put(struct text *text, const char *form, ...)
 {
     char piece[256];
     va_list words;
@@ -44,8 +44,10 @@ static void put_utf8(struct text *text, uint32_t c)
         put(text, "%c", c);
     else if (c < 0x800)
         put(text, "%c%c", 0xC0 | c >> 6, 0x80 | (c & 0x3F));
-    else
+    else if (c < 0x10000)
         put(text, "%c%c%c", 0xE0 | c >> 12, 0x80 | (c >> 6 & 0x3F), 0x80 | (c & 0x3F));
+    else
+        put(text, "%c%c%c%c", 0xF0 | c >> 18, 0x80 | (c >> 12 & 0x3F), 0x80 | (c >> 6 & 0x3F), 0x80 | (c & 0x3F));
 }
 
 /* ---- Tables ---- */
@@ -178,17 +180,17 @@ struct source table_source(const char *name, int count, enum order order, int ba
     return (struct source){name, table_text(lines, many, backward), table_rules(lines, many, backward)};
 }
 
-/* ---- Hostile orders ---- */
+/* ---- Other orders ---- */
 
-static const char head[] = "comment_char %%\nescape_char /\nLC_COLLATE\n";
-static const char tail[] = "order_end\nEND LC_COLLATE\n";
+const char source_head[] = "comment_char %%\nescape_char /\nLC_COLLATE\n";
+const char source_tail[] = "order_end\nEND LC_COLLATE\n";
 
 struct source small_source(void)
 {
     struct source source = {.name = "small"};
-    put(&source.text, head);
+    put(&source.text, source_head);
     put(&source.text, "order_start forward\n<U0061>\n");
-    put(&source.text, tail);
+    put(&source.text, source_tail);
     return source;
 }
 
@@ -200,27 +202,33 @@ struct source elements_source(int count)
     for (int k = 0; k < count; k++)
         seconds[k] = 0x4E00 + (uint32_t)k;
     set_order(seconds, count, SHUFFLED);
-    put(&source.text, head);
+    put(&source.text, source_head);
     for (int k = 0; k < count; k++)
         put(&source.text, "collating-element <e%d> from \"<U4E00><U%04X>\"\n", k, seconds[k]);
     put(&source.text, "order_start forward\n<U4E00>\n");
     for (int k = 0; k < count; k++)
         put(&source.text, "<e%d>\n", k);
-    put(&source.text, tail);
+    put(&source.text, source_tail);
     free(seconds);
     return source;
+}
+
+/* Comments up to so many bytes. */
+void put_comments(struct text *text, size_t size)
+{
+    while (text->count < size - 128)
+        put(text, "%% a comment of the kind that says what the lines below it are for\n");
 }
 
 /* Comments up to the largest source. */
 struct source comments_source(void)
 {
     struct source source = {.name = "comments"};
-    put(&source.text, head);
+    put(&source.text, source_head);
     put(&source.text, "order_start forward\n");
-    while (source.text.count < MOST_SOURCE - 128)
-        put(&source.text, "%% a comment of the kind that says what the lines below it are for\n");
+    put_comments(&source.text, MOST_SOURCE);
     put(&source.text, "<U0061>\n");
-    put(&source.text, tail);
+    put(&source.text, source_tail);
     return source;
 }
 
@@ -228,12 +236,12 @@ struct source comments_source(void)
 struct source joined_source(const char *piece)
 {
     struct source source = {.name = "joined"};
-    put(&source.text, head);
+    put(&source.text, source_head);
     put(&source.text, "order_start forward;forward\n<U0061> ");
     while (source.text.count < MOST_SOURCE - 64)
         put(&source.text, "%s", piece);
     put(&source.text, "<U0061>;<U0061>\n");
-    put(&source.text, tail);
+    put(&source.text, source_tail);
     return source;
 }
 
@@ -241,7 +249,7 @@ struct source joined_source(const char *piece)
 struct source conditionals_source(int depth)
 {
     struct source source = {.name = "conditionals"};
-    put(&source.text, head);
+    put(&source.text, source_head);
     put(&source.text, "order_start forward\n");
     for (uint32_t c = 0x3400; c < 0x3400 + MOST_LINES && source.text.count < MOST_SOURCE - 300; c++) {
         for (int k = 0; k < depth; k++)
@@ -250,13 +258,14 @@ struct source conditionals_source(int depth)
         for (int k = 0; k < depth; k++)
             put(&source.text, "endif\n");
     }
-    put(&source.text, tail);
+    put(&source.text, source_tail);
     return source;
 }
 
-static void declared_and_ordered(struct text *text, int count, void (*put_symbol)(struct text *, int))
+/* Symbols, and an order line for each. */
+void declared_and_ordered(struct text *text, int count, void (*put_symbol)(struct text *, int))
 {
-    put(text, head);
+    put(text, source_head);
     for (int k = 0; k < count; k++) {
         put(text, "collating-symbol <");
         put_symbol(text, k);
@@ -268,7 +277,7 @@ static void declared_and_ordered(struct text *text, int count, void (*put_symbol
         put_symbol(text, k);
         put(text, ">\n");
     }
-    put(text, tail);
+    put(text, source_tail);
 }
 
 /* 32 bytes, of which the last four count. */
@@ -284,70 +293,18 @@ struct source names_source(int count)
     return source;
 }
 
-/* The number of a name by which the compiler keeps it (crates/names), from the number of what stands before. */
-static uint32_t hash_on(uint32_t before, char byte)
-{
-    return (before * 10368889u + (unsigned char)byte) & 0xFFFFFF;
-}
-
-/* Four pieces of four bytes from A to z that have one number: names that are made of such pieces, as many in each, have one too. */
-static char alike[4][5];
-
-static uint32_t nth_piece(char *piece, int k)
-{
-    uint32_t hash = 0;
-    for (int i = 0; i < 4; i++, k /= 58) {
-        piece[i] = (char)('A' + k % 58);
-        hash = hash_on(hash, piece[i]);
-    }
-    return hash;
-}
-
-static void find_alike(void)
-{
-    enum { PIECES = 58 * 58 * 58 * 58 };
-    unsigned char *seen = reserve(1 << 24);
-    char piece[5] = "";
-    uint32_t hash = 0;
-    memset(seen, 0, 1 << 24);
-    for (int k = 0; k < PIECES; k++) {
-        hash = nth_piece(piece, k);
-        if (++seen[hash] == 4)
-            break;
-    }
-    for (int k = 0, many = 0; k < PIECES && many < 4; k++)
-        if (nth_piece(piece, k) == hash)
-            memcpy(alike[many++], piece, 5);
-    free(seen);
-}
-
-/* 32 bytes, made of eight such pieces. */
-static void put_colliding(struct text *text, int k)
-{
-    for (int i = 0; i < 8; i++, k /= 4)
-        put(text, "%s", alike[k % 4]);
-}
-
-struct source colliding_source(int count)
-{
-    struct source source = {.name = "colliding"};
-    find_alike();
-    declared_and_ordered(&source.text, count, put_colliding);
-    return source;
-}
-
 /* A symbol whose name is joined from empty lines, over half of the largest source, and lines that name it. */
 struct source joined_name_source(int count)
 {
     struct source source = {.name = "joined_name"};
-    put(&source.text, head);
+    put(&source.text, source_head);
     put(&source.text, "collating-symbol <");
     while (source.text.count < MOST_SOURCE / 2)
         put(&source.text, "/\n");
     put(&source.text, "X>\norder_start forward\n<X>\n");
     for (int k = 0; k < count; k++)
         put(&source.text, "<U%04X> <X>\n", 0x4E00 + k);
-    put(&source.text, tail);
+    put(&source.text, source_tail);
     return source;
 }
 
@@ -372,18 +329,18 @@ static FILE *file_of(const char *folder, const char *name, const char *kind)
 
 static void write_charmap(FILE *file, const struct text *text)
 {
-    static char used[0x10000];
+    static char used[0x110000];
     memset(used, 0, sizeof used);
     memset(used, 1, 0x80);
     for (const char *at = text->bytes; (at = strstr(at, "<U")) != NULL; at += 2)
-        used[strtoul(at + 2, NULL, 16) & 0xFFFF] = 1;
+        used[strtoul(at + 2, NULL, 16) % sizeof used] = 1;
     fputs("<code_set_name> UTF-8\n<comment_char> %\n<escape_char> /\n<mb_cur_min> 1\n<mb_cur_max> 6\nCHARMAP\n", file);
-    for (uint32_t c = 0; c < 0x10000; c++) {
+    for (uint32_t c = 0; c < sizeof used; c++) {
         if (!used[c])
             continue;
         struct text bytes = {0};
         put_utf8(&bytes, c);
-        fprintf(file, "<U%04X> ", c);
+        fprintf(file, c < 0x10000 ? "<U%04X> " : "<U%08X> ", c);
         for (size_t k = 0; k < bytes.count; k++)
             fprintf(file, "/x%02x", (unsigned char)bytes.bytes[k]);
         fputs(" x\n", file);

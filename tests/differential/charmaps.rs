@@ -59,7 +59,7 @@ fn put_strange_line(lines: &mut Vec<Vec<u8>>, signs: Signs, random: &mut Random)
 fn planned_lines(careless: bool, random: &mut Random) -> (Vec<Vec<u8>>, Signs) {
     let mut lines: Vec<Vec<u8>> = Vec::new();
     let signs = header(&mut lines, random);
-    lines.push(dressed(b"CHARMAP", signs, true, random));
+    lines.push(dressed(b"CHARMAP", signs, FEW_JOINS, random));
     let mut free: Vec<bool> = vec![true; 256];
     for _ in 0..random.below(9) {
         if random.chance(10) {
@@ -70,7 +70,7 @@ fn planned_lines(careless: bool, random: &mut Random) -> (Vec<Vec<u8>>, Signs) {
             lines.push(line);
         }
     }
-    lines.push(dressed(b"END CHARMAP", signs, true, random));
+    lines.push(dressed(b"END CHARMAP", signs, FEW_JOINS, random));
     while random.chance(20) {
         lines.push(random.pick(STRANGE_ENTRIES).to_vec());
     }
@@ -84,20 +84,26 @@ fn header(lines: &mut Vec<Vec<u8>>, random: &mut Random) -> Signs {
         let c = random.pick(GOOD_SIGNS);
         match random.below(4) {
             0 if !comment_stood && c != signs.escape => {
-                let name = angled(b"comment_char", signs, random);
+                let name = angled(b"comment_char", signs, 1, random);
                 let line = [&name[..], blanks(random), &[c]].concat();
-                lines.push(dressed(&line, signs, false, random));
+                lines.push(dressed(&line, signs, NO_JOINS, random));
                 signs.comment = c;
                 comment_stood = true;
             }
             1 if !escape_stood && c != signs.comment => {
-                let name = angled(b"escape_char", signs, random);
+                let name = angled(b"escape_char", signs, 1, random);
                 let line = [&name[..], blanks(random), &[c]].concat();
-                lines.push(dressed(&line, signs, false, random));
+                lines.push(dressed(&line, signs, NO_JOINS, random));
                 signs.escape = c;
                 escape_stood = true;
             }
-            2 => lines.push(b"<code_set_name> \"\xFF".to_vec()),
+            2 => lines.push(
+                [
+                    &b"<code_set_name> \"\xFF"[..],
+                    &vec![b'x'; random.below(70)],
+                ]
+                .concat(),
+            ),
             _ => lines.push(idle_line(signs, random)),
         }
     }
@@ -129,11 +135,11 @@ fn entry(free: &mut [bool], errs: bool, signs: Signs, random: &mut Random) -> Op
     }
     free[bytes].fill(false);
     let name = character_name(first, random);
-    let mut line = angled(&name, signs, random);
+    let mut line = angled(&name, signs, 2, random);
     if count > 1 || random.chance(5) {
         line.extend(b"..");
         let name = character_name(first + count as u32 - 1, random);
-        line.extend(angled(&name, signs, random));
+        line.extend(angled(&name, signs, 2, random));
     }
     line.extend(blanks(random));
     line.push(signs.escape);
@@ -146,6 +152,7 @@ fn entry(free: &mut [bool], errs: bool, signs: Signs, random: &mut Random) -> Op
     line.extend(digits.as_bytes());
     if random.chance(20) {
         line.extend(blanks(random));
+        line.extend(stretch(random));
         line.extend(b"LATIN \xFF".iter());
         line.push(signs.escape);
     }

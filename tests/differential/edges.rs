@@ -1,10 +1,12 @@
 // Edges: requests at the limits of 01 and 02, asked at the end of every run: they are long, and where a
 // random request shows a difference too, it is a shorter one.
 
+use crate::collisions::Pieces;
 use crate::layout::{parts, MASK};
 use crate::request::{Field, Request};
 use crate::requests::SHARP;
 use crate::tables::{full_table, one_bucket_table, rising_table, small_table};
+use crate::text::GOOD_SIGNS;
 
 const MOST_BYTES: usize = 1_048_576;
 
@@ -79,17 +81,12 @@ pub fn widest_source() -> Vec<u8> {
 }
 
 /// Requests that need no table.
-pub fn edges() -> Vec<Request> {
+pub fn edges(pieces: &Pieces) -> Vec<Request> {
     let mut list = Vec::new();
     for length in [MOST_BYTES, MOST_BYTES + 1] {
         list.push(compile(filled(SMALL, length), 100));
-        list.push(Request::new(
-            "charmap",
-            vec![
-                Field::Bytes(filled("CHARMAP\n<U0041> \\x41\nEND CHARMAP\n", length)),
-                Field::Number(512),
-            ],
-        ));
+        let text = "CHARMAP\n<U0041> \\x41\nEND CHARMAP\n";
+        list.push(charmap(filled(text, length)));
     }
     for (count, undefined) in [(32_767, false), (32_767, true), (32_768, false)] {
         list.push(compile(many_lines(count, undefined), 300_000));
@@ -143,10 +140,304 @@ pub fn edges() -> Vec<Request> {
     for items in [32_768, 32_769] {
         list.push(check(full_table(items)));
     }
+    list.extend(beginnings());
+    list.extend(places());
+    list.extend(one_number(pieces));
+    list.extend(spellings());
+    list.extend(toggles());
+    list.extend(long_joins());
+    list.extend(comments());
+    list.extend(special_bytes());
+    list.extend(signs());
     list.extend(counts());
     list.extend(each_damaged());
     list.extend(one_bucket());
     list.extend(pages());
+    list
+}
+
+/// A source with these lines before its order and in it.
+fn collate(before: &str, order: &str) -> Request {
+    let text = format!(
+        "LC_COLLATE\n{}order_start\n{}order_end\nEND LC_COLLATE\n",
+        before, order
+    );
+    compile(text.into_bytes(), 100_000)
+}
+
+/// Symbols with these names, an order line for each, and characters whose weights name them.
+fn named(declared: &[String], used: &[String]) -> Request {
+    let symbols = declared
+        .iter()
+        .map(|name| format!("collating-symbol <{}>\n", name));
+    let lines = declared.iter().map(|name| format!("<{}>\n", name));
+    let weighted = (0..)
+        .zip(used)
+        .map(|(k, name)| format!("<U{:04X}> <{}>\n", 0x4E00 + k, name));
+    let order: String = lines.chain(weighted).collect();
+    collate(&symbols.collect::<String>(), &order)
+}
+
+/// Names of each length that differ from a longer one, or in their last byte alone.
+fn beginnings() -> Vec<Request> {
+    let name = |length: usize, last: char| repeated("n", length - 1) + &last.to_string();
+    let all: Vec<String> = (1..=32)
+        .flat_map(|length| ['n', 'o', '.', 'N'].map(|last| name(length, last)))
+        .collect();
+    let mut list = vec![named(&all, &all)];
+    for length in 1..=33 {
+        let declared = [name(length, 'n'), name(length, 'o')];
+        for other in [
+            declared[1].clone(),
+            name(length, 'm'),
+            name(length + 1, 'n'),
+        ] {
+            list.push(named(&declared, &[other]));
+        }
+    }
+    list
+}
+
+/// Declarations close to each other with names of each length, from each place modulo eight on.
+fn places() -> Vec<Request> {
+    let mut list = Vec::new();
+    for length in 1..=32 {
+        for more in 0..8 {
+            let [a, b, c, d] = ["a", "b", "c", "d"].map(|byte| repeated(byte, length));
+            let before = format!(
+                "#{}\ncollating-symbol <{a}>\ncollating-element <{b}> from \"<U0041><U0042>\"\n\
+                 collating-element <{c}> from \"<U0041><U0042><U0043><U00000044>\"\n\
+                 collating-symbol <{d}>\n",
+                repeated("x", more)
+            );
+            let names = format!("\"<{a}><{b}><{c}><{d}><U0041><U0042>\"");
+            let order = format!("<{a}>\n<{d}>\n<U0041>\n<U0042>\n<{b}> {names}\n<{c}>\n");
+            list.push(collate(&before, &order));
+        }
+    }
+    list
+}
+
+/// Names with one number: all of them declared, one not, one twice.
+fn one_number(pieces: &Pieces) -> Vec<Request> {
+    let name = |k: usize| {
+        let begin = repeated("x", k % 24) + &k.to_string();
+        String::from_utf8(pieces.ended(begin.as_bytes(), 0x4E01)).expect("letters are text")
+    };
+    let names: Vec<String> = (0..300).map(name).collect();
+    let twice = [&names[..], &names[150..151]].concat();
+    vec![
+        named(&names, &names),
+        named(&names[1..], &names[..1]),
+        named(&names[..299], &names[299..]),
+        named(&twice, &[]),
+    ]
+}
+
+/// A name with a join, many joins or an escape before each of its bytes in turn, and before all.
+fn spelled(name: &str) -> Vec<String> {
+    let many = repeated("\\\n", 40);
+    let mut list = Vec::new();
+    for put in ["\\\n", &many, "\\"] {
+        // An escape at the end would take what stands behind the name.
+        let end = name.len() - usize::from(put == "\\");
+        for at in 0..=end {
+            list.push([&name[..at], put, &name[at..]].concat());
+        }
+        list.push(
+            name.chars()
+                .map(|byte| format!("{}{}", put, byte))
+                .collect(),
+        );
+    }
+    list
+}
+
+/// Names and characters that are declared or listed in one spelling and named in another.
+fn spellings() -> Vec<Request> {
+    let mut list = Vec::new();
+    for plain in ["LOW", "nnnnnnnnnnnnnnnnnnnnnnnnnnnnnnnn"] {
+        let ways = spelled(plain);
+        list.push(named(&[plain.to_string()], &ways));
+        list.extend(
+            ways.iter()
+                .map(|way| named(&[way.clone()], &[plain.to_string()])),
+        );
+        let twice = |way: &String| named(&[plain.to_string(), way.clone()], &[]);
+        list.extend(ways.iter().map(twice));
+    }
+    for plain in ["U0041", "U00000041"] {
+        for way in spelled(plain) {
+            let weight = format!("<{}>\n<U0042> <U0041>\n<U0043> <U00000041>\n", way);
+            list.push(collate("", &weight));
+            list.push(collate("", &format!("<{}>\n<U0041>\n", way)));
+            let element = format!("collating-element <e> from \"<{}><U0042>\"\n", way);
+            let same = "collating-element <f> from \"<U0041><U0042>\"\n";
+            list.push(collate(&element, "<U0041>\n<e>\n"));
+            list.push(collate(&[&element, same].concat(), ""));
+        }
+    }
+    list
+}
+
+/// A line for each of these toggles, a character where it is defined and another where it is not.
+fn asked_toggles(defined: &str, toggles: &[String]) -> Request {
+    let chain = |(k, toggle): (usize, &String)| {
+        let (code, other) = (0x4E00 + k, 0x5E00 + k);
+        format!(
+            "ifdef {}\n<U{:04X}>\nelse\n<U{:04X}>\nendif\n",
+            toggle, code, other
+        )
+    };
+    collate(
+        defined,
+        &toggles.iter().enumerate().map(chain).collect::<String>(),
+    )
+}
+
+/// Toggles of each length that begin alike; 16 and 17 of them; one that is joined at each place.
+fn toggles() -> Vec<Request> {
+    let toggle = |length: usize, last: char| repeated("T", length - 1) + &last.to_string();
+    let mut list = Vec::new();
+    for length in 1..=33 {
+        let defined = format!("define {}\n", toggle(length, 'T'));
+        for last in ['T', 'U', 'D', '_'] {
+            list.push(asked_toggles(&defined, &[toggle(length, last)]));
+        }
+        list.push(asked_toggles(&defined, &[toggle(length + 1, 'T')]));
+    }
+    for most in [16, 17] {
+        for length in [1, 8, 9, 16, 31] {
+            let all: Vec<String> = (0..most)
+                .map(|k| format!("{}{}", repeated("T", length), (b'A' + k) as char))
+                .collect();
+            let defined: String = all
+                .iter()
+                .step_by(3)
+                .map(|toggle| format!("define {}\n", toggle))
+                .collect();
+            list.push(asked_toggles(&defined, &all));
+        }
+    }
+    for way in spelled("TOGGLE_1") {
+        let other = "TOGGLE_2".to_string();
+        let plain = ["TOGGLE_1".to_string(), other, way.clone()];
+        list.push(asked_toggles(&format!("define {}\n", way), &plain));
+        list.push(asked_toggles("define TOGGLE_1\n", &plain));
+        list.push(asked_toggles(
+            &format!("define TOGGLE_1\nundef {}\n", way),
+            &plain,
+        ));
+    }
+    list
+}
+
+/// A symbol, a character, an element and a toggle that are joined from many lines.
+fn long_joins() -> Vec<Request> {
+    let joins = repeated("\\\n", 10_000);
+    let symbol = format!("collating-symbol <X{}Y>\n", joins);
+    let element = format!("collating-element <e> from \"<U0061>{}<U0062>\"\n", joins);
+    let toggle = format!("define T{}X\n", joins);
+    let asked = ["TX", "T", "TY", "TX"].map(str::to_string);
+    vec![
+        collate(&symbol, &format!("<XY>\n{}", weights("XY"))),
+        collate(&symbol, &format!("<X{}Y>\n{}", joins, weights("XZ"))),
+        collate("", &format!("<U00{}41>\n{}", joins, weights("U0041"))),
+        collate("", &format!("<U0041>\n<U00{}41>\n", joins)),
+        collate(&element, &format!("<U0061>\n<e>\n{}", weights("e"))),
+        collate(&[&element[..], &element.replace("<e>", "<f>")].concat(), ""),
+        asked_toggles(&toggle, &asked),
+        asked_toggles(&format!("{}undef TX\ndefine TY\n", toggle), &asked),
+    ]
+}
+
+/// Order lines whose weights name one name.
+fn weights(name: &str) -> String {
+    (0..20)
+        .map(|k| {
+            format!(
+                "<U{:04X}> \"{}\"\n",
+                0x4E00 + k,
+                repeated(&format!("<{}>", name), 8)
+            )
+        })
+        .collect()
+}
+
+fn charmap(source: Vec<u8>) -> Request {
+    Request::new("charmap", vec![Field::Bytes(source), Field::Number(512)])
+}
+
+/// Comments of up to a hundred bytes, at the end of a source and before a line that is refused, and
+/// behind the entries of a charmap, where they may end in an escape.
+fn comments() -> Vec<Request> {
+    let mut list = Vec::new();
+    for length in 0..=100 {
+        let comment = format!("#{}", repeated("x", length));
+        for end in ["", "\n", "\\", "\\\n", "\n\n", "\nx"] {
+            list.push(compile(
+                format!("{}{}{}", SMALL, comment, end).into_bytes(),
+                100,
+            ));
+        }
+        list.push(collate(&format!("{}\nx\n", comment), ""));
+        list.push(collate(
+            "",
+            &format!("<U0061> {}\\\n{}\n<U0062> x\n", comment, comment),
+        ));
+        for end in ["", "\\"] {
+            let text = repeated("x", length);
+            let entries = format!(
+                "<U0041> \\x41 {}{}\n<U0042> \\x42 {}{}\n",
+                text, end, text, end
+            );
+            list.push(charmap(
+                format!("CHARMAP\n{}END CHARMAP\n", entries).into_bytes(),
+            ));
+            list.push(charmap(format!("CHARMAP\n{}<U0043>", entries).into_bytes()));
+        }
+    }
+    list
+}
+
+/// Each byte that means something, at each place among ordinary ones: in a line that is read, in an
+/// unused branch, in another category, in a comment, in a name.
+fn special_bytes() -> Vec<Request> {
+    let mut list = Vec::new();
+    for special in *b"\"<>\\#;,.! \t\n\r\x01\x1F\x7F\x80\xFF" {
+        for (count, before, behind) in [
+            (40, "LC_COLLATE\n", "\nx\n"),
+            (40, "LC_COLLATE\nifdef T\n", "\n\nelse\nx\nendif\n"),
+            (40, "LC_X\n", "\n\nEND LC_X\nx\n"),
+            (40, "#", "\nx\n"),
+            (31, "LC_COLLATE\ncollating-symbol <", ">\nx\n"),
+        ] {
+            for at in 0..=count {
+                let mut line = vec![b'x'; count];
+                line.insert(at, special);
+                let text = [before.as_bytes(), &line, behind.as_bytes()].concat();
+                list.push(compile(text, 100));
+            }
+        }
+    }
+    list
+}
+
+/// Each two bytes that may be signs, with names and comments that hold them.
+fn signs() -> Vec<Request> {
+    let mut list = Vec::new();
+    for &comment in GOOD_SIGNS {
+        for &escape in GOOD_SIGNS {
+            let (c, e) = (comment as char, escape as char);
+            let order =
+                format!("<a{c}{e}{e}b{e}>> {c} x{e}\n<U{e}0061> <a{c}{e}{e}b{e}\n{e}>>{e}\n {c}\n");
+            let text = format!(
+                "comment_char {c}\nescape_char {e}\nLC_COLLATE\n{c}{e}\ncollating-symbol <a{c}{e}{e}b{e}>>\n\
+                 order_start\n{order}order_end\nEND LC_COLLATE\n"
+            );
+            list.push(compile(text.into_bytes(), 100));
+        }
+    }
     list
 }
 
@@ -305,8 +596,7 @@ fn pages() -> Vec<Request> {
 
 /// A charmap that gives every byte its own number as code.
 pub fn fullest_charmap() -> Request {
-    let source = b"CHARMAP\n<U0000>..<U00FF> \\x00\nEND CHARMAP\n".to_vec();
-    Request::new("charmap", vec![Field::Bytes(source), Field::Number(512)])
+    charmap(b"CHARMAP\n<U0000>..<U00FF> \\x00\nEND CHARMAP\n".to_vec())
 }
 
 /// Requests on the area of the fullest charmap.

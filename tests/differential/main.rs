@@ -7,6 +7,7 @@
 // the request is shrunk and shown, and the exit status is 1.
 
 mod charmaps;
+mod collisions;
 mod crowds;
 mod edges;
 // How the reference stores a meaning, to make tables that no source gives, and the first weight

@@ -1,6 +1,7 @@
 // Making requests: sources, tables, strings, pages, charmaps and areas, good and damaged.
 
 use crate::charmaps::{careless_charmap, damaged_charmap, good_charmap};
+use crate::collisions::{colliding_source, Pieces};
 use crate::crowds::crowded_source;
 use crate::edges::{edges, edges_of_fullest, edges_of_widest, fullest_charmap, widest_source};
 use crate::layout::parts;
@@ -9,7 +10,8 @@ use crate::program::Program;
 use crate::random::Random;
 use crate::request::{Field, Request};
 use crate::sources::{
-    careless_source, damaged_source, good_source, hostile_source, CHARACTERS, ELEMENTS,
+    careless_source, damaged_source, good_source, hostile_source, plain_pool, Pool, CHARACTERS,
+    ELEMENTS,
 };
 use crate::tables::{apart, made_table, spoil_form, STRIDES};
 
@@ -18,6 +20,8 @@ const MOST_KEPT: usize = 24;
 
 pub struct Maker<'a> {
     random: Random,
+    plain: Pool,
+    pieces: Pieces,
     /// The program that is asked for tables, areas and the sizes of results.
     reference: &'a mut Program,
     tables: Vec<Vec<u32>>,
@@ -29,13 +33,15 @@ pub struct Maker<'a> {
 impl<'a> Maker<'a> {
     pub fn new(seed: u64, reference: &'a mut Program) -> Maker<'a> {
         let (tables, areas) = (Vec::new(), Vec::new());
-        let random = Random::new(seed);
+        let pieces = Pieces::new();
         let mut maker = Maker {
-            random,
+            random: Random::new(seed),
+            plain: plain_pool(),
             reference,
             tables,
             areas,
-            edges: edges(),
+            edges: edges(&pieces),
+            pieces,
         };
         let widest = maker
             .result_of(&compile(widest_source(), 1_000, 0))
@@ -61,10 +67,17 @@ impl<'a> Maker<'a> {
             self.add_area();
         }
         match self.random.below(100) {
-            0..=36 => self.compile(),
-            37..=49 => self.charmap(),
-            50..=56 => Request::new("check", vec![self.table(50)]),
-            57..=62 => {
+            0..=24 => {
+                let source = colliding_source(&self.pieces, &mut self.random);
+                self.compile(source)
+            }
+            25..=52 => {
+                let source = self.source();
+                self.compile(source)
+            }
+            53..=62 => self.charmap(),
+            63..=67 => Request::new("check", vec![self.table(50)]),
+            68..=71 => {
                 let (table, string) = (self.table(90), self.string());
                 let at = self.random.below(length(&string) + 2) as u64;
                 let at = if self.random.chance(2) {
@@ -74,18 +87,18 @@ impl<'a> Maker<'a> {
                 };
                 Request::new("step", vec![table, string, Field::Number(at)])
             }
-            63..=75 => {
+            72..=81 => {
                 let (table, one) = (self.table(90), self.string());
                 let other = self.other_string(&one);
                 Request::new("compare", vec![table, one, other])
             }
-            76..=81 => {
+            82..=85 => {
                 let fields = vec![self.table(90), self.string()];
                 self.with_room("key", fields)
             }
-            82..=90 => self.directory(),
-            91..=93 => Request::new("area", vec![self.area(50)]),
-            94..=96 => {
+            86..=92 => self.directory(),
+            93..=94 => Request::new("area", vec![self.area(50)]),
+            95..=97 => {
                 let area = self.area(90);
                 let fields = vec![area.clone(), self.bytes(&area)];
                 self.with_room("decode", fields)
@@ -117,7 +130,7 @@ impl<'a> Maker<'a> {
     }
 
     fn add_table(&mut self) {
-        let source = good_source(&mut self.random);
+        let source = good_source(&self.plain, &mut self.random);
         if let Some(table) = self.result_of(&compile(source, 20_000, 0)) {
             keep(&mut self.tables, table, &mut self.random);
         }
@@ -131,16 +144,19 @@ impl<'a> Maker<'a> {
         }
     }
 
-    fn compile(&mut self) -> Request {
-        let random = &mut self.random;
-        let source = match random.below(50) {
-            0..=13 => good_source(random),
+    fn source(&mut self) -> Vec<u8> {
+        let (plain, random) = (&self.plain, &mut self.random);
+        match random.below(50) {
+            0..=13 => good_source(plain, random),
             14 => crowded_source(random),
-            15..=24 => careless_source(random),
-            25..=34 => damaged_source(1, random),
-            35..=44 => damaged_source(random.within(2, 4), random),
+            15..=24 => careless_source(plain, random),
+            25..=34 => damaged_source(plain, 1, random),
+            35..=44 => damaged_source(plain, random.within(2, 4), random),
             _ => hostile_source(random),
-        };
+        }
+    }
+
+    fn compile(&mut self, source: Vec<u8>) -> Request {
         // The area is exactly long enough, or a little longer or shorter.
         let needed = self
             .result_of(&compile(source.clone(), 1 << 20, 0))

@@ -34,8 +34,46 @@ const NAMES: &[&[u8]] = &[
 ];
 
 #[rustfmt::skip]
-const TOGGLES: &[&str] =
-    &["A", "B", "C", "LONG_TOGGLE_1", "_", "0", "ABCDEFGHIJKLMNOPQRSTUVWXYZ012345"];
+const TOGGLES: &[&[u8]] =
+    &[b"A", b"B", b"C", b"LONG_TOGGLE_1", b"_", b"0", b"ABCDEFGHIJKLMNOPQRSTUVWXYZ012345"];
+
+/// What a planned source takes its names, characters and toggles from, and how it is written.
+pub struct Pool {
+    pub names: Vec<Vec<u8>>,
+    /// Names that may stand nowhere, or that nothing declares.
+    pub wrong_names: Vec<Vec<u8>>,
+    /// The characters of elements.
+    pub elements: Vec<Vec<u32>>,
+    pub characters: Vec<u32>,
+    /// At most as many toggles as a source may have.
+    pub toggles: Vec<Vec<u8>>,
+    pub wrong_toggles: Vec<Vec<u8>>,
+    /// How many names are declared before the order, and characters listed: fewer than these.
+    pub declared: usize,
+    pub listed: usize,
+    pub joins: Joins,
+    /// How many of a hundred bytes in names are escaped.
+    pub escapes: usize,
+    /// How often a sign is chosen, of a hundred times.
+    pub signs: usize,
+}
+
+/// A few of each, most of them plain.
+pub fn plain_pool() -> Pool {
+    Pool {
+        names: NAMES.iter().map(|name| name.to_vec()).collect(),
+        wrong_names: NAMES.iter().map(|name| name.to_vec()).collect(),
+        elements: ELEMENTS.iter().map(|element| element.to_vec()).collect(),
+        characters: CHARACTERS.to_vec(),
+        toggles: TOGGLES.iter().map(|toggle| toggle.to_vec()).collect(),
+        wrong_toggles: vec![b"T-".to_vec()],
+        declared: 6,
+        listed: 9,
+        joins: FEW_JOINS,
+        escapes: 1,
+        signs: 20,
+    }
+}
 
 /// What an order line stands for in a planned source.
 #[derive(Clone, PartialEq)]
@@ -60,9 +98,10 @@ struct Subjects {
 
 struct Writer<'a> {
     random: &'a mut Random,
+    pool: &'a Pool,
     signs: Signs,
     lines: Vec<Vec<u8>>,
-    defined: Vec<&'static str>,
+    defined: Vec<Vec<u8>>,
     /// Whether names and numbers may be wrong, on lines that are well formed.
     careless: bool,
     /// Whether weights may name what has no line.
@@ -70,22 +109,22 @@ struct Writer<'a> {
 }
 
 /// A source without a fault, which is almost always accepted.
-pub fn good_source(random: &mut Random) -> Vec<u8> {
-    let (lines, _) = planned_lines(false, false, random);
+pub fn good_source(pool: &Pool, random: &mut Random) -> Vec<u8> {
+    let (lines, _) = planned_lines(pool, false, false, random);
     joined(&lines, random)
 }
 
 /// A source of well-formed lines whose names and numbers may be wrong, or which is good but for
 /// weights that name what has no line.
-pub fn careless_source(random: &mut Random) -> Vec<u8> {
+pub fn careless_source(pool: &Pool, random: &mut Random) -> Vec<u8> {
     let loose = random.chance(25);
-    let (lines, _) = planned_lines(!loose, loose, random);
+    let (lines, _) = planned_lines(pool, !loose, loose, random);
     joined(&lines, random)
 }
 
 /// A source with so many faults, which need not all be seen.
-pub fn damaged_source(faults: usize, random: &mut Random) -> Vec<u8> {
-    let (mut lines, signs) = planned_lines(false, false, random);
+pub fn damaged_source(pool: &Pool, faults: usize, random: &mut Random) -> Vec<u8> {
+    let (mut lines, signs) = planned_lines(pool, false, false, random);
     let to_lines = random.below(faults + 1);
     for _ in 0..to_lines {
         if random.chance(30) {
@@ -160,10 +199,16 @@ pub fn hostile_source(random: &mut Random) -> Vec<u8> {
     joined(&lines, random)
 }
 
-fn planned_lines(careless: bool, loose: bool, random: &mut Random) -> (Vec<Vec<u8>>, Signs) {
+fn planned_lines(
+    pool: &Pool,
+    careless: bool,
+    loose: bool,
+    random: &mut Random,
+) -> (Vec<Vec<u8>>, Signs) {
     let (lines, defined) = (Vec::new(), Vec::new());
     let mut writer = Writer {
         random,
+        pool,
         signs: DEFAULT_SIGNS,
         lines,
         defined,
@@ -191,14 +236,14 @@ impl Writer<'_> {
             let idle = idle_line(self.signs, self.random);
             self.lines.push(idle);
         }
-        let line = dressed(line, self.signs, true, self.random);
+        let line = dressed(line, self.signs, self.pool.joins, self.random);
         self.lines.push(line);
     }
 
     fn sign_lines(&mut self) {
         let comment_first = self.random.chance(50);
         for comment in [comment_first, !comment_first] {
-            if !self.random.chance(20) {
+            if !self.random.chance(self.pool.signs) {
                 continue;
             }
             let c = self.random.pick(GOOD_SIGNS);
@@ -216,7 +261,7 @@ impl Writer<'_> {
                 b"escape_char"
             };
             let line = [keyword, blanks(self.random), &[c]].concat();
-            let line = dressed(&line, self.signs, false, self.random);
+            let line = dressed(&line, self.signs, NO_JOINS, self.random);
             self.lines.push(line);
             if comment {
                 self.signs.comment = c;
@@ -236,7 +281,7 @@ impl Writer<'_> {
             ]);
             self.add(name);
             for _ in 0..self.random.below(3) {
-                let line = with_signs(self.random.pick(PASSED), self.signs);
+                let line = self.passed_line();
                 // A line that ends with an escape is given one to join.
                 self.lines.push(line);
                 self.lines.push(Vec::new());
@@ -246,13 +291,21 @@ impl Writer<'_> {
         }
     }
 
+    /// A line that is passed over.
+    fn passed_line(&mut self) -> Vec<u8> {
+        if self.random.chance(25) {
+            return stretch(self.random);
+        }
+        with_signs(self.random.pick(PASSED), self.signs)
+    }
+
     /// The lines between LC_COLLATE and its END.
     fn collate(&mut self) {
-        let mut names: Vec<&[u8]> = NAMES.to_vec();
-        let mut elements: Vec<&[u32]> = ELEMENTS.to_vec();
+        let mut names = self.pool.names.clone();
+        let mut elements = self.pool.elements.clone();
         let mut declared: Vec<Subject> = Vec::new();
         let mut declarations: Vec<Vec<u8>> = Vec::new();
-        for _ in 0..self.random.below(6) {
+        for _ in 0..self.random.below(self.pool.declared) {
             let (line, subject) = self.declaration(&mut names, &mut elements);
             declarations.push(line);
             declared.push(subject);
@@ -274,21 +327,24 @@ impl Writer<'_> {
     /// A declaration, with one of the names and, if it is an element's, one of the elements.
     fn declaration(
         &mut self,
-        names: &mut Vec<&[u8]>,
-        elements: &mut Vec<&[u32]>,
+        names: &mut Vec<Vec<u8>>,
+        elements: &mut Vec<Vec<u32>>,
     ) -> (Vec<u8>, Subject) {
         let taken = self.random.below(names.len());
-        let name = names[taken].to_vec();
+        let mut name = names[taken].clone();
+        if self.errs() {
+            name = self.random.pick(&self.pool.wrong_names);
+        }
         if !self.errs() {
             names.remove(taken);
         }
-        let text = angled(&name, self.signs, self.random);
+        let text = self.angled(&name);
         if self.random.chance(50) || elements.is_empty() {
             let line = [b"collating-symbol", blanks(self.random), &text].concat();
             return (line, Subject::Symbol(name));
         }
         let taken = self.random.below(elements.len());
-        let characters = elements[taken];
+        let characters = elements[taken].clone();
         if !self.errs() {
             elements.remove(taken);
         }
@@ -296,8 +352,12 @@ impl Writer<'_> {
         line.extend(blanks(self.random));
         line.extend(b"from");
         line.extend(blanks(self.random));
-        line.extend(self.quoted_characters(characters));
+        line.extend(self.quoted_characters(&characters));
         (line, Subject::Element(name))
+    }
+
+    fn angled(&mut self, name: &[u8]) -> Vec<u8> {
+        angled(name, self.signs, self.pool.escapes, self.random)
     }
 
     fn quoted_characters(&mut self, characters: &[u32]) -> Vec<u8> {
@@ -319,7 +379,7 @@ impl Writer<'_> {
             code
         };
         let name = character_name(code, self.random);
-        angled(&name, self.signs, self.random)
+        self.angled(&name)
     }
 
     /// The line order_start. Answers the number of levels.
@@ -378,8 +438,8 @@ impl Writer<'_> {
         } else {
             subjects.spare.push(Subject::Undefined);
         }
-        let mut characters = CHARACTERS.to_vec();
-        for _ in 0..self.random.below(9) {
+        let mut characters = self.pool.characters.clone();
+        for _ in 0..self.random.below(self.pool.listed) {
             // The first characters stand in the elements, so they are taken more often.
             let most = if self.random.chance(70) {
                 characters.len().min(6)
@@ -452,15 +512,15 @@ impl Writer<'_> {
     /// must have a line has one.
     fn blocks(
         &mut self,
-        mut names: Vec<&[u8]>,
-        mut elements: Vec<&[u32]>,
+        mut names: Vec<Vec<u8>>,
+        mut elements: Vec<Vec<u32>>,
         mut subjects: Subjects,
         levels: usize,
     ) -> Vec<Vec<u8>> {
         let mut lines: Vec<Vec<u8>> = Vec::new();
         let count = self.random.below(4);
         for block in (0..=count).rev() {
-            while self.random.chance(20) && names.len() > 10 {
+            while self.random.chance(20) && names.len() > self.pool.names.len() / 2 {
                 let (line, subject) = self.declaration(&mut names, &mut elements);
                 lines.push(line);
                 subjects.spare.push(subject);
@@ -573,11 +633,11 @@ impl Writer<'_> {
             Subject::Character(code) => self.character(*code),
             Subject::Symbol(name) | Subject::Element(name) => {
                 let name = if self.errs() {
-                    self.random.pick(NAMES).to_vec()
+                    self.random.pick(&self.pool.wrong_names)
                 } else {
                     name.clone()
                 };
-                angled(&name, self.signs, self.random)
+                self.angled(&name)
             }
             Subject::Undefined => b"UNDEFINED".to_vec(),
         }
@@ -609,20 +669,23 @@ impl Writer<'_> {
     fn toggle_line(&mut self) {
         if self.errs() {
             let more = self.random.within(5, 14);
-            (0..more).for_each(|k| self.conditional("undef", &format!("T{}", k)));
+            (0..more).for_each(|k| self.conditional("undef", format!("T{}", k).as_bytes()));
         }
-        let toggle = self.random.pick(TOGGLES);
+        let mut toggle = self.random.pick(&self.pool.toggles);
+        if self.errs() {
+            toggle = self.random.pick(&self.pool.wrong_toggles);
+        }
         let define = self.random.chance(60);
         let keyword = if define { "define" } else { "undef" };
-        self.conditional(keyword, toggle);
+        self.conditional(keyword, &toggle);
         self.defined.retain(|other| *other != toggle);
         if define {
             self.defined.push(toggle);
         }
     }
 
-    fn conditional(&mut self, keyword: &str, toggle: &str) {
-        let line = [keyword.as_bytes(), blanks(self.random), toggle.as_bytes()].concat();
+    fn conditional(&mut self, keyword: &str, toggle: &[u8]) {
+        let line = [keyword.as_bytes(), blanks(self.random), toggle].concat();
         self.add(&line);
     }
 
@@ -630,13 +693,13 @@ impl Writer<'_> {
     fn chain(&mut self, lines: &[Vec<u8>], depth: usize) {
         let mut used = false;
         for branch in 0..self.random.within(1, 3) {
-            let toggle = self.random.pick(TOGGLES);
+            let toggle = self.random.pick(&self.pool.toggles);
             let keyword = match branch {
                 0 => self.random.pick(&["ifdef", "ifndef"]),
                 _ => "elif",
             };
             let holds = self.defined.contains(&toggle) == (keyword != "ifndef");
-            self.conditional(keyword, toggle);
+            self.conditional(keyword, &toggle);
             self.branch(lines, holds && !used, depth);
             used = used || holds;
         }
@@ -658,9 +721,9 @@ impl Writer<'_> {
         }
         for _ in 0..self.random.below(3) {
             // Deep inside, a chain in an unused branch would be one too many.
-            let line = self.random.pick(PASSED);
+            let line = self.passed_line();
             if depth <= 6 || !line.windows(2).any(|two| two == b"if") {
-                self.lines.push(with_signs(line, self.signs));
+                self.lines.push(line);
                 self.lines.push(Vec::new());
             }
         }

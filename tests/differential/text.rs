@@ -44,11 +44,11 @@ pub fn maybe_blanks(random: &mut Random) -> &'static [u8] {
     }
 }
 
-/// `<..>` around a name, with the escapes that it needs and some that it does not.
-pub fn angled(name: &[u8], signs: Signs, random: &mut Random) -> Vec<u8> {
+/// `<..>` around a name, with the escapes that it needs, and before so many of a hundred other bytes.
+pub fn angled(name: &[u8], signs: Signs, escapes: usize, random: &mut Random) -> Vec<u8> {
     let mut text = vec![b'<'];
     for &byte in name {
-        if byte == b'>' || byte == signs.escape || random.chance(1) {
+        if byte == b'>' || byte == signs.escape || random.chance(escapes) {
             text.push(signs.escape);
         }
         text.push(byte);
@@ -66,9 +66,28 @@ pub fn character_name(code: u32, random: &mut Random) -> Vec<u8> {
     }
 }
 
+/// Bytes that mean something in some place.
+const SPECIAL: &[u8] = b" <>\"#\\%/;,\t\x01\x7F\x80\xFF";
+
+/// A stretch of up to a hundred bytes without LF, most of them ordinary.
+pub fn stretch(random: &mut Random) -> Vec<u8> {
+    let special = random.pick(&[0, 2, 10]);
+    let mut text = vec![b'x'; random.below(101)];
+    for byte in &mut text {
+        if random.chance(special) {
+            *byte = random.pick(SPECIAL);
+        }
+    }
+    text
+}
+
 /// A comment's text, which may hold any byte but LF.
 pub fn comment(signs: Signs, random: &mut Random) -> Vec<u8> {
     let mut text = vec![signs.comment];
+    if random.chance(20) {
+        text.extend(stretch(random));
+        return text;
+    }
     for _ in 0..random.below(6) {
         let byte = random.pick(b"abc <\"#\\%/;\x01\x80\xFF");
         text.push(byte);
@@ -76,22 +95,61 @@ pub fn comment(signs: Signs, random: &mut Random) -> Vec<u8> {
     text
 }
 
+/// How often a line is joined from several, of a hundred times: at one place, and at many.
+#[derive(Clone, Copy)]
+pub struct Joins {
+    pub at_one: usize,
+    pub at_many: usize,
+}
+
+pub const NO_JOINS: Joins = Joins {
+    at_one: 0,
+    at_many: 0,
+};
+
+pub const FEW_JOINS: Joins = Joins {
+    at_one: 8,
+    at_many: 2,
+};
+
+/// A line with joins between its bytes, before so many of a hundred, and some of them in a row.
+fn joined_often(line: &[u8], signs: Signs, often: usize, random: &mut Random) -> Vec<u8> {
+    let mut text = Vec::new();
+    let mut escaped = false;
+    for &byte in line {
+        while !escaped && random.chance(often) {
+            text.extend([signs.escape, b'\n']);
+        }
+        escaped = !escaped && byte == signs.escape;
+        text.push(byte);
+    }
+    text
+}
+
+fn joined_once(mut line: Vec<u8>, signs: Signs, random: &mut Random) -> Vec<u8> {
+    let at = random.below(line.len() + 1);
+    let after_escape = at > 0 && line[at - 1] == signs.escape;
+    if !after_escape {
+        line.splice(at..at, [signs.escape, b'\n']);
+    }
+    line
+}
+
 /// A line with what may be added without changing what it says: blanks and a comment at its
 /// ends, and joins. The c of a sign line allows only the former.
-pub fn dressed(line: &[u8], signs: Signs, joins: bool, random: &mut Random) -> Vec<u8> {
+pub fn dressed(line: &[u8], signs: Signs, joins: Joins, random: &mut Random) -> Vec<u8> {
     let mut text = maybe_blanks(random).to_vec();
     text.extend(line);
-    if joins && random.chance(8) {
-        let at = random.below(text.len() + 1);
-        let after_escape = at > 0 && text[at - 1] == signs.escape;
-        if !after_escape {
-            text.splice(at..at, [signs.escape, b'\n']);
-        }
+    if random.chance(joins.at_many) {
+        let often = random.pick(&[2, 5, 20, 50, 85]);
+        text = joined_often(&text, signs, often, random);
+    } else if random.chance(joins.at_one) {
+        text = joined_once(text, signs, random);
     }
     text.extend(maybe_blanks(random));
     if random.chance(8) {
         text.extend(blanks(random));
-        if joins && random.chance(20) {
+        if joins.at_one > 0 && random.chance(20) {
             text.extend([signs.escape, b'\n']);
         }
         text.extend(comment(signs, random));
