@@ -3,10 +3,11 @@
 // right, times 16, with the last four bits of the mark (Rattle.subjects) of what is declared in those bytes; 3 to 7 are the five numbers of crate rows. A head or
 // a link is 0, or one more than a row. Behind the rows nothing is touched.
 ghost use mathlib.Core.Path.{_≡_};
+ghost use mathlib.Core.Bool.{true};
 ghost use Prim.Native.Nat.{_+_, _*_, _/_, _%_, _≤_, _<_};
 ghost use lib.ListN.{length, set, replicate};
 ghost use Rattle.subjects.specs.Keys.{keyAt};
-ghost use Rattle.subjects.specs.Numbers.{numbersOf};
+ghost use Rattle.subjects.specs.Numbers.{isDeclarable, numbersOf};
 ghost use Rattle.store.specs.Store.{headsOf, chainOf, pointed, pointing, markIn, Roomy, Sound, Finds, SideIs, WayEnds, Declares};
 use lines::Signs;
 use subjects::key_numbers;
@@ -79,10 +80,12 @@ fn next_side(left: &mut [u32], depth: usize) -> usize
     0
 }
 
-// The mark of what was declared with the key of these numbers, which stands at the mark v, on the way that begins at the head h.
+// The mark of what was declared with the key of these numbers, which stands at the mark v, on the way that begins at the head h. At most 259 rows are read,
+// whatever the source declares (DepthLaws).
 fn find_from(src: &[u8], g: Signs, work: &[u32], v: usize, h: usize, left: &mut [u32]) -> Found
     requires { ⌜ v / 2 ≤ length (now src) ⌝ }
     requires { ⌜ Sound (keyAt g (now src)) (length (now src)) (now work) ⌝ }
+    requires { ⌜ isDeclarable (keyAt g (now src) v) ≡ true ⌝ }
     requires { ⌜ (h ≡ chainOf (headsOf (length (now src))) (keyAt g (now src) v)) × (8 * h ≤ length (now src)) × (now left ≡ numbersOf (keyAt g (now src) v)) × (length (now left) ≡ 8) ⌝ }
     ensures { λ r. ⌜ Finds (keyAt g (now (src .entry))) (length (now (src .entry))) (now (work .entry)) (keyAt g (now (src .entry)) v) r ⌝ }
 {

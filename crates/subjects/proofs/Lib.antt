@@ -3,3 +3,4 @@ pub mod SubjectLaws
 pub mod CharsLaws
 pub mod KeyLaws
 pub mod NumberLaws
+pub mod BitLaws

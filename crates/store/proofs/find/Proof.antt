@@ -1,5 +1,5 @@
 -- `store::find` meets its contract.
-use Rattle.store.proofs.SeekLaws.{strange-nowhere, found-chain, found-numbers, found-long}
+use Rattle.store.proofs.SeekLaws.{strange-nowhere, found-chain, found-plain, found-numbers, found-long}
 use borrow.Author.Needs.{needs}
 use Rattle.store.proofs.find.Statement.{statement}
 use Rattle.store.proofs.find.Tie as tie
@@ -17,7 +17,7 @@ slice-aggregate-find-from : tie.Need-slice-aggregate-find-from
 slice-aggregate-find-from c = search needs
 
 find-from-requires : tie.Need-find-from-requires
-find-from-requires c κs = (search needs, (search needs, (search found-chain, search needs, search found-numbers, search found-long)))
+find-from-requires c κs = (search needs, (search needs, (search found-plain, (search found-chain, search needs, search found-numbers, search found-long))))
 
 returns : tie.Need-returns
 returns c = search needs

