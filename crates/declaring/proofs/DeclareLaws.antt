@@ -9,7 +9,7 @@ use lib.ListN.{length, getD}
 use lib.Dec.{eqb}
 use borrow.Author.Tests.{eqb-true, eqb-false}
 use Rattle.lists.proofs.Bools.{by, clash}
-use Rattle.rules.specs.Text.{bytes, _unless_, lower, lowest}
+use Rattle.rules.specs.Text.{bytes, every, _unless_, lower, lowest}
 use Rattle.rules.specs.Names.{charShaped, nameRefusal, namesRefusal}
 use Rattle.rules.specs.Tokens.{broken, name, quote, Token, tokenAt, theName, single, operands, tokensRefusal}
 use Rattle.rules.specs.State.{beforeOrder, afterOrder, Chain, Declaration, symbol, character, named, State, withDeclared, Outcome}
@@ -86,13 +86,13 @@ module _ {g : Signs} {src : List ℕ} {at : ℕ} {p : Spot} {e : LineEnd} {key :
 
 -- a name that is accepted is new
 named-declarable : (ns : List (List ℕ)) → namesRefusal ns ≡ 0 → isDeclarable (item (named (getD ns 0 []))) ≡ true
-unfolding namesRefusal isDeclarable isPlain
+unfolding namesRefusal isDeclarable isPlain every
 named-declarable [] h = refl
 named-declarable (n ∷ ns) h = name-declarable n (lower-none (nameRefusal n) (lowest (map nameRefusal ns)) h .0)
 
 -- the first of operands that are not refused, if it is a name, can be declared
 pub first-declarable : (os : List Token) → tokensRefusal os ≡ 0 → isDeclarable (item (named (theName (tokenAt os 0)))) ≡ true
-unfolding tokensRefusal isDeclarable isPlain
+unfolding tokensRefusal isDeclarable isPlain every
 first-declarable [] h = refl
 first-declarable (t ∷ os) h =
     let z = lower-none (3 unless not (eqb (t .kind) broken || (eqb (t .kind) quote && eqb (length (t .names)) 0))) (lowest (namesRefusal (t .names) ∷ tokensRefusal os ∷ [])) h .1 in

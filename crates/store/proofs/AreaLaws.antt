@@ -141,10 +141,10 @@ node-meet hs a b m l r (more {d = d} {ds = ds} x ns) e f =
     node-by hs a m d ds
     (λ p s u. node-by hs b l d ds
     (λ q t v.
-      let i : depthOf hs (d .key) ds ≡ depthOf hs a ds = depth-alike hs m a (d .key) ds s (omega (arith, p)) in
-      let j : depthOf hs (d .key) ds ≡ depthOf hs b ds = depth-alike hs l b (d .key) ds t (omega (arith, q)) in
-      let z : m ≡ l = sym p ∙ sym i ∙ j ∙ q in
-      record { deep = z; way = alike hs m m a (d .key) b (omega arith) s ∙ together-swap hs m (d .key) b ∙ rw z t })
+    let i : depthOf hs (d .key) ds ≡ depthOf hs a ds = depth-alike hs m a (d .key) ds s (omega (arith, p)) in
+    let j : depthOf hs (d .key) ds ≡ depthOf hs b ds = depth-alike hs l b (d .key) ds t (omega (arith, q)) in
+    let z : m ≡ l = sym p ∙ sym i ∙ j ∙ q in
+    record { deep = z; way = alike hs m m a (d .key) b (omega arith) s ∙ together-swap hs m (d .key) b ∙ rw z t })
     (λ v t. let o = node-le hs b l ns in absurd (omega (arith, u, e, v, f, o))))
     (λ u s. node-by hs b l d ds
     (λ q t v. let o = node-le hs a m ns in absurd (omega (arith, u, e, v, f, o)))
@@ -207,8 +207,8 @@ module _ {key : ℕ → Key} {len : ℕ} {w : List ℕ} {n : ℕ} {ds : List Dec
       let p = node-some hs a m ds (omega (arith, h)) in
       let q = node-some hs b l ds (omega (arith, i)) in
       let sides : sideOf (bitOf a m) ≡ sideOf (bitOf b l) = side-by (bitOf a m)
-          (λ x. side-by (bitOf b l) (λ y. x ∙ sym y) (λ y. absurd (omega (arith, e, x, y))))
-          (λ x. side-by (bitOf b l) (λ y. absurd (omega (arith, e, x, y))) (λ y. x ∙ sym y)) in
+      (λ x. side-by (bitOf b l) (λ y. x ∙ sym y) (λ y. absurd (omega (arith, e, x, y))))
+      (λ x. side-by (bitOf b l) (λ y. absurd (omega (arith, e, x, y))) (λ y. x ∙ sym y)) in
       let rows : nodeOf hs a m ds ≡ nodeOf hs b l ds = omega (arith, e, sides, p, q) in
       let r : nodeOf hs a m ds ≡ suc (nodeOf hs a m ds - 1) = omega (arith, p) in
       let j = node-meet hs a b m l (nodeOf hs a m ds - 1) ns r (sym rows ∙ r) in

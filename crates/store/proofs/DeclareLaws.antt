@@ -138,7 +138,7 @@ module _ {heads h s m : ℕ} {w left₀ left : List ℕ} (v : Walks heads w h le
 
   pub walks-out : {l : ℕ} → l ≡ pointed w s → heads < l → WayEnds heads w h left₀ s
   walks-out is b = ends-with (λ key len k n ds e f g o.
-    let i = node-in heads k m (o .nodes) in let y = leads key len k n ds e f g o in absurd (omega (arith, i, y, is, b, e)))
+      let i = node-in heads k m (o .nodes) in let y = leads key len k n ds e f g o in absurd (omega (arith, i, y, is, b, e)))
 
   pub walks-all : heads ≤ m → WayEnds heads w h left₀ s
   walks-all b = ends-with (λ key len k n ds e f g o. let i = depth-in heads k (o .nodes) in omega (arith, i, e, b))
@@ -235,9 +235,9 @@ module _ (key : ℕ → Key) (len : ℕ) (w : List ℕ) (v s : ℕ) (left : List
     -- what stood elsewhere does so
     still : (k : Key) (m : ℕ) → m ≤ depthOf hs k ds → (depthOf hs k ds ≡ m → together hs m k (key v) ≡ true → ⊥) → pointed w₂ (slotOf hs k m ds) ≡ nodeOf hs k m ds
     still k m i d = stays k m i (λ p.
-      let j = slot-meet (o .nodes) k (key v) m end i (omega arith) (p ∙ at-end) in
-      let f = depth-alike hs m (key v) k ds (together-swap hs m (key v) k ∙ j .way) (let z = j .deep in omega (arith, z)) in
-      d (f ∙ sym (j .deep)) (j .way))
+        let j = slot-meet (o .nodes) k (key v) m end i (omega arith) (p ∙ at-end) in
+        let f = depth-alike hs m (key v) k ds (together-swap hs m (key v) k ∙ j .way) (let z = j .deep in omega (arith, z)) in
+        d (f ∙ sym (j .deep)) (j .way))
 
     -- one that goes on behind the new one leads nowhere yet
     behind : (k : Key) (m : ℕ) → depthOf hs k ds ≡ m → together hs m k (key v) ≡ true → pointed w₂ (slotOf hs k (suc m) ds′) ≡ nodeOf hs k (suc m) ds′
@@ -245,14 +245,14 @@ module _ (key : ℕ → Key) (len : ℕ) (w : List ℕ) (v s : ℕ) (left : List
     behind k m d t =
         node-by hs k m (fresh key v) ds
         (λ a b u.
-          let p : slotOf hs k (suc m) ds′ ≡ 8 * row + sideOf (bitOf k m) = ap (λ (x : ℕ). 8 * (x - 1) + sideOf (bitOf k m)) u ∙ ap (λ (x : ℕ). 8 * x + sideOf (bitOf k m)) (one-less row) in
-          let q = slot-low (o .nodes) (key v) end row (omega arith) g in
-          let far : (8 * row + sideOf (bitOf k m) ≡ s → ⊥) = λ z. side-by (bitOf k m)
-              (λ c. q .0 (let y = at-end in omega (arith, c, z, y)))
-              (λ c. q .1 (let y = at-end in omega (arith, c, z, y))) in
-          let z : nodeOf hs k (suc m) ds′ ≡ 0 = node-other hs k (suc m) (fresh key v) ds (λ y. omega (arith, y, d)) ∙ node-deep hs k (suc m) ds (omega (arith, d)) in
-          ap (pointed w₂) p ∙ pointed-same w₁ w₂ (8 * row + sideOf (bitOf k m)) (point-other w₁ s (row + 1) (8 * row + sideOf (bitOf k m)) far)
-          ∙ rowed-slot w row (v % 16) room (bitOf k m) (omega arith) ∙ sym z)
+        let p : slotOf hs k (suc m) ds′ ≡ 8 * row + sideOf (bitOf k m) = ap (λ (x : ℕ). 8 * (x - 1) + sideOf (bitOf k m)) u ∙ ap (λ (x : ℕ). 8 * x + sideOf (bitOf k m)) (one-less row) in
+        let q = slot-low (o .nodes) (key v) end row (omega arith) g in
+        let far : (8 * row + sideOf (bitOf k m) ≡ s → ⊥) = λ z. side-by (bitOf k m)
+        (λ c. q .0 (let y = at-end in omega (arith, c, z, y)))
+        (λ c. q .1 (let y = at-end in omega (arith, c, z, y))) in
+        let z : nodeOf hs k (suc m) ds′ ≡ 0 = node-other hs k (suc m) (fresh key v) ds (λ y. omega (arith, y, d)) ∙ node-deep hs k (suc m) ds (omega (arith, d)) in
+        ap (pointed w₂) p ∙ pointed-same w₁ w₂ (8 * row + sideOf (bitOf k m)) (point-other w₁ s (row + 1) (8 * row + sideOf (bitOf k m)) far)
+        ∙ rowed-slot w row (v % 16) room (bitOf k m) (omega arith) ∙ sym z)
         (λ u b. absurd (b d t))
       where
         one-less : (x : ℕ) → suc x - 1 ≡ x
