@@ -15,7 +15,7 @@ use Rattle.rules.specs.Tokens.{broken, name, quote, Token, tokenAt, theName, si
 use Rattle.rules.specs.State.{beforeOrder, afterOrder, Chain, Declaration, symbol, character, named, State, withDeclared, Outcome}
 use Rattle.rules.specs.Declarations.{symbolLine}
 use Rattle.rules.specs.Source.{collateLine}
-use Rattle.rules.proofs.TextLaws.{lower-none, lowest-unless}
+use Rattle.rules.proofs.TextLaws.{lower-none, lowest-none, lowest-unless}
 use Rattle.lines.specs.declared.Signs.{Signs}
 use Rattle.lines.specs.declared.Spot.{Spot}
 use Rattle.lines.specs.declared.LineEnd.{LineEnd}
@@ -88,15 +88,15 @@ module _ {g : Signs} {src : List ℕ} {at : ℕ} {p : Spot} {e : LineEnd} {key :
 named-declarable : (ns : List (List ℕ)) → namesRefusal ns ≡ 0 → isDeclarable (item (named (getD ns 0 []))) ≡ true
 unfolding namesRefusal isDeclarable isPlain every
 named-declarable [] h = refl
-named-declarable (n ∷ ns) h = name-declarable n (lower-none (nameRefusal n) (lowest (map nameRefusal ns)) h .0)
+named-declarable (n ∷ ns) h = name-declarable n (lowest-none (nameRefusal n) (map nameRefusal ns) h .0)
 
 -- the first of operands that are not refused, if it is a name, can be declared
 pub first-declarable : (os : List Token) → tokensRefusal os ≡ 0 → isDeclarable (item (named (theName (tokenAt os 0)))) ≡ true
 unfolding tokensRefusal isDeclarable isPlain every
 first-declarable [] h = refl
 first-declarable (t ∷ os) h =
-    let z = lower-none (3 unless not (eqb (t .kind) broken || (eqb (t .kind) quote && eqb (length (t .names)) 0))) (lowest (namesRefusal (t .names) ∷ tokensRefusal os ∷ [])) h .1 in
-    named-declarable (t .names) (lower-none (namesRefusal (t .names)) (lowest (tokensRefusal os ∷ [])) z .0)
+    let z = lowest-none (3 unless not (eqb (t .kind) broken || (eqb (t .kind) quote && eqb (length (t .names)) 0))) (namesRefusal (t .names) ∷ tokensRefusal os ∷ []) h .1 in
+    named-declarable (t .names) (lowest-none (namesRefusal (t .names)) (tokensRefusal os ∷ []) z .0)
 
 symbol-new : (ds : List Decl) (os : List Token) → symbolRefusal ds os ≡ 0 → (isNewIn ds (theName (tokenAt os 0)) ≡ true) × (isDeclarable (item (named (theName (tokenAt os 0)))) ≡ true)
 unfolding symbolRefusal
