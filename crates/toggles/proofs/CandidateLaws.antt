@@ -7,13 +7,13 @@ use native.Mathlib.Numerals.{add-one}
 use native.Mathlib.Omega.{arith}
 use lib.ListN.{length, getD}
 use lib.Dec.{eqb}
-use borrow.Author.Tests.{eqb-true, eqb-false, eq-eqb, ne-eqb}
+use borrow.Author.Tests.{eq-eqb, ne-eqb}
 use Rattle.lists.proofs.Bools.{by, and-intro, cond-true, cond-false, cond-both}
 use Rattle.rules.specs.Text.{if_then_else_, every}
 use Rattle.rules.specs.Conditionals.{isToggleByte}
 use Rattle.rules.proofs.TextLaws.{every-head, every-tail}
 use Rattle.toggles.specs.declared.Parting.{Parting}
-use Rattle.toggles.specs.Candidates.{decisionFor, takes, candidate, Alike, Parts}
+use Rattle.toggles.specs.Candidates.{decisionFor, takes, candidate, Alike}
 use Rattle.toggles.specs.Kept.{Proper}
 
 -- ## What a candidate depends on

@@ -1,7 +1,7 @@
 -- The first bytes of a word, copied, and two words beside each other by them.
 use mathlib.Core.Path.{_≡_, refl, sym, ap, _∙_}
-use mathlib.Core.List.{List, []}
-use Prim.Native.Nat.{ℕ, zero, suc, _+_, _-_, _≤_, _<_}
+use mathlib.Core.List.{List}
+use Prim.Native.Nat.{ℕ, suc, _+_, _-_, _≤_, _<_}
 use native.Mathlib.Omega.{arith}
 use lib.ListN.{length, getD, set, replicate, length-set, length-replicate, getD-replicate}
 use lib.Seq.{getD-set-same, getD-set-other}
@@ -13,7 +13,6 @@ use Rattle.lines.specs.declared.Spot.{Spot}
 use Rattle.tokens.specs.declared.WordStep.{WordStep}
 use Rattle.tokens.specs.declared.WordStep.the-variants.{Byte, End}
 use Rattle.tokens.specs.Left.{WordByte, WordStepIs}
-use Rattle.toggles.specs.declared.Parting.{Parting}
 use Rattle.toggles.specs.Candidates.{candidate, Copied, Parts, Differ}
 use Rattle.toggles.specs.Kept.{wordLeft}
 use Rattle.toggles.proofs.WordLaws.{step-byte, step-end}

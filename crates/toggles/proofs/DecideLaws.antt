@@ -8,7 +8,6 @@ use lib.ListN.{length, getD}
 use lib.Dec.{eqb}
 use borrow.Author.Tests.{eqb-true, eqb-false}
 use Rattle.lists.proofs.Bools.{by, clash, cond-true, cond-both}
-use Rattle.rules.specs.Text.{oneOf}
 use Rattle.rules.specs.Conditionals.{isToggle}
 use Rattle.rules.proofs.TextLaws.{oneOf-getD, same-refl}
 use Rattle.lines.specs.declared.Signs.{Signs}

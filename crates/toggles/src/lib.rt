@@ -1,6 +1,7 @@
 // The toggles of conditionals, kept in a lent area of numbers: 16 places from `base` on, of which the first `n` are in use. A number there
-// is twice the place where the word was written last in the source, and one more where the toggle is defined. Behind them stand 16 decisions:
-// they say by single bytes which one toggle a word can be, so that no word is compared with another toggle, however long that is spelled.
+// is twice the place where the word was written last in the source, and one more where the toggle is defined. Behind them stand 16 decisions,
+// which tell by single bytes the one toggle that a word can be: a lookup compares the word with that one's spelling and passes over all others,
+// however long they are spelled.
 ghost use mathlib.Core.Path.{_≡_};
 ghost use mathlib.Core.List.{[]};
 ghost use Prim.Native.Nat.{_+_, _/_, _≤_, _<_};
