@@ -1,14 +1,13 @@
 -- Subjects and their marks: each subject with a row has one, and each mark in the list names its own.
 use mathlib.Core.Path.{_≡_, refl, sym, ap, _∙_, subst}
 use mathlib.Core.Bool.{Bool, true, false, false≢true, or-true}
-use mathlib.Core.List.{List, [], _∷_}
+use mathlib.Core.List.{List}
 use Prim.Native.Nat.{ℕ, _+_, _/_, _%_, _≤_, _<_}
 use native.Mathlib.Omega.{arith}
 use lib.ListN.{length}
 use lib.Dec.{eqb}
 use borrow.Author.Tests.{eq-eqb, eqb-true, eqb-false, le-leb, lt-leb}
 use Rattle.lists.proofs.Bools.{by, clash}
-use Rattle.lists.proofs.Lists.{All}
 use Rattle.rules.specs.Names.{charShaped}
 use Rattle.rules.specs.State.{Subject, character, named, undefined}
 use Rattle.rules.specs.OrderLines.{subjectOf, sameSubject}
@@ -16,8 +15,8 @@ use Rattle.rules.proofs.RankLaws.{sameSubject-true, sameSubject-refl}
 use Rattle.lines.specs.declared.Signs.{Signs}
 use Rattle.names.specs.Named.{nameLeft}
 use Rattle.rows.proofs.CellLaws.{Apart}
-use Rattle.subjects.specs.Keys.{nameSpot, subjectLeft, Key, item, chars, keyAt, sameKey}
-use Rattle.subjects.proofs.KeyLaws.{sameKey-true, sameKey-equal, keyAt-name, keyAt-quotes}
+use Rattle.subjects.specs.Keys.{nameSpot, subjectLeft, Key, item, chars, keyAt}
+use Rattle.subjects.proofs.KeyLaws.{keyAt-name, keyAt-quotes}
 use Rattle.store.specs.Store.{Decl, first, isPlace, Once, Holds, undefinedMark}
 use Rattle.store.specs.declared.Found.{Found}
 use Rattle.store.specs.declared.Found.the-variants.{At, Nothing}

@@ -20,7 +20,7 @@ use Rattle.rows.specs.Cells.{cell}
 use Rattle.subjects.specs.Keys.{nameSpot, subjectLeft, Key, item, chars, keyAt}
 use Rattle.store.specs.Store.{Decl, first, isPlace, undefinedMark, Holds}
 use Rattle.store.specs.declared.Found.{Found}
-use Rattle.store.specs.declared.Found.the-variants.{At, Nothing}
+use Rattle.store.specs.declared.Found.the-variants.{At}
 use Rattle.listed.specs.declared.Order.{Order}
 use Rattle.listed.specs.Listed.{charsNumber, lineNumber, placeNumber, nextNumber, rankNumber, Backed, Lines}
 

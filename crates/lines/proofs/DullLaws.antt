@@ -20,7 +20,7 @@ use Rattle.lines.specs.Stream.{marksLeft, Passes}
 use Rattle.lines.specs.Stretches.{NoFeed, FeedIs, Ordinary, Stretch, Block, Dull, DullTo}
 use Rattle.lines.proofs.ByteLaws.{text-high}
 use Rattle.lines.proofs.LineLaws.{spot, item-hidden}
-use Rattle.lines.proofs.StandsLaws.{Stands, shut-stale, stands-item}
+use Rattle.lines.proofs.StandsLaws.{Stands, stands-item}
 
 -- ## Stretches
 
@@ -149,14 +149,15 @@ module _ {g : Signs} {src : List ℕ} where
   ordinary-dull mode m k h v =
       let p = spot k mode false in
       let b = getD src k 0 in
-      let s : Stands g src p =
+      let s : Stands g src p b =
       record {
         inside = h;
+        is = refl;
         small = let a = v .high in omega arith;
         no-feed = λ e. let a = v .low in omega arith;
         no-escape = v .no-escape;
         seen = m;
-        shut = shut-stale g src p refl;
+        no-comment = rw (and-false (eqb mode 0));
       } in
       dull-passes {ms = b ∷ []} (stands-item s (ordinary-after v mode) (ordinary-solid v) .0) (rw (ordinary-text v))
 

@@ -12,9 +12,9 @@ use Rattle.rules.specs.Names.{isVisible}
 use Rattle.rules.specs.Lines.{after}
 use Rattle.lines.specs.declared.Signs.{Signs}
 use Rattle.lines.specs.declared.Spot.{Spot}
-use Rattle.lines.specs.declared.Item.the-variants.{Mark}
-use Rattle.lines.specs.Stream.{marksLeft, ItemIs}
-use Rattle.lines.proofs.LineLaws.{spot, item-mark}
+use Rattle.lines.specs.Stream.{marksLeft}
+use Rattle.lines.proofs.LineLaws.{spot}
+use Rattle.lines.proofs.StandsLaws.{Stands, stands-item}
 use Rattle.lines.proofs.ByteLaws.{after-name, after-inner}
 use Rattle.tokens.specs.Left.{isInside, nameIn}
 use Rattle.names.specs.Named.{nameLeft}
@@ -107,11 +107,16 @@ module _ (g : Signs) (src : List ℕ) (p : Spot) (l : p .at < length src) (i : i
       let b = getD src (p .at) 0 in
       let v = stands-low (g .escape) b s in
       let w = stands-high (g .escape) b s in
-      let none : false ≡ (eqb (p .mode) 0 && p .fresh && eqb b (g .comment)) = inside (p .mode) i (λ e. rw e) (λ e. rw e) in
-      let here : ItemIs g src p (Mark b (spot (p .at + 1) x false)) =
-      item-mark g src p l (λ e. omega arith) (λ e. inside (p .mode) i (λ f. omega arith) (λ f. omega arith)) (stands-no-escape (g .escape) b s)
-      none refl a (sym (rw (ne-eqb b 32 (λ e. omega arith), ne-eqb b 9 (λ e. omega arith)))) refl (omega arith) in
-      here .0 .marks
+      let here : Stands g src p b = record {
+        inside = l;
+        is = refl;
+        small = omega arith;
+        no-feed = λ e. omega arith;
+        no-escape = stands-no-escape (g .escape) b s;
+        seen = λ e. inside (p .mode) i (λ f. omega arith) (λ f. omega arith);
+        no-comment = inside (p .mode) i (λ e. rw e) (λ e. rw e);
+      } in
+      stands-item {fresh = false} here a (sym (rw (ne-eqb b 32 (λ e. omega arith), ne-eqb b 9 (λ e. omega arith)))) .0 .marks
 
   -- a byte of the name
   pub byte-inside : (getD src (p .at) 0 ≡ 62 → ⊥) → nameLeft g src p ≡ getD src (p .at) 0 ∷ nameLeft g src (spot (p .at + 1) (p .mode) false)

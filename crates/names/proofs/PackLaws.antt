@@ -67,21 +67,6 @@ module _ (n : List ℕ) (h : isPlain n ≡ true) where
   unfolding quad
   quad-small i = omega (arith, byte-small (4 * i), byte-small (4 * i + 1), byte-small (4 * i + 2), byte-small (4 * i + 3))
 
-  -- the last number tells a long name
-  pub quad-long : quad n 7 ≡ 0 → length n ≤ 28
-  unfolding quad
-  quad-long e = by (leb (length n) 28) (λ t. leb-true (length n) 28 t) (λ t. let l = leb-false (length n) 28 t in let b = byte-low 28 (omega arith) in absurd (omega arith))
-
-  pub quad-short : length n ≤ 28 → quad n 7 ≡ 0
-  unfolding quad
-  quad-short l =
-      rw (
-        List·getD-eq-default n 0 {n = 28} (omega arith),
-        List·getD-eq-default n 0 {n = 29} (omega arith),
-        List·getD-eq-default n 0 {n = 30} (omega arith),
-        List·getD-eq-default n 0 {n = 31} (omega arith),
-      )
-
 -- a name with no refusal can be declared
 pub plain-name : (n : List ℕ) → nameRefusal n ≡ 0 → isPlain n ≡ true
 unfolding nameRefusal isPlain

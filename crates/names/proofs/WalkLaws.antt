@@ -2,7 +2,7 @@
 use mathlib.Core.Path.{_≡_, refl, sym, _∙_, subst}
 use mathlib.Core.Bool.{Bool, true, false, _&&_}
 use mathlib.Core.List.{List, [], _∷_}
-use Prim.Native.Nat.{ℕ, _+_, _-_, _*_, _%_, _≤_, _<_}
+use Prim.Native.Nat.{ℕ, _+_, _-_, _≤_, _<_}
 use native.Mathlib.Omega.{arith}
 use lib.ListN.{length, getD}
 use lib.Dec.{eqb}
@@ -22,7 +22,7 @@ use Rattle.tokens.specs.Left.{isInside, namesFrom, namesIn, NameByte, NameStepI
 use Rattle.tokens.proofs.TokenLaws.{namesIn-close, namesIn-name}
 use Rattle.names.specs.Named.{nameLeft, NameAt}
 use Rattle.names.specs.Shape.{standsIn, standsAt}
-use Rattle.names.proofs.InsideLaws.{place-within, place-is, first-stands, second-stands, first-within, second-within, byte-inside, close-inside}
+use Rattle.names.proofs.InsideLaws.{place-is, first-stands, second-stands, first-within, second-within, byte-inside, close-inside}
 use Rattle.names.proofs.CompareLaws.{step-byte, step-close, step-open}
 
 -- ## A name beside another

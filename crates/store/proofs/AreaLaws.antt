@@ -1,7 +1,7 @@
 -- The area and the list that it holds: an area that is cleared, what a store elsewhere leaves, and where the ways of keys lead in it.
 use mathlib.Core.Path.{_≡_, refl, sym, ap, _∙_}
 use mathlib.Core.Bool.{true, false, _&&_, false≢true}
-use mathlib.Core.List.{List, [], _∷_, _++_, append-nil}
+use mathlib.Core.List.{List, [], _++_, append-nil}
 use Prim.Native.Nat.{ℕ, zero, suc, _+_, _-_, _*_, _/_, _%_, _≤_, _<_}
 use native.Mathlib.Nat.{mod-lt}
 use native.Mathlib.Omega.{arith}
@@ -14,8 +14,8 @@ use Rattle.lists.proofs.Bools.{by, and-intro, cond-both}
 use Rattle.rows.specs.Cells.{cellAt}
 use Rattle.subjects.specs.Keys.{Key, hashKey}
 use Rattle.subjects.specs.Numbers.{bitOf}
-use Rattle.store.specs.Store.{Decl, isPlace, Once, nothing, headsOf, chainOf, together, depthOf, nodeOf, sideOf, slotOf, pointed, markIn, Nodes, none, more, Roomy, Holds}
-use Rattle.store.proofs.WayLaws.{bit-small, together-swap, alike, depth-on, depth-off, depth-alike, node-by, node-some}
+use Rattle.store.specs.Store.{Decl, isPlace, nothing, headsOf, chainOf, together, depthOf, nodeOf, sideOf, slotOf, pointed, markIn, Nodes, none, more, Roomy, Holds}
+use Rattle.store.proofs.WayLaws.{bit-small, together-swap, alike, depth-alike, node-by, node-some}
 
 -- ## Clearing
 

@@ -1,17 +1,16 @@
 -- The ways of keys: keys that go the same way, how deep ways go and what stands on them, and the numbers of the area that lead there.
 use mathlib.Core.Path.{_≡_, refl, sym, ap, _∙_, subst}
-use mathlib.Core.Bool.{Bool, true, false, _&&_}
+use mathlib.Core.Bool.{true, false, _&&_}
 use mathlib.Core.List.{List, [], _∷_}
-use Prim.Native.Nat.{ℕ, zero, suc, _+_, _-_, _*_, _/_, _%_, _≤_, _<_}
+use Prim.Native.Nat.{ℕ, zero, suc, _+_, _-_, _*_, _/_, _≤_, _<_}
 use native.Mathlib.Nat.{mod-lt}
 use native.Mathlib.Omega.{arith}
-use lib.ListN.{length, getD}
 use lib.Dec.{eqb, leb}
 use borrow.Author.Tests.{eq-eqb, ne-eqb, eqb-true, eqb-false, leb-true, leb-false}
 use Rattle.lists.proofs.Bools.{by, and-left, and-right, and-intro, clash}
 use Rattle.subjects.specs.Keys.{Key}
 use Rattle.subjects.specs.Numbers.{bitOf}
-use Rattle.store.specs.Store.{Decl, chainOf, together, depthOf, nodeOf, sideOf, slotOf}
+use Rattle.store.specs.Store.{Decl, chainOf, together, depthOf, nodeOf, slotOf}
 
 -- ## Keys that go the same way
 

@@ -2,17 +2,16 @@
 use mathlib.Core.Path.{_≡_, refl, sym, ap, _∙_, subst}
 use mathlib.Core.Bool.{Bool, true, false, _&&_}
 use mathlib.Core.List.{List, [], _∷_, map}
-use Prim.Native.Nat.{ℕ, zero, suc, _+_, _*_, _/_, _%_, _≤_, _<_}
-use native.Mathlib.Nat.{add-suc}
+use Prim.Native.Nat.{ℕ, suc, _+_, _*_, _/_, _%_, _≤_, _<_}
 use native.Mathlib.Numerals.{add-one}
 use native.Mathlib.Omega.{arith}
 use lib.ListN.{length, set, replicate, length-set, length-replicate}
 use lib.Dec.{leb, ltb}
 use borrow.Author.Tests.{lt-leb, le-ltb, lt-ltb, leb-true}
 use Rattle.lists.proofs.Bools.{and-left, and-right, and-intro}
-use Rattle.rules.specs.Text.{every, _unless_}
-use Rattle.rules.specs.Names.{isVisible, nameRefusal, charShaped, codeOf, isCharacter, isCharName}
-use Rattle.rules.proofs.TextLaws.{every-head, every-tail, unless-none, lower-none}
+use Rattle.rules.specs.Text.{every}
+use Rattle.rules.specs.Names.{nameRefusal, charShaped, codeOf, isCharacter, isCharName}
+use Rattle.rules.proofs.TextLaws.{every-head, every-tail}
 use Rattle.rules.specs.State.{Subject, character, named}
 use Rattle.rules.specs.OrderLines.{subjectOf}
 use Rattle.rules.specs.Lines.{quoted}
@@ -22,11 +21,12 @@ use Rattle.units.specs.declared.CodePoint.{CodePoint}
 use Rattle.names.specs.declared.Pack.{Pack}
 use Rattle.names.specs.declared.Code.{Code}
 use Rattle.names.specs.declared.Code.the-variants.{Char, Other}
-use Rattle.names.specs.Named.{nameLeft, CodeIs, hashOf}
-use Rattle.names.specs.Packed.{isPlain, PackedIs}
+use Rattle.names.specs.Named.{CodeIs}
+use Rattle.names.specs.Packed.{PackedIs}
+use Rattle.names.proofs.PackLaws.{plain-name}
 use Rattle.subjects.specs.declared.NextChar.{NextChar}
 use Rattle.subjects.specs.declared.NextChar.the-variants as next
-use Rattle.subjects.specs.Keys.{nameSpot, quoteSpot, subjectLeft, charsLeft, Key, item, chars, keyAt, hashKey, hashSubject, CharNext, NextIs}
+use Rattle.subjects.specs.Keys.{nameSpot, quoteSpot, subjectLeft, charsLeft, Key, item, chars, keyAt, hashKey, CharNext, NextIs}
 use Rattle.subjects.specs.Numbers.{isCode, isDeclarable, withCodes, numbersOf, NumbersAre, CodesAre, CodePut}
 use Rattle.subjects.proofs.SubjectLaws.{subject-char, subject-name, hash-char, hash-name}
 use Rattle.subjects.proofs.KeyLaws.{keyAt-name, keyAt-quotes}
@@ -181,11 +181,8 @@ module _ (g : Signs) (src : List ℕ) (v : ℕ) {p : Spot} {key : List ℕ} {r :
 -- ## What lines accept can be declared
 
 pub name-declarable : (n : List ℕ) → nameRefusal n ≡ 0 → isDeclarable (item (named n)) ≡ true
-unfolding nameRefusal isDeclarable isPlain
-name-declarable n e =
-    let z = lower-none (3 unless (leb 1 (length n) && every isVisible n)) (7 unless leb (length n) 32) e in
-    and-intro (unless-none 7 (leb (length n) 32) (omega arith) (z .1))
-    (and-right (leb 1 (length n)) (every isVisible n) (unless-none 3 (leb 1 (length n) && every isVisible n) (omega arith) (z .0)))
+unfolding isDeclarable
+name-declarable n e = plain-name n e
 
 pub char-declarable : (c : ℕ) → isCharacter c ≡ true → isDeclarable (item (character c)) ≡ true
 unfolding isDeclarable

@@ -108,10 +108,6 @@ module _ {g : Signs} {src work : List ℕ} {base n at : ℕ} (m : MayTurn g src 
     stored-inside = let e = stored-at at on s in omega (arith, m .inside)
 
   module _ (h : i < n) where
-    -- the store is inside the area
-    pub again-room : base + i < length work
-    again-room = omega (arith, m .kept .room, m .kept .few)
-
     -- the word is the one that is kept there
     again-word : wordLeft g src (lineStart at) ≡ wordOf g src (getD work (base + i) 0)
     again-word =

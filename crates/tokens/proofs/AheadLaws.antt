@@ -17,7 +17,8 @@ use Rattle.tokens.specs.declared.Closing.{Closing}
 use Rattle.tokens.specs.declared.Closing.the-variants as closing
 use Rattle.tokens.specs.declared.Tok.{Tok}
 use Rattle.tokens.specs.Left.{tokensLeft, isInside, PlainAt, ClosingIs, bareAt, namedAt, TokenIs, Skips}
-use Rattle.tokens.proofs.StandLaws.{stands-mark, plain-stands}
+use Rattle.lines.proofs.StandsLaws.{stands-mark}
+use Rattle.tokens.proofs.StandLaws.{plain-stands}
 use Rattle.tokens.proofs.NextLaws.{next-semi, next-name, next-name-open}
 use Rattle.tokens.proofs.GapLaws.{blanks-none, blanks-space, blanks-stop}
 

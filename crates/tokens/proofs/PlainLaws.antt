@@ -17,11 +17,11 @@ use Rattle.lines.specs.declared.Signs.{Signs}
 use Rattle.lines.specs.declared.Spot.{Spot}
 use Rattle.lines.specs.declared.Step.the-variants as step
 use Rattle.lines.proofs.LineLaws.{spot}
+use Rattle.lines.proofs.StandsLaws.{Stands, stands-mark}
 use Rattle.tokens.specs.declared.NameStep.the-variants as nameStep
 use Rattle.tokens.specs.declared.Closing.{Closing}
 use Rattle.tokens.specs.declared.Closing.the-variants as closing
 use Rattle.tokens.specs.Left.{isInside, isPlain, plainIn, PlainTo, NameCloses, NameEnds, ClosingAfter, ClosingIs}
-use Rattle.tokens.proofs.StandLaws.{Stands, stands-mark}
 use Rattle.tokens.proofs.NameLaws.{InName, name-none, name-more, name-joined, name-byte-here, name-close-here, inside-stays}
 
 -- ## Plain bytes of a name

@@ -1,44 +1,18 @@
--- Bytes that stand for themselves: outside comments, a byte that is no LF, no escape and opens no comment is the next mark.
+-- The byte at a place, in plain mode: where it is given as it is, it stands for itself.
 use mathlib.Core.Path.{_≡_, refl, sym, _∙_}
-use mathlib.Core.Bool.{Bool, false, _&&_, _||_, and-false}
+use mathlib.Core.Bool.{_&&_, _||_, and-false}
 use mathlib.Core.List.{List}
-use Prim.Native.Nat.{ℕ, _+_, _≤_, _<_}
+use Prim.Native.Nat.{ℕ, _≤_, _<_}
 use native.Mathlib.Omega.{arith}
 use lib.ListN.{length, getD, List·getD-eq-default}
 use lib.Dec.{eqb, ltb}
 use borrow.Author.Tests.{eq-eqb, ne-eqb, eqb-false, ltb-true, ltb-false}
 use Rattle.lists.proofs.Bools.{by, cond-both, or-false-left, or-false-right}
-use Rattle.rules.specs.Names.{isBlank}
-use Rattle.rules.specs.Lines.{outside, after}
+use Rattle.rules.specs.Lines.{outside}
 use Rattle.lines.specs.declared.Signs.{Signs}
 use Rattle.lines.specs.declared.Spot.{Spot}
-use Rattle.lines.specs.Stream.{MarkIs}
-use Rattle.lines.proofs.LineLaws.{spot, item-mark}
-use Rattle.lines.proofs.WalkLaws.{joined-none, joined-mark}
+use Rattle.lines.proofs.StandsLaws.{Stands}
 use Rattle.tokens.specs.Left.{plainAt, PlainAt}
-
--- ## The next mark
-
--- A byte at a spot that is a mark of its own.
-pub record Stands (g : Signs) (src : List ℕ) (p : Spot) (b : ℕ) : Type 0 where
-  pub inside : p .at < length src
-  pub is : getD src (p .at) 0 ≡ b
-  pub small : b < 256
-  pub no-feed : b ≡ 10 → ⊥
-  pub no-escape : b ≡ g .escape → ⊥
-  pub seen : p .mode ≡ 4 → ⊥
-  pub no-comment : (eqb (p .mode) 0 && p .fresh && eqb b (g .comment)) ≡ false
-
-pub stands-mark : {g : Signs} {src : List ℕ} {p : Spot} {b mode : ℕ} {fresh : Bool} → Stands g src p b → mode ≡ after (p .mode) b → fresh ≡ isBlank b
-    → MarkIs g src p b (spot (p .at + 1) mode fresh)
-stands-mark {g} {src} {p} {b} v a f =
-    let e = v .is in
-    joined-mark (joined-none g src p (omega (arith, v .inside)))
-    (item-mark g src p (v .inside) (λ z. v .no-feed (sym e ∙ z)) (v .seen) (λ z. v .no-escape (sym e ∙ z)) {y = b}
-    refl (rw e (v .no-comment)) (rw e a) (rw e f) (sym e) (v .small))
-    refl
-
--- ## The byte at a place
 
 module _ (g : Signs) (src : List ℕ) (at : ℕ) where
   pub at-end : length src ≤ at → PlainAt g src at 0
