@@ -163,12 +163,7 @@ side-one a b h i e = by (eqb a 0)
     (λ s. let z : _≡_ {A = ℕ} 0 2 = rw (t, s) at e in absurd (omega (arith, z))))
     (λ t. by (eqb b 0)
     (λ s. let z : _≡_ {A = ℕ} 2 0 = rw (t, s) at e in absurd (omega (arith, z)))
-    (λ s. one a b h i (eqb-false a 0 t) (eqb-false b 0 s)))
-  where
-    one : (a b : ℕ) → a < 2 → b < 2 → (a ≡ 0 → ⊥) → (b ≡ 0 → ⊥) → a ≡ b
-    one zero b h i f g = absurd (f refl)
-    one (suc a) zero h i f g = absurd (g refl)
-    one (suc a) (suc b) h i f g = omega (arith, h, i)
+    (λ s. let f = eqb-false a 0 t in let g = eqb-false b 0 s in omega (arith, h, i, f, g)))
 
 -- a slot is one of the first three numbers of its row
 pub slot-number : (hs : ℕ) (k : Key) (m : ℕ) (ds : List Decl) → slotOf hs k m ds % 8 < 3

@@ -147,7 +147,7 @@ module _ {heads h s m : ℕ} {w left₀ left : List ℕ} (v : Walks heads w h le
       → Walks heads w h left₀ (8 * (l - 1) + side) (m + 1) after
   unfolding slotOf shed bitOf
   walks-on {l} {side} {after} d is some low u =
-      let one = positive l some in
+      let one : 1 ≤ l = omega (arith, some) in
       let j = u .side in
       let a = u .taken in
       record {
@@ -164,10 +164,6 @@ module _ {heads h s m : ℕ} {w left₀ left : List ℕ} (v : Walks heads w h le
             (ap (λ (x : ℕ). 8 * (l - 1) + x) (j ∙ ap (λ (x : List ℕ). sideOf (getD x (m / 32) 0 % 2)) b) ∙ ap (λ (x : ℕ). 8 * (x - 1) + sideOf (bitOf k m)) (sym y), deeper k ds (i .1) y);
       }
     where
-      positive : (a : ℕ) → (a ≡ 0 → ⊥) → 1 ≤ a
-      positive zero n = absurd (n refl)
-      positive (suc a) n = omega arith
-
       deeper : (k : Key) (ds : List Decl) → m ≤ depthOf heads k ds → nodeOf heads k m ds ≡ l → suc m ≤ depthOf heads k ds
       deeper k ds h e = by (leb (depthOf heads k ds) m)
           (λ t. absurd (some (sym e ∙ node-deep heads k m ds (leb-true (depthOf heads k ds) m t))))

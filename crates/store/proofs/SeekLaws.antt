@@ -2,7 +2,7 @@
 use mathlib.Core.Path.{_≡_, refl, sym, ap, _∙_, subst}
 use mathlib.Core.Bool.{Bool, true, false}
 use mathlib.Core.List.{List, [], _∷_}
-use Prim.Native.Nat.{ℕ, zero, suc, _+_, _-_, _*_, _/_, _%_, _≤_, _<_}
+use Prim.Native.Nat.{ℕ, suc, _+_, _-_, _*_, _/_, _%_, _≤_, _<_}
 use native.Mathlib.Numerals.{add-one}
 use native.Mathlib.Omega.{arith}
 use lib.ListN.{length, getD, set, length-set}
@@ -65,14 +65,8 @@ module _ (hs : ℕ) (k : Key) where
         (λ u v. besides
         (λ l t. by (eqb (depthOf hs k es) m)
         (λ y. let c = eqb-true (depthOf hs k es) m y in absurd (v c (subst (λ (b : ℕ). together hs b k (d .key) ≡ true) c t)))
-        (λ y. x (below (depthOf hs k es) m l (eqb-false (depthOf hs k es) m y)) t))
+        (λ y. let n = eqb-false (depthOf hs k es) m y in x (omega (arith, l, n)) t))
         (differs-on m r es ns (sym u ∙ e) z q))
-      where
-        below : (a b : ℕ) → a < suc b → (a ≡ b → ⊥) → a < b
-        below zero zero h n = absurd (n refl)
-        below zero (suc b) h n = omega arith
-        below (suc a) zero h n = absurd (omega (arith, h))
-        below (suc a) (suc b) h n = let i = below a b (omega (arith, h)) (λ e. n (ap suc e)) in omega (arith, i)
 
 -- ## What cannot be declared
 
@@ -174,13 +168,7 @@ module _ {key : ℕ → Key} {len : ℕ} {w : List ℕ} {k : Key} where
         on : {n : ℕ} {ds : List Decl} → Left key len w k l m n ds → suc m ≤ depthOf (headsOf len) k ds
         on {ds = ds} f = by (eqb m (depthOf (headsOf len) k ds))
             (λ t. let c = eqb-true m (depthOf (headsOf len) k ds) t in let z = node-deep (headsOf len) k m ds (omega (arith, c)) in let y = f .link in absurd (omega (arith, z, y, h)))
-            (λ t. let c = eqb-false m (depthOf (headsOf len) k ds) t in let y = f .to in less m (depthOf (headsOf len) k ds) y c)
-          where
-            less : (a b : ℕ) → a ≤ b → (a ≡ b → ⊥) → suc a ≤ b
-            less zero zero h n = absurd (n refl)
-            less zero (suc b) h n = omega arith
-            less (suc a) zero h n = absurd (omega (arith, h))
-            less (suc a) (suc b) h n = let i = less a b (omega (arith, h)) (λ e. n (ap suc e)) in omega (arith, i)
+            (λ t. let c = eqb-false m (depthOf (headsOf len) k ds) t in let y = f .to in omega (arith, y, c))
 
   -- ## The same with the bits that are left
 

@@ -118,11 +118,8 @@ module _ (hs : ℕ) where
       (λ t. let o = depth-on k d ds t in
       by (eqb (depthOf hs k ds) n)
       (λ q. let e = eqb-true (depthOf hs k ds) n q in absurd (v e (subst (λ (x : ℕ). together hs x k (d .key) ≡ true) e t)))
-      (λ q. let e = eqb-false (depthOf hs k ds) n q in let i = node-some k n ds (lower (depthOf hs k ds) n o h e) in omega (arith, i, u)))
+      (λ q. let e = eqb-false (depthOf hs k ds) n q in let i = node-some k n ds (omega (arith, o, h, e)) in omega (arith, i, u)))
       (λ t. let o = depth-off k d ds t in let i = node-some k n ds (omega (arith, o, h)) in omega (arith, i, u)))
-    where
-      lower : (a b : ℕ) → depthOf hs k (d ∷ ds) ≡ suc a → b < depthOf hs k (d ∷ ds) → (a ≡ b → ⊥) → b < a
-      lower a b o h e = by (leb a b) (λ t. let l = leb-true a b t in absurd (e (omega (arith, o, h, l)))) (λ t. leb-false a b t)
 
   pub node-none : (k : Key) (n : ℕ) (ds : List Decl) → nodeOf hs k n ds ≡ 0 → depthOf hs k ds ≤ n
   node-none k n ds e = by (leb (depthOf hs k ds) n) (λ t. leb-true (depthOf hs k ds) n t)
