@@ -15,6 +15,7 @@ use lines::Spot;
 use lines::Step;
 use lines::next_mark;
 use tokens::NameStep;
+use tokens::is_visible;
 use tokens::name_byte;
 use units::CodePoint;
 
@@ -70,16 +71,6 @@ fn is_inside(mode: u8) -> bool
     mode == 1 || mode == 3
 }
 
-// Whether a byte may stand in a name that is declared.
-fn visible(b: u8) -> bool
-    ensures { λ r. ⌜ r ≡ isVisible b ⌝ }
-{
-    if b < 33 {
-        return false;
-    }
-    b <= 126
-}
-
 // Whether a byte of a name is meant as it stands: it is visible, and no escape.
 fn stands(b: u8, escape: u8) -> bool
     ensures { λ r. ⌜ r ≡ standsIn escape b ⌝ }
@@ -87,7 +78,7 @@ fn stands(b: u8, escape: u8) -> bool
     if b == escape {
         return false;
     }
-    visible(b)
+    is_visible(b)
 }
 
 // Whether a byte of a name that is meant as it stands is at a place.
@@ -318,7 +309,7 @@ fn put(key: &mut [u32], n: usize, b: u8) -> usize
     ensures { λ r. ⌜ PutIs (now (key .entry)) n b (now (key .exit)) r ⌝ }
 {
     if n < 32 {
-        if visible(b) {
+        if is_visible(b) {
             let i = n / 4;
             let x = placed(b, n % 4);
             key[i] = key[i] + x;

@@ -161,7 +161,7 @@ pub fn name_byte(src: &[u8], g: Signs, p: Spot) -> NameStep
 }
 
 // Whether a byte may stand in a name.
-fn is_visible(b: u8) -> bool
+pub fn is_visible(b: u8) -> bool
     ensures { λ r. ⌜ r ≡ isVisible b ⌝ }
 {
     if b < 33 {

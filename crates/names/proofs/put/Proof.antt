@@ -5,8 +5,8 @@ use borrow.Author.Needs.{needs}
 use Rattle.names.proofs.put.Statement.{statement}
 use Rattle.names.proofs.put.Tie as tie
 
-visible-requires : tie.Need-visible-requires
-visible-requires c κs = search needs
+is-visible-requires : tie.Need-is-visible-requires
+is-visible-requires c κs = search needs
 
 placed-requires : tie.Need-placed-requires
 placed-requires c κs = search needs
@@ -34,7 +34,7 @@ same-length c = search needs
 
 returns : tie.Need-returns
 returns c = let v = c .before .before in let a = v .before .before .before .before .args in
-    put-more (a .key .now) (a .n) (a .b) (omega arith) (v .before .visible .ensures) (v .if2 .taken) (c .before .placed .ensures)
+    put-more (a .key .now) (a .n) (a .b) (omega arith) (v .before .is-visible .ensures) (v .if2 .taken) (c .before .placed .ensures)
 
 returns-2 : tie.Need-returns-2
 returns-2 c = search put-foul
@@ -46,7 +46,7 @@ pub put-spec : {M : Type 1} → statement M
 put-spec =
     tie.close
     (tie.spec
-    visible-requires
+    is-visible-requires
     placed-requires
     mul-key
     slice-read-key

@@ -7,11 +7,11 @@ use Rattle.names.proofs.stands.Tie as tie
 returns : tie.Need-returns
 returns c = search stands-escape
 
-visible-requires : tie.Need-visible-requires
-visible-requires c κs = search needs
+is-visible-requires : tie.Need-is-visible-requires
+is-visible-requires c κs = search needs
 
 returns-2 : tie.Need-returns-2
 returns-2 c = search stands-else
 
 pub stands-spec : {M : Type 1} → statement M
-stands-spec = tie.close (tie.spec returns visible-requires returns-2)
+stands-spec = tie.close (tie.spec returns is-visible-requires returns-2)
