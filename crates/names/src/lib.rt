@@ -5,7 +5,6 @@ ghost use mathlib.Core.List.{[]};
 ghost use Prim.Native.Nat.{_+_, _*_, _%_, _^_, _≤_, _<_};
 ghost use lib.ListN.{length, drop, replicate};
 ghost use Rattle.rules.specs.Text.{same};
-ghost use Rattle.rules.specs.Names.{isVisible};
 ghost use Rattle.tokens.specs.Left.{isInside};
 ghost use Rattle.names.specs.Named.{nameLeft, hexOf, MadeIs, DigitsAre, CodeIs, NamedIs};
 ghost use Rattle.names.specs.Shape.{standsIn, standsAt, isApart, shortOf, shapeOf};
