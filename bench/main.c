@@ -580,11 +580,11 @@ static void compile_table(void)
     compile_row("100 lines that name a symbol joined over 512 KiB", &source, 0);
 }
 
-/* How many times smaller than the largest the hostile sources are: 16, or what the variable PART says. */
+/* How many times smaller than the largest the hostile sources are: 1, or what the variable PART says. */
 static size_t part(void)
 {
     const char *word = getenv("PART");
-    long number = word == NULL ? 16 : strtol(word, NULL, 10);
+    long number = word == NULL ? 1 : strtol(word, NULL, 10);
     if (number < 1 || number > 64)
         fail("PART is 1 to 64, not", word);
     return (size_t)number;

@@ -4,11 +4,16 @@ use mathlib.Core.List.{List, _∷_}
 use Prim.Native.Nat.{ℕ, _+_, _*_, _/_, _^_, _≤_, _<_}
 use native.Mathlib.Omega.{arith}
 use lib.ListN.{length, set, length-set}
+use lib.Dec.{eqb}
+use borrow.Author.Tests.{eqb-true, eqb-false}
+use Rattle.lists.proofs.Bools.{by}
 use Rattle.rows.specs.Cells.{cellAt}
 use Rattle.rows.proofs.CellLaws.{cell-told}
 use Rattle.subjects.specs.Keys.{Key}
-use Rattle.store.specs.Store.{fresh, Roomy, Declares}
-use Rattle.store.proofs.AreaLaws.{other, holds-told}
+use Rattle.subjects.specs.Numbers.{kindOf}
+use Rattle.store.specs.Store.{fresh, aboveOf, Roomy, Declares}
+use Rattle.store.proofs.AreaLaws.{other, above-name, above-other, free-name, holds-told}
+use Rattle.store.proofs.ListLaws.{isPlace-fresh, isPlace-older, five-older, five-later, five-named}
 use Rattle.compounds.specs.Compounds.{DeclaresBoth}
 
 -- the area stays roomy
@@ -19,19 +24,40 @@ both-roomy r d = record { few = r .few; room = rw (d .long) (r .room) }
 pub both-fits : {len : ℕ} {w : List ℕ} (q : ℕ) → Roomy len w → q / 2 ≤ len → q < 2 ^ 32
 both-fits q r h = omega (arith, r .few, h)
 
+-- no key takes more than one row before its own
+above-few : (kind : ℕ) → aboveOf kind ≤ 1
+above-few kind =
+    by (eqb kind 1)
+    (λ t. let i = above-name kind (eqb-true kind 1 t) in omega (arith, i))
+    (λ t. let i = above-other kind (eqb-false kind 1 t) in omega (arith, i))
+
 module _ {key : ℕ → Key} {len : ℕ} {w w₁ w₂ : List ℕ} {v q : ℕ} (r : Roomy len w) (d : Declares key len w v w₁) (e : Declares key len w₁ q w₂)
     (within : v / 2 ≤ len) where
   -- the row of the name
   pub both-row : 8 * (v / 16) + 8 ≤ length w₂
   both-row = omega (arith, r .room, d .long, e .long)
 
+  -- the quotes take their own row alone
+  not-name : kindOf (key q) ≡ 2 → aboveOf (kindOf (key q)) ≡ 0
+  not-name z = above-other (kindOf (key q)) (λ i. omega (arith, i, z))
+
   declares-both : v / 16 + 1 ≤ q / 16 → DeclaresBoth key len w v q (set w₂ (cellAt v 0) q)
   declares-both later =
       record {
-        is = λ n ds h l a b c f. holds-told v 0 q (omega arith) (e .is (v / 16 + 1) (fresh key v ∷ ds) (d .is n ds h l a b) later c f);
+        is = λ n ds h l x a b y c f.
+            let i = above-name (kindOf (key v)) x in
+            let j = not-name y in
+            holds-told v 0 q (omega arith) (isPlace-older key q (fresh key v ∷ ds) v (isPlace-fresh key v ds)) (free-name (kindOf (key v)) v 0 (omega arith) x (omega (arith, l)))
+            (e .is (v / 16 + 1) (fresh key v ∷ ds) (d .is n ds h (omega (arith, l, i)) a b) (omega (arith, later, j)) c f);
         long = length-set w₂ (cellAt v 0) q ∙ e .long ∙ d .long;
         chars = cell-told w₂ v 0 q (omega arith) both-row;
-        five = λ u k c n. other w₂ (cellAt v 0) (cellAt u k) q (λ z. n (omega (arith, z, c)) (omega (arith, z, c))) ∙ e .five u k c ∙ d .five u k c;
+        own = λ k a c o x y. other w₂ (cellAt v 0) (cellAt v k) q (λ z. omega (arith, z, a))
+            ∙ five-older e v k c (let j = not-name y in omega (arith, later, j)) ∙ five-named d k c x o;
+        before = λ u k c b. other w₂ (cellAt v 0) (cellAt u k) q (λ z. omega (arith, z, c, b))
+            ∙ five-older e u k c (let j = above-few (kindOf (key q)) in omega (arith, later, b, j))
+            ∙ five-older d u k c (let j = above-few (kindOf (key v)) in omega (arith, b, j));
+        after = λ u k c b. other w₂ (cellAt v 0) (cellAt u k) q (λ z. omega (arith, z, c, b, later))
+            ∙ five-later e u k c b ∙ five-later d u k c (omega (arith, b, later));
         beyond = λ i b. other w₂ (cellAt v 0) i q (λ z. omega (arith, z, b, within)) ∙ e .beyond i b ∙ d .beyond i b;
       }
 

@@ -20,7 +20,7 @@ use Rattle.operands.specs.Operand.{operandsLeft}
 use Rattle.names.specs.Named.{nameLeft}
 use Rattle.rows.specs.Cells.{cell}
 use Rattle.subjects.specs.Keys.{Key, chars, keyAt}
-use Rattle.subjects.specs.Numbers.{isDeclarable}
+use Rattle.subjects.specs.Numbers.{isDeclarable, kindOf}
 use Rattle.store.specs.declared.Found.the-variants.{Nothing}
 use Rattle.store.specs.Store.{Decl, first, knownIn, fresh, headsOf, Holds}
 use Rattle.listed.specs.Listed.{charsNumber}
@@ -136,14 +136,16 @@ abbrev pub ElementChecked : Signs → List ℕ → Spot → List ℕ → Element
 ElementChecked g src p w (element.Declared v q) = ElementAt g src p w v q
 ElementChecked g src p w (element.Refused r) = ElementNot g src p w r
 
--- What stands at v and at q is declared, if it can be and was not yet, and the row of v tells q; the other of the five numbers of every row stay, and so does what is behind
--- the rows.
+-- The name at v and the quotes at q are declared, if they can be and were not yet, and the row of v tells q; the other numbers of that row stay, so do the five of the rows
+-- before and behind those that the two take, and what is behind the rows.
 pub record DeclaresBoth (key : ℕ → Key) (len : ℕ) (w : List ℕ) (v q : ℕ) (w′ : List ℕ) : Type 0 where
-  pub is : (n : ℕ) (ds : List Decl) → Holds key len w n ds → n ≤ v / 16 → isDeclarable (key v) ≡ true → first (key v) ds ≡ Nothing
-      → isDeclarable (key q) ≡ true → first (key q) (fresh key v ∷ ds) ≡ Nothing → Holds key len w′ (q / 16 + 1) (fresh key q ∷ fresh key v ∷ ds)
+  pub is : (n : ℕ) (ds : List Decl) → Holds key len w n ds → n + 1 ≤ v / 16 → kindOf (key v) ≡ 1 → isDeclarable (key v) ≡ true → first (key v) ds ≡ Nothing
+      → kindOf (key q) ≡ 2 → isDeclarable (key q) ≡ true → first (key q) (fresh key v ∷ ds) ≡ Nothing → Holds key len w′ (q / 16 + 1) (fresh key q ∷ fresh key v ∷ ds)
   pub long : length w′ ≡ length w
   pub chars : cell w′ v charsNumber ≡ q
-  pub five : (u k : ℕ) → k < 5 → (u / 16 ≡ v / 16 → k ≡ charsNumber → ⊥) → cell w′ u k ≡ cell w u k
+  pub own : (k : ℕ) → 1 ≤ k → k < 5 → 1 ≤ v / 16 → kindOf (key v) ≡ 1 → kindOf (key q) ≡ 2 → cell w′ v k ≡ cell w v k
+  pub before : (u k : ℕ) → k < 5 → u / 16 + 1 < v / 16 → cell w′ u k ≡ cell w u k
+  pub after : (u k : ℕ) → k < 5 → q / 16 < u / 16 → cell w′ u k ≡ cell w u k
   pub beyond : (i : ℕ) → 8 * headsOf len ≤ i → getD w′ i 0 ≡ getD w i 0
 
 -- what the line leaves: its name and its characters declared; or its refusal, and the area as it was

@@ -2,7 +2,7 @@
 use mathlib.Core.Path.{_≡_, refl, sym, ap, _∙_, subst}
 use mathlib.Core.Bool.{Bool, true, false, not, _&&_, _||_, false≢true}
 use mathlib.Core.List.{List, [], _∷_, map}
-use Prim.Native.Nat.{ℕ, _+_, _/_, _≤_, _<_}
+use Prim.Native.Nat.{ℕ, _+_, _/_, _%_, _≤_, _<_}
 use native.Mathlib.Omega.{arith}
 use lib.ListN.{length}
 use lib.Dec.{eqb, leb}
@@ -21,17 +21,18 @@ use Rattle.lines.specs.declared.Spot.{Spot}
 use Rattle.lines.specs.declared.LineEnd.{LineEnd}
 use Rattle.tokens.specs.Left.{tokensLeft}
 use Rattle.subjects.specs.Keys.{Key, item, chars, keyAt, sameKey}
-use Rattle.subjects.specs.Numbers.{isDeclarable}
+use Rattle.subjects.specs.Numbers.{isDeclarable, kindOf}
 use Rattle.subjects.proofs.NumberLaws.{chars-declarable}
 use Rattle.store.specs.Store.{Decl, first, knownIn, isPlace, fresh, Holds, Sound}
 use Rattle.store.specs.declared.Found.the-variants.{Nothing}
-use Rattle.store.proofs.ListLaws.{first-fresh-other, isPlace-older, place-new}
+use Rattle.store.proofs.ListLaws.{first-fresh-other, isPlace-older, place-below}
 use Rattle.rows.specs.Cells.{cell}
 use Rattle.listed.specs.declared.Order.{Order}
 use Rattle.listed.specs.Listed.{charsNumber}
-use Rattle.known.specs.Known.{declaredAt, Says, elements, Known}
-use Rattle.known.proofs.GrownLaws.{known-grown}
-use Rattle.known.proofs.NewLaws.{says-on}
+use Rattle.known.specs.Known.{declaredAt, Says, elements, isRow, Known}
+use Rattle.known.proofs.MarkLaws.{row-by}
+use Rattle.known.proofs.GrownLaws.{Grown, known-grown}
+use Rattle.known.proofs.NewLaws.{says-on, kind-name}
 use Rattle.symbols.specs.Symbols.{isNewIn}
 use Rattle.compounds.specs.declared.Element.{Element}
 use Rattle.compounds.specs.declared.Element.the-variants as answer
@@ -49,55 +50,66 @@ use Rattle.declaring.proofs.DeclareLaws.{says-alike, first-none, new-un
 
 -- ## What is known after it
 
--- neither of the two marks is 0
-two-some : (key : ℕ → Key) (v q : ℕ) (ds : List Decl) (u : ℕ) → isPlace u (fresh key q ∷ fresh key v ∷ ds) ≡ true → isPlace u ds ≡ false → 1 ≤ v → 1 ≤ q → 1 ≤ u
-unfolding isPlace
-two-some key v q ds u p z a b =
-    by (eqb q u)
-    (λ t. let e = eqb-true q u t in omega (arith, e, b))
-    (λ t. by (eqb v u) (λ s. let e = eqb-true v u s in omega (arith, e, a)) (λ s. absurd (false≢true (sym z ∙ rw (t, s) at p))))
-
 -- what is declared at two marks more: one of them, or what was before
-two-newer : (key : ℕ → Key) (v q : ℕ) (ds : List Decl) (u n : ℕ) → isPlace u (fresh key q ∷ fresh key v ∷ ds) ≡ true → isPlace u ds ≡ false
-    → n ≤ v / 16 → v / 16 ≤ q / 16 → n ≤ u / 16
+two-by : {P : Type 0} (key : ℕ → Key) (v q : ℕ) (ds : List Decl) (u : ℕ) → isPlace u (fresh key q ∷ fresh key v ∷ ds) ≡ true → isPlace u ds ≡ false
+    → (u ≡ q → P) → (u ≡ v → P) → P
 unfolding isPlace
-two-newer key v q ds u n p z a b =
+two-by key v q ds u p z f g =
     by (eqb q u)
-    (λ t. let i = eqb-true q u t in omega (arith, i, a, b))
-    (λ t. by (eqb v u)
-    (λ y. let i = eqb-true v u y in omega (arith, i, a))
-    (λ y. clash (rw (t, y) at p) z))
+    (λ t. f (sym (eqb-true q u t)))
+    (λ t. by (eqb v u) (λ y. g (sym (eqb-true v u y))) (λ y. clash (rw (t, y) at p) z))
 
 module _ (g : Signs) (src w : List ℕ) (o : Order) (rs : List Rule) (n : ℕ) (cs : List Declaration) (ls : List OrderLine) (k : Known g src w o rs n cs ls)
-    (v q : ℕ) (w′ : List ℕ) (d : DeclaresBoth (keyAt g src) (length src) w v q w′) (room : n ≤ v / 16) (later : v / 16 + 1 ≤ q / 16) (first-some : 1 ≤ v) where
-  -- the rows that were in use keep the first of their numbers
-  kept : (u : ℕ) → isPlace u (k .ds) ≡ true → cell w′ u charsNumber ≡ cell w u charsNumber
-  kept u p =
-      d .five u charsNumber (omega arith) (λ z i. false≢true (sym (place-new (k .holds) u (omega (arith, z, room))) ∙ p))
+    (v q : ℕ) (w′ : List ℕ) (d : DeclaresBoth (keyAt g src) (length src) w v q w′) (room : n + 1 ≤ v / 16) (later : v / 16 + 1 ≤ q / 16) (inside : q / 2 ≤ length src) where
+  -- the five numbers of what was declared stay
+  kept : (u j : ℕ) → isPlace u (k .ds) ≡ true → j < 5 → cell w′ u j ≡ cell w u j
+  kept u j p c = d .before u j c (let b = place-below (k .holds) u p in omega (arith, b, room))
 
-  pub known-element-new : (m xs : List ℕ) → keyAt g src v ≡ item (named m) → keyAt g src q ≡ chars xs → 1 ≤ q
-      → isDeclarable (item (named m)) ≡ true → isDeclarable (chars xs) ≡ true → first (item (named m)) (k .ds) ≡ Nothing → first (chars xs) (k .ds) ≡ Nothing → Known g src w′ o rs (q / 16 + 1) (element m xs ∷ cs) ls
-  unfolding sameKey
-  known-element-new m xs e f some fit fits a b =
-      let key = keyAt g src in
-      let can = ap isDeclarable e ∙ fit in
-      let new = ap (λ (x : Key). first x (k .ds)) e ∙ a in
-      let more = ap isDeclarable f ∙ fits in
-      let later-new = ap (λ (x : Key). first x (fresh key v ∷ k .ds)) f ∙ first-fresh-other key v (k .ds) (chars xs) (rw e) ∙ b in
-      let before = says-on w w′ (k .ds) cs kept (k .says) in
-      known-grown g src w o rs n cs ls k w′ (q / 16 + 1) (fresh key q ∷ fresh key v ∷ k .ds) (element m xs ∷ cs)
-      (d .is n (k .ds) (k .holds) room can new more later-new)
-      (subst (λ (x : Key). Says w′ (declaredAt x q ∷ fresh key v ∷ k .ds) (element m xs ∷ cs)) (sym f)
-      (subst (λ (x : Key). Says w′ (declaredAt (chars xs) q ∷ declaredAt x v ∷ k .ds) (element m xs ∷ cs)) (sym e) (elements (d .chars) some before)))
-      (record {
-        long = d .long;
-        four = λ u j h i c. d .five u j c (λ z y. omega (arith, y, i));
-        rest = λ u h i. d .five u charsNumber (omega arith) (λ z y. omega (arith, z, h, later));
-        rows = omega (arith, room, later);
-        older = λ u p. isPlace-older key q (fresh key v ∷ k .ds) u (isPlace-older key v (k .ds) u p);
-        some = λ u p z. two-some key v q (k .ds) u p z first-some (omega (arith, later));
-        newer = λ u p z. two-newer key v q (k .ds) u n p z room (omega (arith, later));
-      })
+  -- and those of the rows of order lines
+  pub element-older : (u j : ℕ) → isRow (length src) (k .ds) u ≡ true → j < 5 → cell w′ u j ≡ cell w u j
+  element-older u j r c = row-by (length src) (k .ds) u r (λ p e. kept u j p c) (λ z. d .after u j c (omega (arith, z, inside)))
+
+  module _ (first-some : 1 ≤ v) (m xs : List ℕ) (name : keyAt g src v ≡ item (named m)) (quotes : keyAt g src q ≡ chars xs) (odd : q % 2 ≡ 1) where
+    kind-quotes : kindOf (keyAt g src q) ≡ 2
+    unfolding kindOf
+    kind-quotes = rw quotes
+
+    grown : Grown (length src) w w′ n (q / 16 + 1) (k .ds) (fresh (keyAt g src) q ∷ fresh (keyAt g src) v ∷ k .ds)
+    grown =
+        let key = keyAt g src in
+        let ds = fresh key q ∷ fresh key v ∷ k .ds in
+        record {
+          long = d .long;
+          four = λ u j r b c.
+              row-by (length src) ds u r
+              (λ p e. by (isPlace u (k .ds))
+              (λ t. kept u j t c)
+              (λ t. two-by key v q (k .ds) u p t
+              (λ z. absurd (let x = ap (λ (y : ℕ). y % 2) z in omega (arith, x, e, odd)))
+              (λ z. subst (λ (x : ℕ). cell w′ x j ≡ cell w x j) (sym z) (d .own j b c (omega (arith, room)) (kind-name name) kind-quotes))))
+              (λ z. d .after u j c (omega (arith, z, inside)));
+          rest = λ u j a b c. d .after u j c (omega (arith, a));
+          rows = omega (arith, room, later);
+          older = λ u p. isPlace-older key q (fresh key v ∷ k .ds) u (isPlace-older key v (k .ds) u p);
+          newer = λ u p z. two-by key v q (k .ds) u p z (λ e. omega (arith, e, room, later)) (λ e. omega (arith, e, room));
+          some = λ u p z. two-by key v q (k .ds) u p z (λ e. omega (arith, e, later)) (λ e. omega (arith, e, first-some));
+        }
+
+    pub known-element-new : isDeclarable (item (named m)) ≡ true → isDeclarable (chars xs) ≡ true → first (item (named m)) (k .ds) ≡ Nothing → first (chars xs) (k .ds) ≡ Nothing
+        → Known g src w′ o rs (q / 16 + 1) (element m xs ∷ cs) ls
+    unfolding sameKey
+    known-element-new fit fits a b =
+        let key = keyAt g src in
+        let can = ap isDeclarable name ∙ fit in
+        let new = ap (λ (x : Key). first x (k .ds)) name ∙ a in
+        let more = ap isDeclarable quotes ∙ fits in
+        let later-new = ap (λ (x : Key). first x (fresh key v ∷ k .ds)) quotes ∙ first-fresh-other key v (k .ds) (chars xs) (rw name) ∙ b in
+        let before = says-on w w′ (k .ds) cs (λ u p. kept u charsNumber p (omega arith)) (k .says) in
+        known-grown g src w o rs n cs ls k w′ (q / 16 + 1) (fresh key q ∷ fresh key v ∷ k .ds) (element m xs ∷ cs)
+        (d .is n (k .ds) (k .holds) room (kind-name name) can new kind-quotes more later-new)
+        (subst (λ (x : Key). Says w′ (declaredAt x q ∷ fresh key v ∷ k .ds) (element m xs ∷ cs)) (sym quotes)
+        (subst (λ (x : Key). Says w′ (declaredAt (chars xs) q ∷ declaredAt x v ∷ k .ds) (element m xs ∷ cs)) (sym name) (elements (d .chars) (omega (arith, odd)) before)))
+        grown
 
 -- ## What is accepted is new and can be declared
 
@@ -196,7 +208,6 @@ module _ (g : Signs) (src : List ℕ) (at : ℕ) (p : Spot) (e : LineEnd) (l : O
             let m = theName (tokenAt left 0) in
             let xs = charsIn left in
             let far = element-behind v (b .mark .behind) in
-            let odd = b .quotes .odd in
             record {
               is = λ number depth. record {
                 moves = line-moves l;
@@ -209,9 +220,11 @@ module _ (g : Signs) (src : List ℕ) (at : ℕ) (p : Spot) (e : LineEnd) (l : O
                       outcome = line-accepted l w sh number o u x (paper (b .refusal .is) number o) (element-state s number);
                       held = open-declared g src w sh cs at s o (l .first .inside) (e .next) w′ (q / 16 + 1) (element m xs ∷ s .declared) declares (let i = line-moves l .on in omega (arith, i))
                           (known-element-new g src w (sh .order) (s .ordered .rules) (o .n) (s .declared) (s .ordered .lines) k v q w′ c
-                          (omega (arith, rows, far)) (b .quotes .later) (let y = b .mark .behind in omega (arith, y)) m xs (b .mark .key) (b .quotes .key) (omega (arith, odd))
+                          (omega (arith, rows, far)) (b .quotes .later) (b .quotes .within) (let y = b .mark .behind in omega (arith, y)) m xs (b .mark .key) (b .quotes .key) (b .quotes .odd)
                           (n .fit) (n .fits) (first-none (item (named m)) (k .ds) (n .name)) (first-none (chars xs) (k .ds) (n .quotes)))
-                          (c .long) (λ u j h i r. c .five u j r (λ z y. omega (arith, y, i))) (c .beyond) (λ h. let r = line-reaches l (b .quotes .room) h in omega (arith, r));
+                          (c .long)
+                          (element-older g src w (sh .order) (s .ordered .rules) (o .n) (s .declared) (s .ordered .lines) k v q w′ c
+                          (omega (arith, rows, far)) (b .quotes .later) (b .quotes .within)) (c .beyond) (λ h. let r = line-reaches l (b .quotes .room) h in omega (arith, r));
                     };
               };
             }

@@ -23,13 +23,13 @@ use Rattle.tokens.specs.Left.{tokensLeft}
 use Rattle.opening.proofs.OpenLaws.{left-some}
 use Rattle.names.specs.Packed.{isPlain}
 use Rattle.subjects.specs.Keys.{Key, item, chars, keyAt}
-use Rattle.subjects.specs.Numbers.{isDeclarable}
+use Rattle.subjects.specs.Numbers.{isDeclarable, kindOf}
 use Rattle.subjects.proofs.NumberLaws.{name-declarable}
-use Rattle.store.specs.Store.{Decl, first, isFound, knownIn, Holds, Sound, Declares}
+use Rattle.store.specs.Store.{Decl, first, isFound, knownIn, aboveOf, Holds, Sound, Declares}
 use Rattle.store.specs.declared.Found.{Found}
 use Rattle.store.specs.declared.Found.the-variants.{At, Nothing}
 use Rattle.known.specs.Known.{declaredAt, Says, none, symbols, elements, characters}
-use Rattle.known.proofs.NewLaws.{known-symbol-new}
+use Rattle.known.proofs.NewLaws.{name-above, declared-older, known-symbol-new}
 use Rattle.symbols.specs.declared.Symbol.{Symbol}
 use Rattle.symbols.specs.declared.Symbol.the-variants as answer
 use Rattle.symbols.specs.Symbols.{isNewIn, Alike, symbolRefusal, Reaches, SymbolAt, SymbolNot, SymbolIs}
@@ -173,13 +173,19 @@ module _ (g : Signs) (src : List ℕ) (at : ℕ) (p : Spot) (e : LineEnd) (l : O
                     let new = symbol-new (k .ds) left (b .refusal .is (o .n) (k .ds) (k .holds)) in
                     let n = new-unknown (k .ds) m (new .0) in
                     let rows : o .n ≤ (at + 5) / 8 = rw declares at (o .rows (l .first .inside)) in
+                    let above = name-above (b .mark .key) in
+                    let room : o .n + aboveOf (kindOf (keyAt g src v)) ≤ v / 16 = omega (arith, rows, far, above) in
+                    let can = ap isDeclarable (b .mark .key) ∙ new .1 in
+                    let none = first-none (keyAt g src v) (k .ds) (ap (λ (q : Key). knownIn q (k .ds)) (b .mark .key) ∙ n) in
+                    let some : 1 ≤ v = let y = b .mark .behind in omega (arith, y) in
                     record {
                       after = withDeclared s (symbol m ∷ s .declared);
                       outcome = line-accepted l w sh number o u x (paper (b .refusal .is) number o) (symbol-state s number);
                       held = open-declared g src w sh cs at s o (l .first .inside) (e .next) w′ (v / 16 + 1) (symbol m ∷ s .declared) declares (let i = line-moves l .on in omega (arith, i))
                           (known-symbol-new g src w (sh .order) (s .ordered .rules) (o .n) (s .declared) (s .ordered .lines) k v w′ c
-                          (omega (arith, rows, far)) (b .mark .within) (ap isDeclarable (b .mark .key) ∙ new .1) (first-none (keyAt g src v) (k .ds) (ap (λ (q : Key). knownIn q (k .ds)) (b .mark .key) ∙ n)) (let y = b .mark .behind in omega (arith, y)) m (b .mark .key))
-                          (c .long) (λ u j h i r. c .five u j r) (c .beyond) (λ h. let q = line-reaches l (b .mark .room) h in omega (arith, q));
+                          room (b .mark .within) can none some m (b .mark .key))
+                          (c .long)
+                          (declared-older g src w (sh .order) (s .ordered .rules) (o .n) (s .declared) (s .ordered .lines) k v w′ c room (b .mark .within) can none some) (c .beyond) (λ h. let q = line-reaches l (b .mark .room) h in omega (arith, q));
                     };
               };
             }

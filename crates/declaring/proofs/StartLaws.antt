@@ -1,13 +1,12 @@
 -- order_start: what it does before the order, and its refusal.
 use mathlib.Core.Path.{_≡_, refl, sym, ap, _∙_, subst}
-use mathlib.Core.Bool.{Bool, true, false}
+use mathlib.Core.Bool.{true, false}
 use mathlib.Core.List.{List, [], map}
 use Prim.Native.Nat.{ℕ, _+_, _≤_, _<_}
 use native.Mathlib.Omega.{arith}
 use lib.ListN.{length, length-map}
 use borrow.Author.Tests.{ne-eqb}
 use Rattle.rules.specs.Text.{bytes, _unless_, lower}
-use Rattle.rules.specs.Lines.{outside}
 use Rattle.rules.specs.Tokens.{Token, operands, tokensRefusal}
 use Rattle.rules.specs.State.{inOrder, State, withOrdered, toPhase, Outcome}
 use Rattle.rules.specs.OrderLines.{ruleOf, ruleCodes, orderStartLine}

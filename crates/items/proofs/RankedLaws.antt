@@ -1,11 +1,12 @@
 -- The work area once every order line has its rank: it holds what it held, and the ranks in it are those of the paper.
 use mathlib.Core.Path.{_≡_, refl, sym, ap, _∙_}
-use mathlib.Core.Bool.{Bool·not-not}
+use mathlib.Core.Bool.{true, Bool·not-not}
 use mathlib.Core.List.{List, [], _∷_}
 use Prim.Native.Nat.{ℕ, suc}
 use native.Mathlib.Omega.{arith}
 use lib.ListN.{length, set}
 use lib.Dec.{leb, eqb}
+use Rattle.lists.proofs.Lists.{All}
 use Rattle.rules.specs.Text.{every}
 use Rattle.rules.specs.Tokens.{operands}
 use Rattle.rules.specs.Meaning.{Rule}
@@ -15,16 +16,15 @@ use Rattle.rules.specs.Compile.{lineRanks, isRanked}
 use Rattle.lines.specs.declared.Signs.{Signs}
 use Rattle.tokens.specs.Left.{tokensLeft}
 use Rattle.rows.specs.Cells.{cellAt, cell}
-use Rattle.subjects.specs.Keys.{Key, item, keyAt}
+use Rattle.subjects.specs.Keys.{item, keyAt}
 use Rattle.store.specs.Store.{Decl, first, Roomy, Holds, undefinedMark}
 use Rattle.store.specs.declared.Found.{Found}
 use Rattle.store.specs.declared.Found.the-variants.{At, Nothing}
-use Rattle.store.proofs.AreaLaws.{holds-told}
 use Rattle.listed.specs.declared.Order.{Order}
 use Rattle.listed.specs.Listed.{lineNumber, placeNumber, rankNumber, Lines, ranked}
-use Rattle.listed.proofs.ListLaws.{lines-other}
-use Rattle.known.specs.Known.{subjectAt, behind, lineAt, IsListed, Known}
-use Rattle.known.proofs.MarkLaws.{mark-name, mark-undefined, subject-marked}
+use Rattle.listed.proofs.ListLaws.{all-map, lines-other}
+use Rattle.known.specs.Known.{subjectAt, behind, lineAt, isRow, IsListed, Known}
+use Rattle.known.proofs.MarkLaws.{holds-row, mark-name, mark-undefined, subject-marked}
 use Rattle.known.proofs.RankLaws.{ranked-other, ranked-length, rankAt, rank-none, rank-given}
 use Rattle.ranks.specs.Ranks.{rankFound, rankIn, levelRanks}
 use Rattle.ranks.specs.Reading.{lineOperands, ranksAt, itemRanks}
@@ -34,10 +34,12 @@ use Rattle.items.specs.Items.{isWeighed}
 -- ## What stays
 
 -- ranks are no part of the store
-pub holds-given : {key : ℕ → Key} {len n : ℕ} {ds : List Decl} (w : List ℕ) (k : ℕ) (us : List ℕ) → Holds key len w n ds → Holds key len (ranked w k us) n ds
+holds-given : (g : Signs) (src : List ℕ) {n : ℕ} {ds : List Decl} (w : List ℕ) (k : ℕ) (us : List ℕ) → All (λ (u : ℕ). isRow (length src) ds u ≡ true) us
+    → Holds (keyAt g src) (length src) w n ds → Holds (keyAt g src) (length src) (ranked w k us) n ds
 unfolding ranked
-holds-given w k [] h = h
-holds-given w k (u ∷ us) h = holds-given (set w (cellAt u rankNumber) k) (suc k) us (holds-told u rankNumber k (omega arith) h)
+holds-given g src w k [] a h = h
+holds-given g src w k (u ∷ us) a h =
+    holds-given g src (set w (cellAt u rankNumber) k) (suc k) us (a .1) (holds-row g src u rankNumber k (a .0) (omega arith) (omega arith) h)
 
 -- nor links of the list
 pub lines-given : (w : List ℕ) (k : ℕ) (us : List ℕ) (o : Order) (vs : List ℕ) → Lines w o vs → Lines (ranked w k us) o vs
@@ -66,7 +68,9 @@ module _ (g : Signs) (src w : List ℕ) (o : Order) (rs : List Rule) (n : ℕ) (
   given-length = ranked-length w 1 (k .marks)
 
   pub holds-ranked : Holds (keyAt g src) (length src) given n (k .ds)
-  holds-ranked = holds-given w 1 (k .marks) (k .holds)
+  holds-ranked =
+      holds-given g src w 1 (k .marks)
+      (all-map (IsListed g src w (k .ds)) (λ (u : ℕ). isRow (length src) (k .ds) u ≡ true) (k .marks) (λ u l. l .row) (k .listed)) (k .holds)
 
   pub roomy-ranked : Roomy (length src) given
   roomy-ranked = holds-ranked .roomy

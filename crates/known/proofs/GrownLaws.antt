@@ -1,12 +1,11 @@
 -- More declarations: what is known after them. And what is known where other rooms write behind the rows.
 use mathlib.Core.Path.{_≡_, refl, sym, _∙_, subst}
-use mathlib.Core.Bool.{Bool, true, false, _||_, or-true, false≢true}
+use mathlib.Core.Bool.{true, false, false≢true}
 use mathlib.Core.List.{List, [], _∷_, map}
-use Prim.Native.Nat.{ℕ, zero, suc, _+_, _/_, _≤_, _<_}
+use Prim.Native.Nat.{ℕ, _/_, _≤_, _<_}
 use native.Mathlib.Omega.{arith}
 use lib.ListN.{length, replicate}
 use lib.Dec.{eqb}
-use borrow.Author.Tests.{eqb-true}
 use Rattle.lists.proofs.Bools.{by}
 use Rattle.lists.proofs.Lists.{All}
 use Rattle.rules.specs.Text.{oneOf}
@@ -17,14 +16,14 @@ use Rattle.lines.specs.declared.Signs.{Signs}
 use Rattle.tokens.specs.Left.{tokensLeft}
 use Rattle.rows.specs.Cells.{cellAt, cell}
 use Rattle.subjects.specs.Keys.{keyAt}
-use Rattle.store.specs.Store.{Decl, first, isPlace, Roomy, Holds, undefinedMark}
+use Rattle.store.specs.Store.{Decl, first, isPlace, Roomy, Holds}
 use Rattle.store.proofs.AreaLaws.{zeros, holds-none}
 use Rattle.store.proofs.ListLaws.{isPlace-none, place-within}
 use Rattle.listed.specs.declared.Order.{Order}
-use Rattle.listed.specs.Listed.{charsNumber, lineNumber, placeNumber, nextNumber, rankNumber, backNumber, Linked, ends, goes, Backed, begins, comes, Spread, lastOf}
+use Rattle.listed.specs.Listed.{lineNumber, placeNumber, nextNumber, rankNumber, backNumber, Linked, ends, goes, Backed, begins, comes, Spread, lastOf}
 use Rattle.listed.proofs.ListLaws.{row-kept}
 use Rattle.known.specs.Known.{Says, none, behind, lineAt, isRow, Accepted, IsListed, Known}
-use Rattle.known.proofs.MarkLaws.{row-in}
+use Rattle.known.proofs.MarkLaws.{row-place, row-undefined, row-by}
 
 -- ## Before the first line
 
@@ -49,11 +48,11 @@ known-start g src w rs r = record {
 
 -- ## More declarations
 
--- What more declarations leave of the area: four of the five numbers of every row, and what they do to the list.
+-- What more declarations leave of the area: four of the five numbers of every row of an order line, all five of the rows behind, and what they do to the list.
 pub record Grown (len : ℕ) (w w′ : List ℕ) (n n′ : ℕ) (ds ds′ : List Decl) : Type 0 where
   pub long : length w′ ≡ length w
-  pub four : (u j : ℕ) → u / 16 ≤ len / 8 + 1 → 1 ≤ j → j < 5 → cell w′ u j ≡ cell w u j
-  pub rest : (u : ℕ) → n′ ≤ u / 16 → u / 16 ≤ len / 8 → cell w′ u charsNumber ≡ cell w u charsNumber
+  pub four : (u j : ℕ) → isRow len ds′ u ≡ true → 1 ≤ j → j < 5 → cell w′ u j ≡ cell w u j
+  pub rest : (u j : ℕ) → n′ ≤ u / 16 → u / 16 ≤ len / 8 → j < 5 → cell w′ u j ≡ cell w u j
   pub rows : n ≤ n′
   pub older : (u : ℕ) → isPlace u ds ≡ true → isPlace u ds′ ≡ true
   pub newer : (u : ℕ) → isPlace u ds′ ≡ true → isPlace u ds ≡ false → n ≤ u / 16
@@ -68,48 +67,40 @@ module _ (g : Signs) (src w : List ℕ) (o : Order) (rs : List Rule) (n : ℕ) (
     (w′ : List ℕ) (n′ : ℕ) (ds′ : List Decl) (cs′ : List Declaration) (h : Holds (keyAt g src) (length src) w′ n′ ds′) (s : Says w′ ds′ cs′)
     (v : Grown (length src) w w′ n n′ (k .ds) ds′) where
   row-older : (u : ℕ) → isRow (length src) (k .ds) u ≡ true → isRow (length src) ds′ u ≡ true
-  row-older u r =
-      by (isPlace u (k .ds))
-      (λ t. rw (v .older u t))
-      (λ t. rw (rw t at r) (or-true (isPlace u ds′)))
+  row-older u r = row-by (length src) (k .ds) u r (λ p e. row-place (length src) ds′ u (v .older u p) e) (λ z. row-undefined (length src) ds′ u z)
 
   -- what holds of a new row: it is still free
   row-newer : (u : ℕ) (P : Type 0) → isRow (length src) ds′ u ≡ true → (isRow (length src) (k .ds) u ≡ true → P)
       → (n ≤ u / 16 → u / 16 ≤ length src / 8 → P) → P
   row-newer u P r old new =
-      by (isPlace u (k .ds))
-      (λ t. old (rw t))
-      (λ t. by (eqb u (undefinedMark (length src)))
-      (λ e. old (rw e (or-true (isPlace u (k .ds)))))
-      (λ e. let p : isPlace u ds′ ≡ true = or-none (isPlace u ds′) (rw e at r) in
-      let i = place-within h u p in new (v .newer u p t) (omega (arith, i))))
-    where
-      or-none : (a : Bool) → (a || false) ≡ true → a ≡ true
-      or-none true e = refl
-      or-none false e = e
+      row-by (length src) ds′ u r
+      (λ p e. by (isPlace u (k .ds))
+      (λ t. old (row-place (length src) (k .ds) u t e))
+      (λ t. let i = place-within h u p in new (v .newer u p t) (omega (arith, i))))
+      (λ z. old (row-undefined (length src) (k .ds) u z))
 
   linked-grown : (p : ℕ) (us : List ℕ) → All (IsListed g src w (k .ds)) us → Linked w p us → Linked w′ p us
   linked-grown p [] a ends = ends
   linked-grown p (u ∷ us) a (goes r m) =
       goes (row-kept w w′ u (v .long) r)
-      (subst (λ (q : ℕ). Linked w′ q us) (sym (v .four u nextNumber (row-in (k .holds) u (a .0 .row)) (omega arith) (omega arith))) (linked-grown (cell w u nextNumber) us (a .1) m))
+      (subst (λ (q : ℕ). Linked w′ q us) (sym (v .four u nextNumber (row-older u (a .0 .row)) (omega arith) (omega arith))) (linked-grown (cell w u nextNumber) us (a .1) m))
 
   backed-grown : (p : ℕ) (us : List ℕ) → All (IsListed g src w (k .ds)) us → Backed w p us → Backed w′ p us
   backed-grown p [] a begins = begins
   backed-grown p (u ∷ us) a (comes b m) =
-      comes (v .four u backNumber (row-in (k .holds) u (a .0 .row)) (omega arith) (omega arith) ∙ b) (backed-grown u us (a .1) m)
+      comes (v .four u backNumber (row-older u (a .0 .row)) (omega arith) (omega arith) ∙ b) (backed-grown u us (a .1) m)
 
   lines-grown : (us : List ℕ) → All (IsListed g src w (k .ds)) us → map (lineAt g src rs w) us ≡ map (lineAt g src rs w′) us
   unfolding lineAt
   lines-grown [] a = refl
   lines-grown (u ∷ us) a =
-      let i = row-in (k .holds) u (a .0 .row) in
+      let i = row-older u (a .0 .row) in
       rw (v .four u lineNumber i (omega arith) (omega arith), v .four u placeNumber i (omega arith) (omega arith), lines-grown us (a .1))
 
   listed-grown : (us : List ℕ) → All (IsListed g src w (k .ds)) us → All (IsListed g src w′ ds′) us
   listed-grown [] a = tt
   listed-grown (u ∷ us) a =
-      let e = v .four u placeNumber (row-in (k .holds) u (a .0 .row)) (omega arith) (omega arith) in (
+      let e = v .four u placeNumber (row-older u (a .0 .row)) (omega arith) (omega arith) in (
         record {
           row = row-older u (a .0 .row);
           even = a .0 .even;
@@ -133,25 +124,18 @@ module _ (g : Signs) (src w : List ℕ) (o : Order) (rs : List Rule) (n : ℕ) (
       are = k .are ∙ lines-grown (k .marks) (k .listed);
       listed = listed-grown (k .marks) (k .listed);
       all = λ u r l. row-newer u (oneOf (eqb u) (k .marks) ≡ true) r
-          (λ q. let e = v .four u placeNumber (row-in (k .holds) u q) (omega arith) (omega arith) in k .all u q (omega (arith, e, l)))
-          (λ a b. absurd (let e = v .four u placeNumber (omega (arith, b)) (omega arith) (omega arith) in let z = k .free u placeNumber a b (omega arith) in omega (arith, e, l, z)));
-      free = λ u j a b i. let r = v .rows in
-          by (eqb j 0)
-          (λ t. subst (λ (x : ℕ). cell w′ u x ≡ 0) (sym (eqb-true j 0 t)) (v .rest u a b ∙ k .free u charsNumber (omega (arith, r, a)) b (omega arith)))
-          (λ t. v .four u j (omega (arith, b)) (positive j t) i ∙ k .free u j (omega (arith, r, a)) b i);
+          (λ q. let e = v .four u placeNumber r (omega arith) (omega arith) in k .all u q (omega (arith, e, l)))
+          (λ a b. absurd (let e = v .four u placeNumber r (omega arith) (omega arith) in let z = k .free u placeNumber a b (omega arith) in omega (arith, e, l, z)));
+      free = λ u j a b i. let r = v .rows in v .rest u j a b i ∙ k .free u j (omega (arith, r, a)) b i;
       alone = λ u r z. row-newer u (cell w′ u nextNumber ≡ 0) r
-          (λ q. let i = row-in (k .holds) u q in v .four u nextNumber i (omega arith) (omega arith) ∙ k .alone u q (sym (v .four u placeNumber i (omega arith) (omega arith)) ∙ z))
-          (λ a b. v .four u nextNumber (omega (arith, b)) (omega arith) (omega arith) ∙ k .free u nextNumber a b (omega arith));
+          (λ q. v .four u nextNumber r (omega arith) (omega arith) ∙ k .alone u q (sym (v .four u placeNumber r (omega arith) (omega arith)) ∙ z))
+          (λ a b. v .four u nextNumber r (omega arith) (omega arith) ∙ k .free u nextNumber a b (omega arith));
       unranked = λ u r z. row-newer u (cell w′ u rankNumber ≡ 0) r
-          (λ q. let i = row-in (k .holds) u q in v .four u rankNumber i (omega arith) (omega arith) ∙ k .unranked u q (sym (v .four u placeNumber i (omega arith) (omega arith)) ∙ z))
-          (λ a b. v .four u rankNumber (omega (arith, b)) (omega arith) (omega arith) ∙ k .free u rankNumber a b (omega arith));
+          (λ q. v .four u rankNumber r (omega arith) (omega arith) ∙ k .unranked u q (sym (v .four u placeNumber r (omega arith) (omega arith)) ∙ z))
+          (λ a b. v .four u rankNumber r (omega arith) (omega arith) ∙ k .free u rankNumber a b (omega arith));
     };
     same = refl;
   }
-    where
-      positive : (j : ℕ) → eqb j 0 ≡ false → 1 ≤ j
-      positive zero e = absurd (let z : _≡_ {A = ℕ} 0 1 = cc in omega (arith, z))
-      positive (suc j) e = omega arith
 
   pub known-grown : Known g src w′ o rs n′ cs′ ls
   known-grown = known-as .known

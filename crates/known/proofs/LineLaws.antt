@@ -7,7 +7,7 @@ use native.Mathlib.Omega.{arith}
 use lib.ListN.{length, set, length-set}
 use lib.Dec.{eqb}
 use borrow.Author.Tests.{eq-eqb, eqb-true, eqb-false}
-use Rattle.lists.proofs.Bools.{by, cond-both}
+use Rattle.lists.proofs.Bools.{by, cond-by}
 use Rattle.lists.proofs.Lists.{All}
 use Rattle.rules.specs.Text.{oneOf}
 use Rattle.rules.specs.Tokens.{operands}
@@ -20,15 +20,14 @@ use Rattle.tokens.specs.Left.{tokensLeft}
 use Rattle.rows.specs.Cells.{cellAt, cell}
 use Rattle.rows.proofs.CellLaws.{Apart, cell-other, cell-apart}
 use Rattle.subjects.specs.Keys.{keyAt}
-use Rattle.store.specs.Store.{Decl, isPlace, Holds, undefinedMark}
-use Rattle.store.proofs.AreaLaws.{holds-told}
+use Rattle.store.specs.Store.{Decl, Holds}
 use Rattle.store.proofs.ListLaws.{place-below}
 use Rattle.listed.specs.declared.Order.{Order}
 use Rattle.listed.specs.Listed.{charsNumber, lineNumber, placeNumber, nextNumber, backNumber, Row, Backed, Lines, linkedTo, numbered, withLine, longer, NewLine}
 use Rattle.listed.proofs.ListLaws.{all-map, all-append, numbered-number, numbered-place, numbered-else, numbered-apart, last-has, link-length, link-other, link-apart, lines-more, backed-more}
 use Rattle.listed.proofs.MoveLaws.{one-has, all-one}
 use Rattle.known.specs.Known.{Says, none, symbols, elements, characters, behind, subjectAt, lineAt, isRow, Accepted, IsListed, Known}
-use Rattle.known.proofs.MarkLaws.{rows-apart}
+use Rattle.known.proofs.MarkLaws.{row-by, holds-row, rows-apart}
 
 -- ## What is kept
 
@@ -38,15 +37,17 @@ says-kept w w′ ds cs e (symbols {v = v} {ds = es} {cs = fs} z s) = symbols (e 
 says-kept w w′ ds cs e (elements {v = v} {ds = es} {cs = fs} z l s) = elements (e v ∙ z) l (says-kept w w′ es fs e s)
 says-kept w w′ ds cs e (characters {v = v} {ds = es} {cs = fs} z s) = characters (e v ∙ z) (says-kept w w′ es fs e s)
 
-pub holds-linked : (g : Signs) (src : List ℕ) (n : ℕ) (ds : List Decl) (w : List ℕ) (l j v : ℕ) → j < 5 → Holds (keyAt g src) (length src) w n ds
-    → Holds (keyAt g src) (length src) (linkedTo w l j v) n ds
+pub holds-linked : (g : Signs) (src : List ℕ) (n : ℕ) (ds : List Decl) (w : List ℕ) (l j v : ℕ) → ((l ≡ 0 → ⊥) → isRow (length src) ds l ≡ true) → 1 ≤ j → j < 5
+    → Holds (keyAt g src) (length src) w n ds → Holds (keyAt g src) (length src) (linkedTo w l j v) n ds
 unfolding linkedTo
-holds-linked g src n ds w l j v i h = cond-both (λ (x : List ℕ). Holds (keyAt g src) (length src) x n ds) (eqb l 0) h (holds-told l j v i h)
+holds-linked g src n ds w l j v r a i h =
+    cond-by (λ (x : List ℕ). Holds (keyAt g src) (length src) x n ds) (eqb l 0) (λ t. h) (λ t. holds-row g src l j v (r (eqb-false l 0 t)) a i h)
 
-pub holds-numbered : (g : Signs) (src : List ℕ) (n : ℕ) (ds : List Decl) (w : List ℕ) (v number place : ℕ) → Holds (keyAt g src) (length src) w n ds
-    → Holds (keyAt g src) (length src) (numbered w v number place) n ds
+pub holds-numbered : (g : Signs) (src : List ℕ) (n : ℕ) (ds : List Decl) (w : List ℕ) (v number place : ℕ) → isRow (length src) ds v ≡ true
+    → Holds (keyAt g src) (length src) w n ds → Holds (keyAt g src) (length src) (numbered w v number place) n ds
 unfolding numbered
-holds-numbered g src n ds w v number place h = holds-told v placeNumber place (omega arith) (holds-told v lineNumber number (omega arith) h)
+holds-numbered g src n ds w v number place r h =
+    holds-row g src v placeNumber place r (omega arith) (omega arith) (holds-row g src v lineNumber number r (omega arith) (omega arith) h)
 
 -- ## What is known
 
@@ -155,9 +156,9 @@ module _ (g : Signs) (src w : List ℕ) (o : Order) (rs : List Rule) (n : ℕ) (
   -- a row's place among those of the source
   row-below : (x y : ℕ) → isRow len ds x ≡ true → n ≤ y / 16 → y / 16 ≤ len / 8 → Apart x y
   row-below x y h a b e =
-      by (isPlace x ds)
-      (λ t. let i = place-below (k .holds) x t in absurd (omega (arith, i, a, e)))
-      (λ t. let z = eqb-true x (undefinedMark len) (rw t at h) in absurd (omega (arith, z, b, e)))
+      row-by len ds x h
+      (λ t c. let i = place-below (k .holds) x t in absurd (omega (arith, i, a, e)))
+      (λ z. absurd (omega (arith, z, b, e)))
 
   all-kept : (x : ℕ) → isRow len ds x ≡ true → 1 ≤ cell w′ x placeNumber → oneOf (eqb x) marks′ ≡ true
   all-kept x h l =
@@ -250,10 +251,18 @@ module _ (g : Signs) (src w : List ℕ) (o : Order) (rs : List Rule) (n : ℕ) (
   last-off : (x : ℕ) → All (λ (t : ℕ). Apart t x) (k .marks) → (o .last ≡ 0 → ⊥) → Apart (o .last) x
   last-off x a z = subst (λ (t : ℕ). Apart t x) (sym (k .lines .last)) (last-has (λ (t : ℕ). Apart t x) (k .marks) a (λ e. z (k .lines .last ∙ e)))
 
+  last-row : (o .last ≡ 0 → ⊥) → isRow (length src) (k .ds) (o .last) ≡ true
+  last-row z =
+      subst (λ (t : ℕ). isRow (length src) (k .ds) t ≡ true) (sym (k .lines .last))
+      (last-has (λ (t : ℕ). isRow (length src) (k .ds) t ≡ true) (k .marks)
+      (all-map (IsListed g src w (k .ds)) (λ (t : ℕ). isRow (length src) (k .ds) t ≡ true) (k .marks) (λ t l. l .row) (k .listed)) (λ e. z (k .lines .last ∙ e)))
+
   line-changed : Changed g src w n (k .ds) (k .marks) v number place (withLine w o v number place) (longer o v) (k .marks ++ v ∷ [])
   unfolding withLine oneOf
   line-changed = record {
-    holds = holds-numbered g src n (k .ds) backed v number place (holds-told v backNumber (o .last) (omega arith) (holds-linked g src n (k .ds) w (o .last) nextNumber v (omega arith) (k .holds)));
+    holds = holds-numbered g src n (k .ds) backed v number place (u .row)
+        (holds-row g src v backNumber (o .last) (u .row) (omega arith) (omega arith)
+        (holds-linked g src n (k .ds) w (o .last) nextNumber v last-row (omega arith) (omega arith) (k .holds)));
     number-is = numbered-number backed v number place inside;
     place-is = numbered-place backed v number place inside;
     chars = λ x. numbered-else backed v number place x charsNumber (omega arith) (λ e. omega (arith, e)) (λ e. omega (arith, e))
@@ -282,6 +291,3 @@ module _ (g : Signs) (src w : List ℕ) (o : Order) (rs : List Rule) (n : ℕ) (
       (ap (λ (ms : List OrderLine). ms ++ newLine g src rs v number place ∷ []) (k .are ∙ lines-same g src w o rs n cs ls k v number place (u .row) (u .even) p after (longer o v) (k .marks ++ v ∷ []) line-changed (k .marks) unlisted-others)
       ∙ ap (λ (m : OrderLine). map (lineAt g src rs after) (k .marks) ++ m ∷ []) (line-new g src w o rs n cs ls k v number place (u .row) (u .even) p after (longer o v) (k .marks ++ v ∷ []) line-changed)
       ∙ sym (map-append (lineAt g src rs after) (k .marks) (v ∷ [])))
-
-  pub known-line : Known g src (withLine w o v number place) (longer o v) rs n cs (ls ++ newLine g src rs v number place ∷ [])
-  known-line = came-line .known

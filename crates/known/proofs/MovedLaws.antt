@@ -22,13 +22,12 @@ use Rattle.subjects.specs.Keys.{keyAt}
 use Rattle.store.specs.Store.{Decl, Once, Holds}
 use Rattle.store.specs.declared.Found.{Found}
 use Rattle.store.specs.declared.Found.the-variants.{At, Nothing}
-use Rattle.store.proofs.AreaLaws.{holds-told}
 use Rattle.listed.specs.declared.Order.{Order}
 use Rattle.listed.specs.Listed.{charsNumber, placeNumber, nextNumber, backNumber, Row, Backed, Lines, Spread, none, more, linkedTo, linkedBetween, withLineAfter, longerAfter, unlinked, shorter}
 use Rattle.listed.proofs.ListLaws.{row-kept, all-map, numbered-number, numbered-place, numbered-else, numbered-apart}
 use Rattle.listed.proofs.MoveLaws.{without, behindMark, one-has, all-one, linked-rows, next-has, back-has, without-all, without-apart, without-length, without-one, behind-all, behind-new, behind-one, out-length, out-else, out-next, out-back, lines-out, backed-out, put-length, put-else, next-kept, back-kept, lines-put, backed-put}
 use Rattle.known.specs.Known.{subjectAt, lineAt, isRow, markOf, IsListed, Known}
-use Rattle.known.proofs.MarkLaws.{isAt, subject-marked, marked-subject, subject-mark, mark-row}
+use Rattle.known.proofs.MarkLaws.{isAt, holds-row, subject-marked, marked-subject, subject-mark, mark-row}
 use Rattle.known.proofs.RankLaws.{isOrdered, rank-none}
 use Rattle.known.proofs.LineLaws.{newLine, Unlisted, Follows, Changed, Came, holds-linked, holds-numbered, line-same, line-new, known-changed, unlisted-others}
 
@@ -142,6 +141,20 @@ module _ (g : Signs) (src w : List ℕ) (o : Order) (rs : List Rule) (n : ℕ) (
   row-a : Row w a
   row-a = one-has (Row w) a marks (linked-rows w (o .first) marks (k .lines .linked)) m
 
+  -- marks in the list have rows
+  rows : All (λ (t : ℕ). isRow (length src) ds t ≡ true) marks
+  rows = all-map (IsListed g src w ds) (λ (t : ℕ). isRow (length src) ds t ≡ true) marks (λ t l. l .row) (k .listed)
+
+  -- the store holds what it held where v comes to stand between a and the mark b
+  holds-between : (x : ℕ) → isRow (length src) ds x ≡ true → (w₀ : List ℕ) (b : ℕ) → ((b ≡ 0 → ⊥) → isRow (length src) ds b ≡ true) → Holds (keyAt g src) (length src) w₀ n ds
+      → Holds (keyAt g src) (length src) (linkedBetween w₀ a x b) n ds
+  unfolding linkedBetween
+  holds-between x own w₀ b next h =
+      holds-row g src x backNumber a own (omega arith) (omega arith)
+      (holds-row g src x nextNumber b own (omega arith) (omega arith)
+      (holds-row g src a nextNumber x (listed-a .row) (omega arith) (omega arith)
+      (holds-linked g src n ds w₀ b backNumber x next (omega arith) (omega arith) h)))
+
   module _ (u : Unlisted (length src) w (k .ds) v) where
     abbrev after : List ℕ
     after = withLineAfter w a v number place
@@ -161,9 +174,8 @@ module _ (g : Signs) (src w : List ℕ) (o : Order) (rs : List Rule) (n : ℕ) (
     put-changed : Changed g src w n (k .ds) (k .marks) v number place (withLineAfter w a v number place) (longerAfter w o a v) (behindMark a v (k .marks))
     unfolding withLineAfter linkedBetween oneOf
     put-changed = record {
-      holds = holds-numbered g src n ds between v number place
-          (holds-told v backNumber a (omega arith) (holds-told v nextNumber (cell w a nextNumber) (omega arith)
-          (holds-told a nextNumber v (omega arith) (holds-linked g src n ds w (cell w a nextNumber) backNumber v (omega arith) (k .holds)))));
+      holds = holds-numbered g src n ds between v number place (u .row)
+          (holds-between v (u .row) w (cell w a nextNumber) (next-has w (λ (t : ℕ). isRow (length src) ds t ≡ true) (o .first) marks a (k .lines .linked) rows m) (k .holds));
       number-is = numbered-number between v number place inside;
       place-is = numbered-place between v number place inside;
       chars = λ x. numbered-else between v number place x charsNumber (omega arith) (λ e. omega (arith, e)) (λ e. omega (arith, e))
@@ -192,9 +204,6 @@ module _ (g : Signs) (src w : List ℕ) (o : Order) (rs : List Rule) (n : ℕ) (
         (line-new g src w o rs n cs ls k v number place (u .row) (u .even) p after (longerAfter w o a v) (behindMark a v marks) put-changed)
         (line-same g src w o rs n cs ls k v number place (u .row) (u .even) p after (longerAfter w o a v) (behindMark a v marks) put-changed)
         marks (k .listed) others-apart)
-
-    pub known-put : Known g src (withLineAfter w a v number place) (longerAfter w o a v) rs n cs (putAfter (subjectAt g src a) (newLine g src rs v number place) ls)
-    known-put = came-put .known
 
   -- ## A line that moves
 
@@ -253,11 +262,15 @@ module _ (g : Signs) (src w : List ℕ) (o : Order) (rs : List Rule) (n : ℕ) (
     moved-changed : Changed g src w n (k .ds) (k .marks) v number place (withLineAfter (unlinked w v) a v number place) (longerAfter (unlinked w v) (shorter w o v) a v) (behindMark a v (without v (k .marks)))
     unfolding withLineAfter linkedBetween unlinked oneOf
     moved-changed = record {
-      holds = holds-numbered g src n ds between₂ v number place
-          (holds-told v backNumber a (omega arith) (holds-told v nextNumber (cell out a nextNumber) (omega arith)
-          (holds-told a nextNumber v (omega arith) (holds-linked g src n ds out (cell out a nextNumber) backNumber v (omega arith)
-          (holds-linked g src n ds (linkedTo w (cell w v backNumber) nextNumber (cell w v nextNumber)) (cell w v nextNumber) backNumber (cell w v backNumber) (omega arith)
-          (holds-linked g src n ds w (cell w v backNumber) nextNumber (cell w v nextNumber) (omega arith) (k .holds)))))));
+      holds = holds-numbered g src n ds between₂ v number place (listed-v .row)
+          (holds-between v (listed-v .row) out (cell out a nextNumber)
+          (next-has out (λ (t : ℕ). isRow (length src) ds t ≡ true) (shorter w o v .first) left a (lines₂ .linked) (without-all (λ (t : ℕ). isRow (length src) ds t ≡ true) v marks rows) stays)
+          (holds-linked g src n ds (linkedTo w (cell w v backNumber) nextNumber (cell w v nextNumber)) (cell w v nextNumber) backNumber (cell w v backNumber)
+          (next-has w (λ (t : ℕ). isRow (length src) ds t ≡ true) (o .first) marks v (k .lines .linked) rows own) (omega arith) (omega arith)
+          (holds-linked g src n ds w (cell w v backNumber) nextNumber (cell w v nextNumber)
+          (back-has w (λ (t : ℕ). (t ≡ 0 → ⊥) → isRow (length src) ds t ≡ true) 0 marks v (k .backs) (λ z. absurd (z refl))
+          (all-map (λ (t : ℕ). isRow (length src) ds t ≡ true) (λ (t : ℕ). (t ≡ 0 → ⊥) → isRow (length src) ds t ≡ true) marks (λ t e z. e) rows) own)
+          (omega arith) (omega arith) (k .holds))));
       number-is = numbered-number between₂ v number place inside₂;
       place-is = numbered-place between₂ v number place inside₂;
       chars = λ x. numbered-else between₂ v number place x charsNumber (omega arith) (λ e. omega (arith, e)) (λ e. omega (arith, e))
@@ -290,7 +303,3 @@ module _ (g : Signs) (src w : List ℕ) (o : Order) (rs : List Rule) (n : ℕ) (
         (line-new g src w o rs n cs ls k v number place (listed-v .row) (listed-v .even) p after₂ order₂ (behindMark a v left) moved-changed)
         (line-same g src w o rs n cs ls k v number place (listed-v .row) (listed-v .even) p after₂ order₂ (behindMark a v left) moved-changed)
         left (without-all (IsListed g src w ds) v marks (k .listed)) left-apart)
-
-    pub known-moved : Known g src (withLineAfter (unlinked w v) a v number place) (longerAfter (unlinked w v) (shorter w o v) a v) rs n cs
-        (putAfter (subjectAt g src a) (newLine g src rs v number place) (takenOut (subjectAt g src v) ls))
-    known-moved = came-moved .known

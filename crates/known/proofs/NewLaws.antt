@@ -2,9 +2,9 @@
 use mathlib.Core.Path.{_≡_, refl, sym, ap, _∙_, subst}
 use mathlib.Core.Bool.{true, false, false≢true}
 use mathlib.Core.List.{List, [], _∷_, map}
-use Prim.Native.Nat.{ℕ, _+_, _*_, _/_, _≤_, _<_}
+use Prim.Native.Nat.{ℕ, _+_, _*_, _/_, _%_, _≤_, _<_}
 use native.Mathlib.Omega.{arith}
-use lib.ListN.{length, getD, set, length-set}
+use lib.ListN.{length, getD}
 use lib.Dec.{eqb}
 use borrow.Author.Tests.{eq-eqb, eqb-true}
 use Rattle.lists.proofs.Bools.{by}
@@ -13,16 +13,17 @@ use Rattle.rules.specs.Meaning.{Rule}
 use Rattle.rules.specs.State.{Declaration, symbol, character, named, OrderLine}
 use Rattle.lines.specs.declared.Signs.{Signs}
 use Rattle.rows.specs.Cells.{cellAt, cell}
-use Rattle.rows.proofs.CellLaws.{cell-told, cell-other, cell-apart}
-use Rattle.subjects.specs.Keys.{Key, item, chars, keyAt}
-use Rattle.subjects.specs.Numbers.{isDeclarable}
-use Rattle.store.specs.Store.{Decl, first, isPlace, fresh, Holds, Declares}
+use Rattle.subjects.specs.Keys.{nameSpot, subjectLeft, Key, item, chars, keyAt}
+use Rattle.subjects.specs.Numbers.{isDeclarable, kindOf}
+use Rattle.subjects.proofs.KeyLaws.{keyAt-name}
+use Rattle.store.specs.Store.{Decl, first, isPlace, fresh, aboveOf, Holds, Declares}
 use Rattle.store.specs.declared.Found.the-variants.{Nothing}
-use Rattle.store.proofs.AreaLaws.{holds-beyond, holds-told}
-use Rattle.store.proofs.ListLaws.{isPlace-older, place-below, place-within}
+use Rattle.store.proofs.AreaLaws.{above-name, above-other, holds-beyond}
+use Rattle.store.proofs.ListLaws.{isPlace-older, place-below, place-within, five-older, five-later, five-named, five-character, code-told}
 use Rattle.listed.specs.declared.Order.{Order}
 use Rattle.listed.specs.Listed.{charsNumber}
-use Rattle.known.specs.Known.{declaredAt, Says, none, symbols, elements, characters, lineAt, Known}
+use Rattle.known.specs.Known.{declaredAt, Says, none, symbols, elements, characters, lineAt, isRow, Known}
+use Rattle.known.proofs.MarkLaws.{row-by, row-in, item-by}
 use Rattle.known.proofs.GrownLaws.{Grown, KnownAs, known-as, known-grown}
 
 -- ## Lists
@@ -56,6 +57,18 @@ says-on w w′ ds cs e (characters {c = c} {v = v} {ds = es} {cs = fs} z s) =
 
 -- ## One declaration more
 
+-- a name takes the row before its own, a character does not
+pub kind-name : {k : Key} {m : List ℕ} → k ≡ item (named m) → kindOf k ≡ 1
+unfolding kindOf
+kind-name e = rw e
+
+pub name-above : {k : Key} {m : List ℕ} → k ≡ item (named m) → aboveOf (kindOf k) ≡ 1
+name-above {k} e = above-name (kindOf k) (kind-name e)
+
+pub character-above : {k : Key} {c : ℕ} → k ≡ item (character c) → aboveOf (kindOf k) ≡ 0
+unfolding kindOf
+character-above {k} e = let z : kindOf k ≡ 0 = rw e in above-other (kindOf k) (λ i. omega (arith, i, z))
+
 module _ (g : Signs) (src w : List ℕ) (o : Order) (rs : List Rule) (n : ℕ) (cs : List Declaration) (ls : List OrderLine) (k : Known g src w o rs n cs ls) where
   abbrev key : ℕ → Key
   key = keyAt g src
@@ -68,21 +81,48 @@ module _ (g : Signs) (src w : List ℕ) (o : Order) (rs : List Rule) (n : ℕ) (
       (says-on w w′ (k .ds) cs (λ u p. let i = place-within (k .holds) u p in e (cellAt u charsNumber) (omega (arith, i))) (k .says))
       (record {
         long = l;
-        four = λ u j a b c. e (cellAt u j) (omega (arith, a, c));
-        rest = λ u a b. e (cellAt u charsNumber) (omega (arith, b));
+        four = λ u j r b c. let a = row-in (k .holds) u r in e (cellAt u j) (omega (arith, a, c));
+        rest = λ u j a b c. e (cellAt u j) (omega (arith, b, c));
         rows = omega arith;
         older = λ u p. p;
         newer = λ u p q. absurd (false≢true (sym q ∙ p));
         some = λ u p q. absurd (false≢true (sym q ∙ p));
       })
 
-  module _ (v : ℕ) (w′ : List ℕ) (d : Declares (keyAt g src) (length src) w v w′) (room : n ≤ v / 16) (inside : v / 2 ≤ length src)
+  module _ (v : ℕ) (w′ : List ℕ) (d : Declares (keyAt g src) (length src) w v w′) (room : n + aboveOf (kindOf (keyAt g src v)) ≤ v / 16) (inside : v / 2 ≤ length src)
       (can : isDeclarable (keyAt g src v) ≡ true) (new : first (keyAt g src v) (k .ds) ≡ Nothing) (some : 1 ≤ v) where
+    abbrev kind : ℕ
+    kind = kindOf (keyAt g src v)
+
+    -- all numbers of what was declared stay
+    kept-older : (u j : ℕ) → isPlace u (k .ds) ≡ true → j < 5 → cell w′ u j ≡ cell w u j
+    kept-older u j p c = five-older d u j c (let b = place-below (k .holds) u p in omega (arith, b, room))
+
+    -- so do those of the rows of order lines
+    pub declared-older : (u j : ℕ) → isRow (length src) (k .ds) u ≡ true → j < 5 → cell w′ u j ≡ cell w u j
+    declared-older u j r c = row-by (length src) (k .ds) u r (λ p e. kept-older u j p c) (λ z. five-later d u j c (omega (arith, z, inside)))
+
+    -- and all but the first of its own row, if it is one of them
+    kept-own : (j : ℕ) → v % 2 ≡ 0 → 1 ≤ j → j < 5 → cell w′ v j ≡ cell w v j
+    kept-own j e b c =
+        item-by (keyAt g src v) (subjectLeft g src (nameSpot (v / 2))) (keyAt-name g src v e) can
+        (λ z. five-character d j c z b)
+        (λ z. five-named d j c z (let a = above-name kind z in omega (arith, a, room)))
+
+    kept-four : (u j : ℕ) → isRow (length src) (fresh key v ∷ k .ds) u ≡ true → 1 ≤ j → j < 5 → cell w′ u j ≡ cell w u j
+    kept-four u j r b c =
+        row-by (length src) (fresh key v ∷ k .ds) u r
+        (λ p e. by (isPlace u (k .ds))
+        (λ t. kept-older u j t c)
+        (λ t. let z = fresh-newer key v (k .ds) u p t in
+        subst (λ (x : ℕ). cell w′ x j ≡ cell w x j) (sym z) (kept-own j (subst (λ (x : ℕ). x % 2 ≡ 0) z e) b c)))
+        (λ z. five-later d u j c (omega (arith, z, inside)))
+
     grown : Grown (length src) w w′ n (v / 16 + 1) (k .ds) (fresh key v ∷ k .ds)
     grown = record {
       long = d .long;
-      four = λ u j a b c. d .five u j c;
-      rest = λ u a b. d .five u charsNumber (omega arith);
+      four = kept-four;
+      rest = λ u j a b c. five-later d u j c (omega (arith, a));
       rows = omega (arith, room);
       older = λ u p. isPlace-older key v (k .ds) u p;
       newer = λ u p q. let e = fresh-newer key v (k .ds) u p q in omega (arith, e, room);
@@ -92,46 +132,24 @@ module _ (g : Signs) (src w : List ℕ) (o : Order) (rs : List Rule) (n : ℕ) (
     declared : Holds key (length src) w′ (v / 16 + 1) (fresh key v ∷ k .ds)
     declared = d .is n (k .ds) (k .holds) room can new
 
+    says-older : Says w′ (k .ds) cs
+    says-older = says-on w w′ (k .ds) cs (λ u p. kept-older u charsNumber p (omega arith)) (k .says)
+
     pub known-symbol-new : (m : List ℕ) → keyAt g src v ≡ item (named m) → Known g src w′ o rs (v / 16 + 1) (symbol m ∷ cs) ls
     known-symbol-new m e =
+        let z = kind-name e in
+        let a = name-above e in
         known-grown g src w o rs n cs ls k w′ (v / 16 + 1) (fresh key v ∷ k .ds) (symbol m ∷ cs) declared
         (subst (λ (x : Key). Says w′ (declaredAt x v ∷ k .ds) (symbol m ∷ cs)) (sym e)
-        (symbols (d .five v charsNumber (omega arith) ∙ k .free v charsNumber room (omega (arith, inside)) (omega arith))
-        (says-on w w′ (k .ds) cs (λ u p. d .five u charsNumber (omega arith)) (k .says))))
+        (symbols (five-named d charsNumber (omega arith) z (omega (arith, a, room)) ∙ k .free v charsNumber (omega (arith, room)) (omega (arith, inside)) (omega arith)) says-older))
         grown
 
-    -- ## A character, whose row tells its code
-
-    module _ (c : ℕ) where
-      abbrev coded : List ℕ
-      coded = set w′ (cellAt v charsNumber) (2 * c + 2)
-
-      pub coded-long : length coded ≡ length w
-      coded-long = length-set w′ (cellAt v charsNumber) (2 * c + 2) ∙ d .long
-
-      -- the other numbers stay
-      pub coded-four : (u j : ℕ) → 1 ≤ j → j < 5 → cell coded u j ≡ cell w u j
-      coded-four u j a b = cell-other w′ v charsNumber u j (2 * c + 2) (omega arith) b (λ e. omega (arith, e, a)) ∙ d .five u j b
-
-      coded-apart : (u : ℕ) → (v / 16 ≡ u / 16 → ⊥) → cell coded u charsNumber ≡ cell w u charsNumber
-      coded-apart u a = cell-apart w′ v charsNumber u charsNumber (2 * c + 2) (omega arith) (omega arith) a ∙ d .five u charsNumber (omega arith)
-
-      pub known-character-new : keyAt g src v ≡ item (character c) → KnownAs g src coded o rs (v / 16 + 1) cs ls (fresh key v ∷ k .ds)
-      known-character-new e =
-          known-as g src w o rs n cs ls k coded (v / 16 + 1) (fresh key v ∷ k .ds) cs
-          (holds-told v charsNumber (2 * c + 2) (omega arith) declared)
-          (subst (λ (x : Key). Says coded (declaredAt x v ∷ k .ds) cs) (sym e)
-          (characters (cell-told w′ v charsNumber (2 * c + 2) (omega arith) (let r = k .holds .roomy .room in let l = d .long in omega (arith, r, l, inside)))
-          (says-on w coded (k .ds) cs (λ u p. coded-apart u (λ i. let b = place-below (k .holds) u p in omega (arith, b, i, room))) (k .says))))
-          (record {
-            long = coded-long;
-            four = λ u j a b h. coded-four u j b h;
-            rest = λ u a b. coded-apart u (λ i. omega (arith, a, i));
-            rows = grown .rows;
-            older = grown .older;
-            newer = grown .newer;
-            some = grown .some;
-          })
+    -- a character, whose row tells its code
+    pub known-character-new : (c : ℕ) → keyAt g src v ≡ item (character c) → KnownAs g src w′ o rs (v / 16 + 1) cs ls (fresh (keyAt g src) v ∷ k .ds)
+    known-character-new c e =
+        known-as g src w o rs n cs ls k w′ (v / 16 + 1) (fresh key v ∷ k .ds) cs declared
+        (subst (λ (x : Key). Says w′ (declaredAt x v ∷ k .ds) cs) (sym e) (characters (code-told declared e) says-older))
+        grown
 
 -- ## Before the order
 

@@ -1,7 +1,7 @@
 -- What the lines so far have declared and ordered (Rattle.rules.specs.State), as the work area holds it: what is declared stands in the store
 -- (Rattle.store), the order lines in their list (Rattle.listed), and their weights are read again from the source.
 use mathlib.Core.Path.{_≡_}
-use mathlib.Core.Bool.{Bool, true, false, _||_}
+use mathlib.Core.Bool.{Bool, true, false, _&&_, _||_}
 use mathlib.Core.List.{List, [], _∷_, map}
 use Prim.Native.Nat.{ℕ, _+_, _*_, _/_, _%_, _≤_, _<_}
 use lib.ListN.{length}
@@ -58,9 +58,9 @@ lineAt g src rs w v = record {
   weights = weightsOf (subjectAt g src v) rs (operandList (operands (tokensLeft g src (behind (cell w v placeNumber)))));
 }
 
--- a mark has a row: it is declared, or it is that of UNDEFINED
+-- a mark has the row of an order line: it is that of a name, and declared, or that of UNDEFINED
 abbrev pub isRow : ℕ → List Decl → ℕ → Bool
-isRow len ds v = isPlace v ds || eqb v (undefinedMark len)
+isRow len ds v = (isPlace v ds && eqb (v % 2) 0) || eqb v (undefinedMark len)
 
 -- the mark of a subject
 unfoldable pub markOf : ℕ → List Decl → Subject → Found

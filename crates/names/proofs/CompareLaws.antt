@@ -1,4 +1,4 @@
--- A name beside other bytes, and beside another name: the turns of the loops.
+-- A name beside other bytes: the turns of the loop.
 use mathlib.Core.Path.{_≡_, refl, sym, _∙_, subst}
 use mathlib.Core.Bool.{false}
 use mathlib.Core.List.{List, []}

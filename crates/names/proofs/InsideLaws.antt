@@ -1,6 +1,6 @@
 -- Inside a name, a byte that stands is the next one of it, and `>` ends it: so it goes from place to place.
 use mathlib.Core.Path.{_≡_, refl, sym, _∙_}
-use mathlib.Core.Bool.{Bool, true, false, _&&_, not, and-true, and-false}
+use mathlib.Core.Bool.{Bool, true, false, not, and-true, and-false}
 use mathlib.Core.List.{List, [], _∷_}
 use Prim.Native.Nat.{ℕ, _+_, _-_, _%_, _≤_, _<_}
 use native.Mathlib.Omega.{arith}
@@ -55,13 +55,6 @@ pub place-stands : (e : ℕ) (src : List ℕ) (at : ℕ) {t : Bool} → at < len
 unfolding standsAt
 place-stands e src at h f = f ∙ sym (rw (lt-ltb at (length src) h))
 
-pub both-stand : (e : ℕ) (src : List ℕ) (i j : ℕ) {t u : Bool} → t ≡ standsAt e src i → t ≡ true → u ≡ standsAt e src j
-    → u ≡ (standsAt e src i && standsAt e src j)
-both-stand e src i j h k f = f ∙ sym (rw (sym h ∙ k))
-
-pub not-both : (e : ℕ) (src : List ℕ) (i j : ℕ) {t : Bool} → t ≡ standsAt e src i → t ≡ false → false ≡ (standsAt e src i && standsAt e src j)
-not-both e src i j h k = sym (rw (sym h ∙ k))
-
 pub place-none : (e : ℕ) (src : List ℕ) (at : ℕ) → length src ≤ at → false ≡ standsAt e src at
 unfolding standsAt
 place-none e src at h = sym (rw (le-ltb at (length src) h))
@@ -82,23 +75,6 @@ module _ (e : ℕ) (src : List ℕ) (at : ℕ) {t : Bool} (s : t ≡ standsAt e 
 
   pub test-less : length src - (at + 1) < length src - at
   test-less = let l = test-within in omega arith
-
--- and of two places
-module _ (e : ℕ) (src : List ℕ) (i j : ℕ) {t : Bool} (s : t ≡ (standsAt e src i && standsAt e src j)) (y : t ≡ true) where
-  pub first-stands : standsAt e src i ≡ true
-  first-stands = and-left (standsAt e src i) (standsAt e src j) (sym s ∙ y)
-
-  pub second-stands : standsAt e src j ≡ true
-  second-stands = and-right (standsAt e src i) (standsAt e src j) (sym s ∙ y)
-
-  pub first-within : i < length src
-  first-within = place-within e src i first-stands
-
-  pub second-within : j < length src
-  second-within = place-within e src j second-stands
-
-  pub first-less : length src - (i + 1) < length src - i
-  first-less = let l = first-within in omega arith
 
 module _ (g : Signs) (src : List ℕ) (p : Spot) (l : p .at < length src) (i : isInside (p .mode) ≡ true) (s : standsIn (g .escape) (getD src (p .at) 0) ≡ true) where
   -- the mark is the byte

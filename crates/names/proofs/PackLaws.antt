@@ -56,16 +56,12 @@ module _ (n : List ℕ) (h : isPlain n ≡ true) where
   byte-low : (j : ℕ) → j < length n → 33 ≤ getD n j 0
   byte-low j l = visible-low (getD n j 0) (every-at isVisible n j 0 plain-seen l)
 
-  byte-small : (j : ℕ) → getD n j 0 < 127
+  -- visible bytes are below 127, and behind the last there is 0
+  pub byte-small : (j : ℕ) → getD n j 0 < 127
   byte-small j =
       by (ltb j (length n))
       (λ t. let v = visible-high (getD n j 0) (every-at isVisible n j 0 plain-seen (ltb-true j (length n) t)) in omega arith)
       (λ t. rw (List·getD-eq-default n 0 (ltb-false j (length n) t)) (omega arith))
-
-  -- visible bytes are below 127, so their number is below 2 to the 31st
-  pub quad-small : (i : ℕ) → quad n i < 2147483648
-  unfolding quad
-  quad-small i = omega (arith, byte-small (4 * i), byte-small (4 * i + 1), byte-small (4 * i + 2), byte-small (4 * i + 3))
 
 -- a name with no refusal can be declared
 pub plain-name : (n : List ℕ) → nameRefusal n ≡ 0 → isPlain n ≡ true

@@ -1,7 +1,6 @@
-// Names in a source, each from the spot right after its `<`: beside other bytes or another name, as a character by its code, as a hash, packed into eight numbers.
+// Names in a source, each from the spot right after its `<`: beside other bytes, as a character by its code, as a hash, packed into eight numbers.
 ghost use mathlib.Core.Path.{_≡_};
-ghost use mathlib.Core.Bool.{true, _&&_};
-ghost use mathlib.Core.List.{[]};
+ghost use mathlib.Core.Bool.{true};
 ghost use Prim.Native.Nat.{_+_, _*_, _%_, _^_, _≤_, _<_};
 ghost use lib.ListN.{length, drop, replicate};
 ghost use Rattle.rules.specs.Text.{same};
@@ -216,7 +215,7 @@ fn is_apart(escape: u8) -> bool
 
 // What six bytes from a place on say of a name that begins there: 0 that it asks for a closer look, 1 that it is no character, else a
 // character's code and 2.
-pub fn shape_at(src: &[u8], escape: u8, at: usize) -> u32
+fn shape_at(src: &[u8], escape: u8, at: usize) -> u32
     requires { ⌜ at ≤ length (now src) ⌝ }
     ensures { λ r. ⌜ r ≡ shapeOf escape (drop at (now (src .entry))) ⌝ }
 {
@@ -398,114 +397,6 @@ pub fn pack_name(src: &[u8], g: Signs, p: Spot, key: &mut [u32]) -> Pack
         return pack_inside(src, g, p, key);
     }
     pack_from(src, g, p, key, 0, 0)
-}
-
-// Whether a name has no byte more.
-fn ends(src: &[u8], g: Signs, p: Spot) -> bool
-    requires { ⌜ p .at ≤ length (now src) ⌝ }
-    ensures { λ r. ⌜ r ≡ same [] (nameLeft g (now (src .entry)) p) ⌝ }
-{
-    let s = name_byte(src, g, p);
-    match s {
-        NameStep::Byte(_, _) => return false,
-        NameStep::Close(_) => return true,
-        NameStep::Open => return true,
-    }
-}
-
-// Whether the names at two spots have the same bytes, byte by byte.
-fn same_from(src: &[u8], g: Signs, p: Spot, q: Spot) -> bool
-    requires { ⌜ (p .at ≤ length (now src)) × (q .at ≤ length (now src)) ⌝ }
-    ensures { λ r. ⌜ r ≡ same (nameLeft g (now (src .entry)) p) (nameLeft g (now (src .entry)) q) ⌝ }
-{
-    let mut i = p;
-    let mut j = q;
-    loop {
-        let s = name_byte(src, g, i);
-        match s {
-            NameStep::Byte(a, k) => {
-                let t = name_byte(src, g, j);
-                match t {
-                    NameStep::Byte(b, l) => {
-                        if a == b {
-                            i = k;
-                            j = l;
-                        } else {
-                            return false;
-                        }
-                    }
-                    NameStep::Close(_) => return false,
-                    NameStep::Open => return false,
-                }
-            }
-            NameStep::Close(_) => return ends(src, g, j),
-            NameStep::Open => return ends(src, g, j),
-        }
-    }
-}
-
-// Whether such bytes are at two places.
-fn both_stand(src: &[u8], escape: u8, i: usize, j: usize) -> bool
-    ensures { λ r. ⌜ r ≡ (standsAt escape (now (src .entry)) i && standsAt escape (now (src .entry)) j) ⌝ }
-{
-    if stands_at(src, escape, i) {
-        return stands_at(src, escape, j);
-    }
-    false
-}
-
-// Whether the names at two spots inside them have the same bytes: bytes that stand are compared as they are, and any other goes the long way.
-fn same_inside(src: &[u8], g: Signs, p: Spot, q: Spot) -> bool
-    requires { ⌜ (p .at ≤ length (now src)) × (q .at ≤ length (now src)) ⌝ }
-    requires { ⌜ (isInside (p .mode) ≡ true) × (isInside (q .mode) ≡ true) ⌝ }
-    ensures { λ r. ⌜ r ≡ same (nameLeft g (now (src .entry)) p) (nameLeft g (now (src .entry)) q) ⌝ }
-{
-    let mut i = p.at;
-    let mut j = q.at;
-    let mut first = p.fresh;
-    let mut second = q.fresh;
-    loop {
-        if both_stand(src, g.escape, i, j) {
-            let a = src[i];
-            let b = src[j];
-            if a == b {
-                if a == 62 {
-                    return true;
-                }
-                i += 1;
-                j += 1;
-                first = false;
-                second = false;
-            } else {
-                return false;
-            }
-        } else {
-            let from = Spot {
-                at: i,
-                mode: p.mode,
-                fresh: first,
-            };
-            let beside = Spot {
-                at: j,
-                mode: q.mode,
-                fresh: second,
-            };
-            return same_from(src, g, from, beside);
-        }
-    }
-}
-
-// Whether the names at two spots have the same bytes.
-pub fn same_name(src: &[u8], g: Signs, p: Spot, q: Spot) -> bool
-    requires { ⌜ (p .at ≤ length (now src)) × (q .at ≤ length (now src)) ⌝ }
-    ensures { λ r. ⌜ r ≡ same (nameLeft g (now (src .entry)) p) (nameLeft g (now (src .entry)) q) ⌝ }
-{
-    if is_inside(p.mode) {
-        if is_inside(q.mode) {
-            return same_inside(src, g, p, q);
-        }
-    }
-    same_from(src, g, p, q)
 }
 
 // The next name in quotes, from a spot in them outside names.

@@ -2,17 +2,17 @@
 use mathlib.Core.Path.{_≡_, refl, sym, ap, _∙_, subst}
 use mathlib.Core.Bool.{Bool, true, false≢true}
 use mathlib.Core.List.{List, [], _∷_}
-use Prim.Native.Nat.{ℕ, _+_, _*_, _/_, _%_, _≤_, _<_}
+use Prim.Native.Nat.{ℕ, _+_, _*_, _/_, _≤_, _<_}
 use native.Mathlib.Omega.{arith}
-use lib.ListN.{length, set}
-use lib.Dec.{eqb, leb}
-use borrow.Author.Tests.{eqb-true, eqb-false, leb-true}
+use lib.ListN.{length}
+use lib.Dec.{eqb}
+use borrow.Author.Tests.{eqb-true}
 use Rattle.lists.proofs.Bools.{by, and-left, and-right, clash}
 use Rattle.rules.specs.Text.{_unless_, lower, every}
 use Rattle.rules.specs.Names.{isHex, charShaped, codeOf, isCharacter}
 use Rattle.rules.specs.Lines.{outside, inName}
 use Rattle.rules.specs.Tokens.{tokensRefusal}
-use Rattle.rules.specs.State.{Declaration, Subject, character, Chain, State, gives}
+use Rattle.rules.specs.State.{Declaration, character, Chain, State, gives}
 use Rattle.rules.specs.OrderLines.{subjectOf, stands, orderLine}
 use Rattle.lines.specs.declared.Signs.{Signs}
 use Rattle.lines.specs.declared.Spot.{Spot}
@@ -24,29 +24,27 @@ use Rattle.tokens.proofs.RefusalLaws.{lower-assoc}
 use Rattle.names.specs.declared.Code.{Code}
 use Rattle.names.specs.declared.Code.the-variants.{Char, Other}
 use Rattle.names.specs.Named.{nameLeft, CodeIs}
-use Rattle.rows.specs.Cells.{cellAt, cell}
-use Rattle.listed.specs.Listed.{charsNumber, placeNumber}
-use Rattle.subjects.specs.Keys.{Key, item, chars, keyAt, subjectLeft}
-use Rattle.subjects.specs.Numbers.{isDeclarable}
-use Rattle.subjects.proofs.KeyLaws.{keyAt-quotes}
+use Rattle.rows.specs.Cells.{cell}
+use Rattle.subjects.specs.Keys.{Key, item, keyAt, subjectLeft}
+use Rattle.subjects.specs.Numbers.{isDeclarable, kindOf}
 use Rattle.subjects.proofs.NumberLaws.{char-declarable}
 use Rattle.subjects.proofs.SpotLaws.{keyAt-inside}
 use Rattle.store.specs.declared.Found.{Found}
 use Rattle.store.specs.declared.Found.the-variants.{At, Nothing}
-use Rattle.store.specs.Store.{Decl, first, isFound, knownIn, Holds, Finds, Declares}
-use Rattle.store.proofs.AreaLaws.{other}
+use Rattle.store.specs.Store.{Decl, first, isFound, knownIn, aboveOf, Finds, Declares}
 use Rattle.store.proofs.ListLaws.{first-fresh, found-key, found-place}
-use Rattle.known.specs.Known.{Says}
+use Rattle.known.specs.Known.{Says, isRow}
+use Rattle.known.proofs.MarkLaws.{item-even}
 use Rattle.known.proofs.DeclaredLaws.{known-declared}
-use Rattle.known.proofs.NewLaws.{coded-long, coded-four, known-character-new}
+use Rattle.known.proofs.NewLaws.{character-above, declared-older, known-character-new}
 use Rattle.sheet.specs.declared.Sheet.{Sheet}
 use Rattle.sheet.specs.declared.Step.{Step}
 use Rattle.sheet.specs.Sheets.{Open, SomeOpen, StepIs}
 use Rattle.sheet.specs.Names.{subjectIn, operandsFrom, NameLine}
 use Rattle.sheet.proofs.SheetLaws.{read-whole}
-use Rattle.sheet.proofs.BlockLaws.{mark-older, block-same}
+use Rattle.sheet.proofs.BlockLaws.{mark-older, place-same, block-same}
 use Rattle.ordering.specs.declared.Facts.{Facts}
-use Rattle.ordering.specs.Facts.{isAgain, FactsOf, AgainIs, OwnRefused, CodeFits, RowIs, Ready, Lists}
+use Rattle.ordering.specs.Facts.{isAgain, FactsOf, AgainIs, OwnRefused, RowIs, Ready, Lists}
 use Rattle.ordering.specs.Lines.{Reads}
 use Rattle.sheet.proofs.SheetLaws.{spot-behind}
 use Rattle.ordering.proofs.FactLaws.{mark-found, mark-is}
@@ -74,26 +72,6 @@ stands-alone w ds cs s m h e =
     by (charShaped m)
     (λ t. t)
     (λ t. clash (known-declared w m ds cs s ∙ rw t at h) (ap isFound (rw t at e)))
-
--- the code of a name that stands can be told
-code-fits : (m : List ℕ) (cs : List Declaration) (c : Code) → CodeIs m c → stands cs (subjectOf m) ≡ true → CodeFits c
-unfolding subjectOf stands
-code-fits m cs (Char x) i h =
-    let k : isCharacter (codeOf m) ≡ true = rw (i .shaped) at h in
-    let l = leb-true (codeOf m) 0x10FFFF (and-left (leb (codeOf m) 0x10FFFF) _ k) in
-    let e = i .code in omega (arith, l, e)
-code-fits m cs Other i h = tt
-
--- the mark of a name is even
-even-found : (g : Signs) (src w : List ℕ) (n : ℕ) (ds : List Decl) → Holds (keyAt g src) (length src) w n ds → (x : Subject) (u : ℕ)
-    → first (item x) ds ≡ At u → u % 2 ≡ 0
-even-found g src w n ds h x u e =
-    by (eqb (u % 2) 0)
-    (λ t. eqb-true (u % 2) 0 t)
-    (λ t. absurd (item-chars x (keyAt-quotes g src u (eqb-false (u % 2) 0 t)) (found-key h (item x) u e)))
-  where
-    item-chars : (x : Subject) {k : Key} {xs : List ℕ} → k ≡ chars xs → k ≡ item x → ⊥
-    item-chars x e f = let z : _≡_ {A = ℕ} 0 1 = cc in omega (arith, z)
 
 -- a walk into a name passes a byte
 walk-on : {g : Signs} {src : List ℕ} {p q : Spot} → Walk g src p q → p .mode ≡ outside → q .mode ≡ inName → p .at < q .at
@@ -181,30 +159,30 @@ module _ (g : Signs) (src : List ℕ) (at : ℕ) (q : Spot) (t : Tok) (e : LineE
     on = l .line .on (l .inside)
 
     -- a new row: that of a character
-    char-placed : (c : ℕ) (w₁ : List ℕ) → charShaped (nameLeft g src (t .inside)) ≡ true → c ≡ codeOf (nameLeft g src (t .inside))
-        → Finds (keyAt g src) (length src) w (keyAt g src (2 * t .inside .at)) Nothing → Declares (keyAt g src) (length src) w (2 * t .inside .at) w₁
-        → Placed g src w sh (subjectIn g src t) at (e .next) (set w₁ (cellAt (2 * t .inside .at) charsNumber) (2 * c + 2)) (2 * t .inside .at) s
+    char-placed : (c : ℕ) (w′ : List ℕ) → charShaped (nameLeft g src (t .inside)) ≡ true → c ≡ codeOf (nameLeft g src (t .inside))
+        → Finds (keyAt g src) (length src) w (keyAt g src (2 * t .inside .at)) Nothing → Declares (keyAt g src) (length src) w (2 * t .inside .at) w′
+        → Placed g src w sh (subjectIn g src t) at (e .next) w′ (2 * t .inside .at) s
     unfolding subjectOf stands
-    char-placed c w₁ shaped code d h =
+    char-placed c w′ shaped code d h =
         let v = 2 * t .inside .at in
         let x = subjectIn g src t in
         let k = o .known in
-        let w′ = set w₁ (cellAt v charsNumber) (2 * c + 2) in
         let i = mark-is g src w (t .inside) Nothing name-inside d (sh .order) (s .ordered .rules) (o .n) (s .declared) (s .ordered .lines) k in
         let key : keyAt g src v ≡ item x = keyAt-inside g src (t .inside) name-inside in
+        let is : x ≡ character c = (rw shaped (ap character (sym code))) in
         let a = name-after in
         let b = rows-at in
         let z = name-to in
-        let room : o .n ≤ v / 16 = omega (arith, a, b) in
+        let above = character-above (key ∙ ap item is) in
+        let room : o .n + aboveOf (kindOf (keyAt g src v)) ≤ v / 16 = omega (arith, a, b, above) in
         let below : v / 2 ≤ length src = omega (arith, z) in
         let new : first (keyAt g src v) (k .ds) ≡ Nothing = ap (λ (j : Key). first j (k .ds)) key ∙ i in
         let some : 1 ≤ v = omega (arith, a) in
-        let is : x ≡ character c = (rw shaped (ap character (sym code))) in
         let stood : isCharacter c ≡ true = sym (ap (stands (s .declared)) is) ∙ y .stood in
         let can : isDeclarable (keyAt g src v) ≡ true = ap isDeclarable (key ∙ ap item is) ∙ char-declarable c stood in
-        let more = known-character-new g src w (sh .order) (s .ordered .rules) (o .n) (s .declared) (s .ordered .lines) k v w₁ h room below can new some c (key ∙ ap item is) in
-        let four : (u j : ℕ) → 1 ≤ j → j < 5 → cell w′ u j ≡ cell w u j = coded-four g src w (sh .order) (s .ordered .rules) (o .n) (s .declared) (s .ordered .lines) k v w₁ h room below can new some c in
-        let same : (u j : ℕ) → u / 16 ≤ length src / 8 + 1 → 1 ≤ j → j < 5 → cell w′ u j ≡ cell w u j = λ u j a b c. four u j b c in
+        let more = known-character-new g src w (sh .order) (s .ordered .rules) (o .n) (s .declared) (s .ordered .lines) k v w′ h room below can new some c (key ∙ ap item is) in
+        let same : (u j : ℕ) → isRow (length src) (k .ds) u ≡ true → j < 5 → cell w′ u j ≡ cell w u j =
+        declared-older g src w (sh .order) (s .ordered .rules) (o .n) (s .declared) (s .ordered .lines) k v w′ h room below can new some in
         let found : first (keyAt g src v) (more .known .ds) ≡ At v = ap (first (keyAt g src v)) (more .same) ∙ first-fresh (keyAt g src) v (k .ds) in
         record {
           n = v / 16 + 1;
@@ -212,13 +190,13 @@ module _ (g : Signs) (src : List ℕ) (at : ℕ) (q : Spot) (t : Tok) (e : LineE
           mark = mark-found (length src) (more .known .ds) (nameLeft g src (t .inside)) ∙ ap (λ (j : Key). first j (more .known .ds)) (sym key) ∙ found;
           even = omega arith;
           some = some;
-          long = coded-long g src w (sh .order) (s .ordered .rules) (o .n) (s .declared) (s .ordered .lines) k v w₁ h room below can new some c;
-          beyond = λ j n. other w₁ (cellAt v charsNumber) j (2 * c + 2) (λ q. omega (arith, q, n, below)) ∙ h .beyond j (omega (arith, n));
+          long = h .long;
+          beyond = λ j n. h .beyond j (omega (arith, n));
           rows = λ n. let p = name-far n in let q = l .token .long-name (l .name) in let r = shaped-long (nameLeft g src (t .inside)) shaped in omega (arith, p, q, r);
           places = λ u j.
               let was = mark-older g src w w′ (sh .order) (s .ordered .rules) (s .ordered .rules) (o .n) (v / 16 + 1) (s .declared) (s .declared) (s .ordered .lines) (s .ordered .lines) k (more .known) same u j in
               let a = o .places u was in
-              let f = four u placeNumber (omega arith) (omega arith) in
+              let f = place-same g src w w′ (sh .order) (s .ordered .rules) (s .ordered .rules) (o .n) (v / 16 + 1) (s .declared) (s .declared) (s .ordered .lines) (s .ordered .lines) k (more .known) same u was in
               omega (arith, a, f);
           block = λ p.
               block-same g src w w′ (sh .order) (s .ordered .rules) (s .ordered .rules) (o .n) (v / 16 + 1) (s .declared) (s .declared) (s .ordered .lines) (s .ordered .lines) k (more .known) same
@@ -227,7 +205,7 @@ module _ (g : Signs) (src : List ℕ) (at : ℕ) (q : Spot) (t : Tok) (e : LineE
 
     name-placed : (w′ : List ℕ) (m : ℕ) (c : Code) (f : Found) → CodeIs (nameLeft g src (t .inside)) c
         → Finds (keyAt g src) (length src) w (keyAt g src (2 * t .inside .at)) f
-        → RowIs g src w (2 * t .inside .at) c w′ m f → Placed g src w sh (subjectIn g src t) at (e .next) w′ m s
+        → RowIs g src w (2 * t .inside .at) w′ m f → Placed g src w sh (subjectIn g src t) at (e .next) w′ m s
     name-placed w′ m c (At u) i d h =
         let x = subjectIn g src t in
         let k = o .known in
@@ -237,7 +215,7 @@ module _ (g : Signs) (src : List ℕ) (at : ℕ) (q : Spot) (t : Tok) (e : LineE
           n = o .n;
           known = k;
           mark = mark-found (length src) (k .ds) (nameLeft g src (t .inside)) ∙ i;
-          even = even-found g src w (o .n) (k .ds) (k .holds) x u i;
+          even = item-even g src u x (found-key (k .holds) (item x) u i);
           some = k .some u (found-place (k .holds) (item x) u i);
           long = refl;
           beyond = λ j a. refl;
@@ -250,20 +228,13 @@ module _ (g : Signs) (src : List ℕ) (at : ℕ) (q : Spot) (t : Tok) (e : LineE
         let f = mark-is g src w (t .inside) Nothing name-inside d (sh .order) (s .ordered .rules) (o .n) (s .declared) (s .ordered .lines) k in
         clash (stands-alone w (k .ds) (s .declared) (k .says) (nameLeft g src (t .inside)) (y .stood) f) i
     name-placed w′ m (Char x) Nothing i d h =
-        subst (λ (z : List ℕ). Placed g src w sh (subjectIn g src t) at (e .next) z m s) (sym (h .1 .told))
-        (subst (λ (z : ℕ). Placed g src w sh (subjectIn g src t) at (e .next) (set (h .1 .area) (cellAt (2 * t .inside .at) charsNumber) (2 * x .0 + 2)) z s) (sym (h .0))
-        (char-placed (x .0) (h .1 .area) (i .shaped) (i .code) d (h .1 .declares)))
+        subst (λ (z : ℕ). Placed g src w sh (subjectIn g src t) at (e .next) w′ z s) (sym (h .0)) (char-placed (x .0) w′ (i .shaped) (i .code) d (h .1))
 
   -- ## The step
 
-  pub name-fits : (w : List ℕ) (sh : Sheet) (number depth : ℕ) → SomeOpen g src w sh at depth → (c : Code) → CodeIs (nameLeft g src (t .inside)) c
-      → (r : ℕ) → Reads g src w sh at number (subjectIn g src t) (t .next) r → r ≡ 0 → CodeFits c
-  name-fits w sh number depth so c i r v z =
-      code-fits (nameLeft g src (t .inside)) (so .state .declared) c i (line-taken v z (so .chains) (so .state) (so .held) .stood)
-
   module _ (w : List ℕ) (sh : Sheet) (number depth : ℕ) (so : SomeOpen g src w sh at depth) (f : Found) (d : Finds (keyAt g src) (length src) w (keyAt g src (2 * t .inside .at)) f)
       (c : Code) (i : CodeIs (nameLeft g src (t .inside)) c) (r : ℕ) (v : Reads g src w sh at number (subjectIn g src t) (t .next) r) (z : r ≡ 0)
-      (w′ : List ℕ) (m : ℕ) (h : RowIs g src w (2 * t .inside .at) c w′ m f) where
+      (w′ : List ℕ) (m : ℕ) (h : RowIs g src w (2 * t .inside .at) w′ m f) where
     there : (cs : List Chain) (s : State) → Open g src w sh cs at s → Placed g src w sh (subjectIn g src t) at (e .next) w′ m s
     there cs s o = name-placed w sh number cs s o (line-taken v z cs s o) w′ m c f i d h
 

@@ -2,59 +2,34 @@
 use mathlib.Core.Path.{_≡_, refl, sym, ap, _∙_, subst}
 use mathlib.Core.Bool.{Bool, true, false}
 use mathlib.Core.List.{List}
-use Prim.Native.Nat.{ℕ, _+_, _*_, _/_, _≤_, _<_}
+use Prim.Native.Nat.{ℕ, _<_}
 use native.Mathlib.Omega.{arith}
-use lib.ListN.{length, set}
+use lib.ListN.{length}
 use Rattle.rules.specs.State.{inBlock}
 use Rattle.lines.specs.declared.Signs.{Signs}
 use Rattle.lines.specs.declared.LineEnd.{LineEnd}
-use Rattle.units.specs.declared.CodePoint.{CodePoint}
-use Rattle.names.specs.declared.Code.{Code}
-use Rattle.names.specs.declared.Code.the-variants.{Char, Other}
-use Rattle.rows.specs.Cells.{cellAt}
 use Rattle.subjects.specs.Keys.{keyAt}
 use Rattle.store.specs.declared.Found.{Found}
 use Rattle.store.specs.declared.Found.the-variants.{At, Nothing}
-use Rattle.store.specs.Store.{Roomy, Declares}
+use Rattle.store.specs.Store.{Declares}
 use Rattle.listed.specs.declared.Order.{Order}
-use Rattle.listed.specs.Listed.{charsNumber, Row, Among, longer, withLine, shorter, unlinked, longerAfter, withLineAfter}
+use Rattle.listed.specs.Listed.{Row, Among, longer, withLine, shorter, unlinked, longerAfter, withLineAfter}
 use Rattle.listed.proofs.ListLaws.{row-kept}
 use Rattle.listed.proofs.MoveLaws.{without, without-one, out-length, lines-out, backed-out}
 use Rattle.known.proofs.RankLaws.{isOrdered}
 use Rattle.sheet.specs.declared.Sheet.{Sheet}
 use Rattle.sheet.specs.declared.Step.{Step}
 use Rattle.sheet.specs.declared.Step.the-variants.{Next}
-use Rattle.ordering.specs.Facts.{CodeFits, CodeTold, RowIs, withOrder, withLast, Ready, LastIs, NewIs, MovedIs, Lists, atEnd, firstly, anew}
+use Rattle.ordering.specs.Facts.{RowIs, withOrder, withLast, Ready, LastIs, NewIs, MovedIs, Lists, atEnd, firstly, anew}
 
 -- ## The row
 
-module _ (c : Code) where
-  -- what is told can be stored
-  code-small : {x : CodePoint} → CodeFits c → c ≡ Char x → x .0 ≤ 0x10FFFF
-  code-small h e = subst CodeFits e h
+module _ (g : Signs) (src w : List ℕ) (v : ℕ) (f : Found) where
+  pub row-found : {u : ℕ} → f ≡ At u → RowIs g src w v w u f
+  row-found {u} e = subst (RowIs g src w v w u) (sym e) (refl, refl)
 
-  pub code-twice : {x : CodePoint} → CodeFits c → c ≡ Char x → 2 * x .0 < 4294967296
-  code-twice h e = let l = code-small h e in omega (arith, l)
-
-  pub code-sum : {x : CodePoint} → CodeFits c → c ≡ Char x → 2 * x .0 + 2 < 4294967296
-  code-sum h e = let l = code-small h e in omega (arith, l)
-
-  pub code-told : (w w′ : List ℕ) (v : ℕ) {x : CodePoint} → c ≡ Char x → w′ ≡ set w (cellAt v charsNumber) (2 * x .0 + 2) → CodeTold w v c w′
-  code-told w w′ v e t = subst (λ (y : Code). CodeTold w v y w′) (sym e) t
-
-  pub code-none : (w : List ℕ) (v : ℕ) → c ≡ Other → CodeTold w v c w
-  code-none w v e = subst (λ (y : Code). CodeTold w v y w) (sym e) refl
-
-module _ (g : Signs) (src w : List ℕ) (v : ℕ) (f : Found) (c : Code) where
-  pub row-found : {u : ℕ} → f ≡ At u → RowIs g src w v c w u f
-  row-found {u} e = subst (RowIs g src w v c w u) (sym e) (refl, refl)
-
-  module _ {area : List ℕ} (d : Declares (keyAt g src) (length src) w v area) where
-    pub row-inside : v / 2 ≤ length src → Roomy (length src) w → 8 * (v / 16) + 8 ≤ length area
-    row-inside i r = omega (arith, i, r .room, d .long)
-
-    pub row-new : (w′ : List ℕ) → f ≡ Nothing → CodeTold area v c w′ → RowIs g src w v c w′ v f
-    row-new w′ e t = subst (RowIs g src w v c w′ v) (sym e) (refl, record { area = area; declares = d; told = t })
+  pub row-new : (w′ : List ℕ) → f ≡ Nothing → Declares (keyAt g src) (length src) w v w′ → RowIs g src w v w′ v f
+  row-new w′ e d = subst (RowIs g src w v w′ v) (sym e) (refl, d)
 
 -- ## Where the line comes to stand
 

@@ -3,7 +3,7 @@ use mathlib.Core.Path.{_≡_}
 use mathlib.Core.Bool.{Bool, true, false, not, _||_}
 use mathlib.Core.List.{List}
 use Prim.Native.Nat.{ℕ, _+_, _-_, _*_, _/_, _≤_, _<_}
-use lib.ListN.{length, set}
+use lib.ListN.{length}
 use lib.Dec.{eqb, leb}
 use Rattle.rules.specs.Text.{if_then_else_, oneOf, lower}
 use Rattle.rules.specs.Tokens.{operands, tokensRefusal}
@@ -14,9 +14,7 @@ use Rattle.lines.specs.declared.Signs.{Signs}
 use Rattle.lines.specs.declared.Spot.{Spot}
 use Rattle.lines.specs.declared.LineEnd.{LineEnd}
 use Rattle.tokens.specs.Left.{tokensLeft}
-use Rattle.rows.specs.Cells.{cellAt, cell}
-use Rattle.names.specs.declared.Code.{Code}
-use Rattle.names.specs.declared.Code.the-variants.{Char, Other}
+use Rattle.rows.specs.Cells.{cell}
 use Rattle.store.specs.declared.Found.{Found}
 use Rattle.store.specs.declared.Found.the-variants.{At, Nothing}
 use Rattle.store.specs.Store.{Declares}
@@ -92,26 +90,10 @@ pub record OwnRefused (g : Signs) (src w : List ℕ) (sh : Sheet) (p : Spot) (k 
 
 -- ## The row
 
--- A code that a row can tell: that of a character is.
-abbrev pub CodeFits : Code → Type 0
-CodeFits (Char c) = c .0 ≤ 0x10FFFF
-CodeFits Other = Unit
-
--- the row of the mark v tells it
-abbrev pub CodeTold : List ℕ → ℕ → Code → List ℕ → Type 0
-CodeTold w v (Char c) w′ = w′ ≡ set w (cellAt v charsNumber) (2 * c .0 + 2)
-CodeTold w v Other w′ = w′ ≡ w
-
--- What stands at the mark v, whose code is c, is declared, and then its row tells the code.
-pub record NewRow (g : Signs) (src w : List ℕ) (v : ℕ) (c : Code) (w′ : List ℕ) : Type 0 where
-  pub area : List ℕ
-  pub declares : Declares (keyAt g src) (length src) w v area
-  pub told : CodeTold area v c w′
-
--- A row for what stands at the mark v, whose code is c, where f is found: that, or a new one.
-abbrev pub RowIs : Signs → List ℕ → List ℕ → ℕ → Code → List ℕ → ℕ → Found → Type 0
-RowIs g src w v c w′ m (At u) = (m ≡ u) × (w′ ≡ w)
-RowIs g src w v c w′ m Nothing = (m ≡ v) × NewRow g src w v c w′
+-- A row for what stands at the mark v, where f is found: that, or a new one.
+abbrev pub RowIs : Signs → List ℕ → List ℕ → ℕ → List ℕ → ℕ → Found → Type 0
+RowIs g src w v w′ m (At u) = (m ≡ u) × (w′ ≡ w)
+RowIs g src w v w′ m Nothing = (m ≡ v) × Declares (keyAt g src) (length src) w v w′
 
 -- ## The line
 

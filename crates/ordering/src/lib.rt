@@ -17,7 +17,7 @@ ghost use Rattle.store.specs.Store.{isFound, undefinedMark, Finds, Roomy};
 ghost use Rattle.known.proofs.RankLaws.{isOrdered};
 ghost use Rattle.sheet.specs.Names.{subjectIn, NameLine};
 ghost use Rattle.sheet.specs.Sheets.{SomeOpen, StepIs};
-ghost use Rattle.ordering.specs.Facts.{Rowed, isBare, isOwn, isAgain, FactsOf, undefinedFacts, SomeKnown, OwnRefused, CodeFits, CodeTold, RowIs, withLast, Ready, LastIs, NewIs, MovedIs, Lists};
+ghost use Rattle.ordering.specs.Facts.{Rowed, isBare, isOwn, isAgain, FactsOf, undefinedFacts, SomeKnown, OwnRefused, RowIs, withLast, Ready, LastIs, NewIs, MovedIs, Lists};
 ghost use Rattle.sheet.specs.Words.{WordLine};
 ghost use Rattle.ordering.specs.Lines.{Reads};
 use lines::LineEnd;
@@ -31,7 +31,6 @@ use names::Code;
 use names::name_char;
 use opening::refusal_with;
 use operands::no_operand;
-use rows::tell;
 use rows::told;
 use sheet::Block;
 use sheet::Sheet;
@@ -229,30 +228,15 @@ fn own_refusal(src: &[u8], g: Signs, work: &[u32], sh: Sheet, p: Spot, k: Facts,
     3
 }
 
-// The row of a mark tells the code of a character: twice the code and 2, so that it is even and never 0.
-fn tell_code(work: &mut [u32], v: usize, c: Code)
-    requires { ⌜ CodeFits c × (8 * (v / 16) + 8 ≤ length (now work)) ⌝ }
-    ensures { λ _. ⌜ CodeTold (now (work .entry)) v c (now (work .exit)) ⌝ }
-{
-    match c {
-        Code::Char(x) => {
-            tell(work, v, 0, 2 * x.0 + 2);
-            return;
-        }
-        Code::Other => return,
-    }
-}
-
-// A row for what stands at a mark, where f is found for it and c is its code: that of f, or a new one, which tells the code.
-fn row_for(src: &[u8], g: Signs, work: &mut [u32], v: usize, f: Found, c: Code) -> usize
-    requires { ⌜ (v / 2 ≤ length (now src)) × Roomy (length (now src)) (now work) × CodeFits c ⌝ }
-    ensures { λ m. ⌜ RowIs g (now (src .entry)) (now (work .entry)) v c (now (work .exit)) m f ⌝ }
+// A row for what stands at a mark, where f is found for it: that of f, or a new one.
+fn row_for(src: &[u8], g: Signs, work: &mut [u32], v: usize, f: Found) -> usize
+    requires { ⌜ (v / 2 ≤ length (now src)) × Roomy (length (now src)) (now work) ⌝ }
+    ensures { λ m. ⌜ RowIs g (now (src .entry)) (now (work .entry)) v (now (work .exit)) m f ⌝ }
 {
     match f {
         Found::At(u) => return u,
         Found::Nothing => {
             declare(src, g, work, v);
-            tell_code(work, v, c);
             return v;
         }
     }
@@ -387,7 +371,7 @@ pub fn name_line(
     let c = name_char(src, g, t.inside);
     let r = name_refusal(src, g, work, sh, at, number, depth, q, t, e, f, c);
     if r == 0 {
-        let m = row_for(src, g, work, v, f, c);
+        let m = row_for(src, g, work, v, f);
         return list_line(work, sh, m, number, t.next.at, e);
     }
     Step::Refused(r)

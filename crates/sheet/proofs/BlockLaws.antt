@@ -19,7 +19,6 @@ use Rattle.listed.specs.declared.Order.{Order}
 use Rattle.listed.specs.Listed.{placeNumber, nextNumber, Linked, ends, goes}
 use Rattle.listed.proofs.MoveLaws.{one-has}
 use Rattle.known.specs.Known.{subjectAt, isRow, IsListed, Known}
-use Rattle.known.proofs.MarkLaws.{row-in}
 use Rattle.sheet.specs.declared.Block.{Block}
 use Rattle.sheet.specs.declared.Sheet.{Sheet}
 use Rattle.sheet.specs.Sheets.{InBlock, Open}
@@ -27,23 +26,22 @@ use Rattle.sheet.specs.Sheets.{InBlock, Open}
 -- ## Marks
 
 -- the rows that were listed keep their links, so that the same are linked
-linked-same : (g : Signs) (src w w′ : List ℕ) (ds : List Decl) → ((u : ℕ) → isRow (length src) ds u ≡ true → u / 16 ≤ length src / 8 + 1)
-    → ((u : ℕ) → u / 16 ≤ length src / 8 + 1 → cell w′ u nextNumber ≡ cell w u nextNumber)
+linked-same : (g : Signs) (src w w′ : List ℕ) (ds : List Decl) → ((u : ℕ) → isRow (length src) ds u ≡ true → cell w′ u nextNumber ≡ cell w u nextNumber)
     → (p : ℕ) (us vs : List ℕ) → All (IsListed g src w ds) us → Linked w p us → Linked w′ p vs → vs ≡ us
-linked-same g src w w′ ds h e p [] [] a ends ends = refl
-linked-same g src w w′ ds h e p [] (v ∷ vs) a ends (goes r m) = absurd (let s = r .some in omega (arith, s))
-linked-same g src w w′ ds h e p (u ∷ us) [] a (goes r m) ends = absurd (let s = r .some in omega (arith, s))
-linked-same g src w w′ ds h e p (u ∷ us) (v ∷ vs) a (goes r m) (goes q k) =
+linked-same g src w w′ ds e p [] [] a ends ends = refl
+linked-same g src w w′ ds e p [] (v ∷ vs) a ends (goes r m) = absurd (let s = r .some in omega (arith, s))
+linked-same g src w w′ ds e p (u ∷ us) [] a (goes r m) ends = absurd (let s = r .some in omega (arith, s))
+linked-same g src w w′ ds e p (u ∷ us) (v ∷ vs) a (goes r m) (goes q k) =
     ap (λ (x : List ℕ). u ∷ x)
-    (linked-same g src w w′ ds h e (cell w u nextNumber) us vs (a .1) m (subst (λ (x : ℕ). Linked w′ x vs) (e u (h u (a .0 .row))) k))
+    (linked-same g src w w′ ds e (cell w u nextNumber) us vs (a .1) m (subst (λ (x : ℕ). Linked w′ x vs) (e u (a .0 .row)) k))
 
 module _ (g : Signs) (src w w′ : List ℕ) (o : Order) (rs rs′ : List Rule) (n n′ : ℕ) (cs cs′ : List Declaration) (ls ls′ : List OrderLine)
     (k : Known g src w o rs n cs ls) (k′ : Known g src w′ o rs′ n′ cs′ ls′)
-    (same : (u j : ℕ) → u / 16 ≤ length src / 8 + 1 → 1 ≤ j → j < 5 → cell w′ u j ≡ cell w u j) where
+    (same : (u j : ℕ) → isRow (length src) (k .ds) u ≡ true → j < 5 → cell w′ u j ≡ cell w u j) where
   -- the same lines are listed
   pub marks-same : k′ .marks ≡ k .marks
   marks-same =
-      linked-same g src w w′ (k .ds) (λ u r. row-in (k .holds) u r) (λ u i. same u nextNumber i (omega arith) (omega arith)) (o .first) (k .marks) (k′ .marks)
+      linked-same g src w w′ (k .ds) (λ u r. same u nextNumber r (omega arith)) (o .first) (k .marks) (k′ .marks)
       (k .listed) (k .lines .linked) (k′ .lines .linked)
 
   pub mark-older : (v : ℕ) → oneOf (eqb v) (k′ .marks) ≡ true → oneOf (eqb v) (k .marks) ≡ true
@@ -54,7 +52,7 @@ module _ (g : Signs) (src w w′ : List ℕ) (o : Order) (rs rs′ : List Rule) 
 
   -- at the same places
   pub place-same : (v : ℕ) → oneOf (eqb v) (k .marks) ≡ true → cell w′ v placeNumber ≡ cell w v placeNumber
-  place-same v h = same v placeNumber (row-in (k .holds) v (one-has (IsListed g src w (k .ds)) v (k .marks) (k .listed) h .row)) (omega arith) (omega arith)
+  place-same v h = same v placeNumber (one-has (IsListed g src w (k .ds)) v (k .marks) (k .listed) h .row) (omega arith)
 
   -- and the open block is the same
   pub block-same : (b : Block) (xs : List Subject) → InBlock g src w (k .marks) b xs → InBlock g src w′ (k′ .marks) b xs

@@ -22,7 +22,7 @@ use Rattle.rows.specs.Cells.{cellAt, cell}
 use Rattle.store.specs.Store.{headsOf}
 use Rattle.listed.specs.declared.Order.{Order}
 use Rattle.listed.specs.Listed.{lineNumber, placeNumber, nextNumber, backNumber, linkedTo, numbered, withLine, unlinked, linkedBetween, withLineAfter}
-use Rattle.known.specs.Known.{behind, Known}
+use Rattle.known.specs.Known.{behind, isRow, Known}
 use Rattle.known.proofs.NewLaws.{known-rules}
 use Rattle.sheet.specs.declared.Block.{Block}
 use Rattle.sheet.specs.declared.Sheet.{Sheet}
@@ -68,7 +68,7 @@ module _ (g : Signs) (src w : List ℕ) (sh : Sheet) (cs : List Chain) (at : ℕ
   -- a declaration, in an area that keeps what stands behind the rows
   pub open-declared : (w′ : List ℕ) (n′ : ℕ) (ds : List Declaration) → (eqb (sh .phase) beforeOrder || eqb (sh .phase) afterOrder) ≡ true → at ≤ next
       → Known g src w′ (sh .order) (s .ordered .rules) n′ ds (s .ordered .lines) → length w′ ≡ length w
-      → ((u j : ℕ) → u / 16 ≤ length src / 8 + 1 → 1 ≤ j → j < 5 → cell w′ u j ≡ cell w u j)
+      → ((u j : ℕ) → isRow (length src) (o .known .ds) u ≡ true → j < 5 → cell w′ u j ≡ cell w u j)
       → ((i : ℕ) → 8 * headsOf (length src) ≤ i → getD w′ i 0 ≡ getD w i 0) → (next < length src → n′ ≤ (next + 5) / 8)
       → Open g src w′ sh cs next (withDeclared s ds)
   open-declared w′ n′ ds p on k l five b r = record {

@@ -16,7 +16,8 @@ use Rattle.lines.specs.declared.Signs.{Signs}
 use Rattle.lines.specs.declared.Spot.{Spot}
 use Rattle.rows.specs.Cells.{cellAt, cell}
 use Rattle.toggles.specs.Kept.{togglesIn, Kept}
-use Rattle.known.specs.Known.{behind}
+use Rattle.known.specs.Known.{behind, isRow}
+use Rattle.known.proofs.MarkLaws.{row-in}
 use Rattle.known.proofs.NewLaws.{known-behind}
 use Rattle.sheet.specs.declared.Sheet.{Sheet}
 use Rattle.sheet.specs.Sheets.{togglesAt, rowsBefore, Open, isUsed}
@@ -117,8 +118,8 @@ module _ (g : Signs) (src w : List ℕ) (sh : Sheet) (cs : List Chain) (at : ℕ
         closed = o .closed;
       }
     where
-      five : (u j : ℕ) → u / 16 ≤ length src / 8 + 1 → 1 ≤ j → j < 5 → cell w′ u j ≡ cell w u j
-      five u j i p q = b (cellAt u j) (omega (arith, i, q))
+      five : (u j : ℕ) → isRow (length src) (o .known .ds) u ≡ true → j < 5 → cell w′ u j ≡ cell w u j
+      five u j r q = let i = row-in (o .known .holds) u r in b (cellAt u j) (omega (arith, i, q))
 
   -- the end of the order
   pub open-ended : sh .phase ≡ inOrder

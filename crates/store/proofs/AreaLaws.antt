@@ -1,5 +1,5 @@
 -- The area and the list that it holds: an area that is cleared, what a store elsewhere leaves, and where the ways of keys lead in it.
-use mathlib.Core.Path.{_≡_, refl, sym, ap, _∙_}
+use mathlib.Core.Path.{_≡_, refl, sym, ap, _∙_, subst}
 use mathlib.Core.Bool.{true, false, _&&_, false≢true}
 use mathlib.Core.List.{List, [], _++_, append-nil}
 use Prim.Native.Nat.{ℕ, zero, suc, _+_, _-_, _*_, _/_, _%_, _≤_, _<_}
@@ -8,13 +8,14 @@ use native.Mathlib.Omega.{arith}
 use lib.ListN.{length, getD, set, drop, replicate, length-set, length-replicate, drop-of-length-le}
 use lib.Seq.{getD-set-other}
 use lib.Dec.{eqb}
-use borrow.Author.Tests.{eq-eqb, eqb-true, eqb-false}
+use borrow.Author.Tests.{eq-eqb, ne-eqb, eqb-true, eqb-false}
 use borrow.Author.Fill.{fill-more}
 use Rattle.lists.proofs.Bools.{by, and-intro, cond-both}
+use Rattle.lists.proofs.Lists.{All}
 use Rattle.rows.specs.Cells.{cellAt}
 use Rattle.subjects.specs.Keys.{Key, hashKey}
-use Rattle.subjects.specs.Numbers.{bitOf}
-use Rattle.store.specs.Store.{Decl, isPlace, nothing, headsOf, chainOf, together, depthOf, nodeOf, sideOf, slotOf, pointed, markIn, Nodes, none, more, Roomy, Holds}
+use Rattle.subjects.specs.Numbers.{bitOf, kindOf, widthOf}
+use Rattle.store.specs.Store.{Decl, isPlace, nothing, headsOf, chainOf, together, depthOf, nodeOf, sideOf, slotOf, pointed, tagIn, markIn, aboveOf, spotOf, Node, Nodes, none, more, Roomy, Holds}
 use Rattle.store.proofs.WayLaws.{bit-small, together-swap, alike, depth-alike, node-by, node-some}
 
 -- ## Clearing
@@ -79,19 +80,97 @@ pub pointed-same : (w w′ : List ℕ) (s : ℕ) → getD w′ s 0 ≡ getD w s 
 unfolding pointed
 pointed-same w w′ s e = rw e
 
-pub mark-same : (w w′ : List ℕ) (r : ℕ) → getD w′ (8 * r + 2) 0 ≡ getD w (8 * r + 2) 0 → markIn w′ r ≡ markIn w r
-unfolding markIn
-mark-same w w′ r e = rw e
+pub tag-same : (w w′ : List ℕ) (r : ℕ) → getD w′ (8 * r + 2) 0 ≡ getD w (8 * r + 2) 0 → tagIn w′ r ≡ tagIn w r
+unfolding tagIn
+tag-same w w′ r e = rw e
+
+-- ## Where numbers are kept
+
+pub above-name : (kind : ℕ) → kind ≡ 1 → aboveOf kind ≡ 1
+unfolding aboveOf
+above-name kind e = rw e
+
+pub above-other : (kind : ℕ) → (kind ≡ 1 → ⊥) → aboveOf kind ≡ 0
+unfolding aboveOf
+above-other kind n = rw (ne-eqb kind 1 n)
+
+pub spot-name : (kind r i : ℕ) → kind ≡ 1 → (i ≡ 0 → ⊥) → spotOf kind r i ≡ 8 * (r - 1) + (1 + i)
+unfolding spotOf
+spot-name kind r i e n = rw (e, ne-eqb i 0 n)
+
+pub spot-first : (kind r : ℕ) → kind ≡ 1 → spotOf kind r 0 ≡ 8 * (r - 1)
+unfolding spotOf
+spot-first kind r e = rw e (let z : 8 * (r - 1) + 0 ≡ 8 * (r - 1) = omega arith in z)
+
+pub spot-own : (kind r i : ℕ) → (kind ≡ 1 → ⊥) → spotOf kind r i ≡ 8 * r + 3 + i
+unfolding spotOf
+spot-own kind r i n = rw (ne-eqb kind 1 n)
+
+pub width-char : (kind : ℕ) → kind ≡ 0 → widthOf kind ≡ 1
+unfolding widthOf
+width-char kind e = rw e
+
+pub width-name : (kind : ℕ) → kind ≡ 1 → widthOf kind ≡ 7
+unfolding widthOf
+width-name kind e = rw e
+
+pub width-other : (kind : ℕ) → (kind ≡ 0 → ⊥) → (kind ≡ 1 → ⊥) → widthOf kind ≡ 4
+unfolding widthOf
+width-other kind m n = rw (ne-eqb kind 0 m, ne-eqb kind 1 n)
+
+-- a number that is kept for row r stands in a row of its key's own, and is no number 1
+pub record Spot (kind r x : ℕ) : Type 0 where
+  pub from : 8 * (r - aboveOf kind) ≤ x
+  pub to : x < 8 * r + 8
+  pub own : (kind ≡ 1 → ⊥) → 8 * r + 3 ≤ x
+  pub before : kind ≡ 1 → x < 8 * (r - 1) + 8
+  pub head : x % 8 ≡ 1 → ⊥
+
+pub spot-is : (kind r i : ℕ) → i < widthOf kind → Spot kind r (spotOf kind r i)
+spot-is kind r i h = by (eqb kind 1)
+    (λ t. let e = eqb-true kind 1 t in let a = above-name kind e in let m = width-name kind e in
+    by (eqb i 0)
+    (λ u. let z : i ≡ 0 = eqb-true i 0 u in
+    let s : spotOf kind r i ≡ 8 * (r - 1) = ap (spotOf kind r) z ∙ spot-first kind r e in
+    record { from = omega (arith, s, a); to = omega (arith, s); own = λ n. absurd (n e); before = λ x. omega (arith, s); head = λ x. omega (arith, x, s) })
+    (λ u. let n = eqb-false i 0 u in
+    let s = spot-name kind r i e n in
+    record { from = omega (arith, s, a); to = omega (arith, s, h, m); own = λ n. absurd (n e); before = λ x. omega (arith, s, h, m); head = λ x. omega (arith, x, s, h, m, n) }))
+    (λ t. let n = eqb-false kind 1 t in let a = above-other kind n in let s = spot-own kind r i n in
+    let m : widthOf kind ≤ 4 = by (eqb kind 0)
+    (λ u. let z = width-char kind (eqb-true kind 0 u) in omega (arith, z))
+    (λ u. let z = width-other kind (eqb-false kind 0 u) n in omega (arith, z)) in
+    record { from = omega (arith, s, a); to = omega (arith, s, h, m); own = λ x. omega (arith, s); before = λ e. absurd (n e); head = λ x. omega (arith, x, s, h, m) })
+
+-- ## What nodes see
+
+-- Two areas are alike for d: its tag, and the numbers that are kept.
+pub record Alike (w w′ : List ℕ) (d : Decl) : Type 0 where
+  pub tag : tagIn w′ (d .place / 16) ≡ tagIn w (d .place / 16)
+  pub kept : (i : ℕ) → i < widthOf (kindOf (d .key)) → getD w′ (spotOf (kindOf (d .key)) (d .place / 16) i) 0 ≡ getD w (spotOf (kindOf (d .key)) (d .place / 16) i) 0
 
 module _ {key : ℕ → Key} {len : ℕ} {w : List ℕ} where
-  -- nodes below row n see nothing but the marks of their rows
-  pub keep : {w′ : List ℕ} {n : ℕ} {ds : List Decl} → ((r : ℕ) → r < n → 8 * r ≤ len → markIn w′ r ≡ markIn w r) → Nodes key len w n ds → Nodes key len w′ n ds
-  keep f none = none
-  keep {w′} f (more {d = d} a ns) =
-      let lt = a .below in
-      let i = a .within in
-      more (record { below = a .below; within = a .within; keyed = a .keyed; plain = a .plain; place = f (d .place / 16) lt (omega (arith, i)) ∙ a .place })
-      (keep (λ r h o. f r (omega (arith, h, lt)) o) ns)
+  -- nodes see nothing else
+  pub keep : {w′ : List ℕ} {n : ℕ} {ds : List Decl} → All (Alike w w′) ds → Nodes key len w n ds → Nodes key len w′ n ds
+  keep a none = none
+  keep a (more {d = d} x ns) =
+      more (record {
+        below = x .below;
+        within = x .within;
+        keyed = x .keyed;
+        plain = x .plain;
+        above = x .above;
+        tag = a .0 .tag ∙ x .tag;
+        kept = λ i h. a .0 .kept i h ∙ x .kept i h;
+      }) (keep (a .1) ns)
+
+  -- what holds of each node, whatever is known of it, holds of all
+  pub all-nodes : {X : Decl → Type 0} {n : ℕ} {ds : List Decl} → ((m : ℕ) (d : Decl) → m ≤ n → Node key len w m d → X d) → Nodes key len w n ds → All X ds
+  all-nodes f none = tt
+  all-nodes {n = n} f (more {d = d} a ns) = let b = a .below in (f n d (omega arith) a, all-nodes (λ m e l x. f m e (omega (arith, l, b)) x) ns)
+
+  pub node-mark : {n : ℕ} {d : Decl} → Node key len w n d → markIn w (d .place / 16) ≡ d .place
+  node-mark a = let t = a .tag in omega (arith, t)
 
   -- ## How far ways lead
 
@@ -125,7 +204,7 @@ module _ {key : ℕ → Key} {len : ℕ} {w : List ℕ} where
   node-place hs k m r none e = absurd (let z : _≡_ {A = ℕ} 0 (suc r) = e in omega (arith, z))
   node-place hs k m r (more {d = d} {ds = ds} a ns) e =
       node-by hs k m d ds
-      (λ x s u. let z : r ≡ d .place / 16 = omega (arith, u, e) in rw (eq-eqb (d .place) (markIn w r) (sym (ap (markIn w) z ∙ a .place))))
+      (λ x s u. let z : r ≡ d .place / 16 = omega (arith, u, e) in rw (eq-eqb (d .place) (markIn w r) (sym (ap (markIn w) z ∙ node-mark a))))
       (λ u v. let i = node-place hs k m r ns (sym u ∙ e) in by (eqb (d .place) (markIn w r)) (λ t. rw t) (λ t. rw t i))
 
 -- What stands at one place on two ways stands at one depth, and the two go the same way so far.
@@ -217,7 +296,7 @@ module _ {key : ℕ → Key} {len : ℕ} {w : List ℕ} {n : ℕ} {ds : List Dec
 pub rise : {key : ℕ → Key} {len : ℕ} {w : List ℕ} {n m : ℕ} {ds : List Decl} → n ≤ m → Nodes key len w n ds → Nodes key len w m ds
 rise h none = none
 rise {m = m} h (more {d = d} a ns) =
-    more {n = m} {d = d} (record { below = omega (arith, a .below, h); within = a .within; keyed = a .keyed; plain = a .plain; place = a .place }) ns
+    more {n = m} {d = d} (record { below = omega (arith, a .below, h); within = a .within; keyed = a .keyed; plain = a .plain; above = a .above; tag = a .tag; kept = a .kept }) ns
 
 -- what is declared lies in a row below the bound
 pub placed : {key : ℕ → Key} {len : ℕ} {w : List ℕ} {n : ℕ} {ds : List Decl} (p : ℕ) → Nodes key len w n ds → isPlace p ds ≡ true → p / 16 < n
@@ -242,22 +321,70 @@ holds-beyond {len = len} {w = w} {w′ = w′} {ds = ds} e f v =
     record {
       roomy = record { few = v .roomy .few; room = rw e (v .roomy .room) };
       points = λ k m h. pointed-same w w′ (slotOf (headsOf len) k m ds) (f (slotOf (headsOf len) k m ds) (slot-inside (v .nodes) k m h)) ∙ v .points k m h;
-      nodes = keep (λ r g o. mark-same w w′ r (f (8 * r + 2) (omega (arith, o)))) (v .nodes);
+      nodes = keep (all-nodes (λ m d l a. let i = a .within in record {
+        tag = tag-same w w′ (d .place / 16) (f (8 * (d .place / 16) + 2) (omega (arith, i)));
+        kept = λ j h. let s = spot-is (kindOf (d .key)) (d .place / 16) j h .to in f (spotOf (kindOf (d .key)) (d .place / 16) j) (omega (arith, s, i));
+      }) (v .nodes)) (v .nodes);
       once = v .once;
     }
 
 -- ## The five numbers of rows
 
--- what holds goes on holding where one of them changes
-pub holds-told : {key : ℕ → Key} {len : ℕ} {w : List ℕ} {n : ℕ} {ds : List Decl} (v k x : ℕ) → k < 5
-    → Holds key len w n ds → Holds key len (set w (cellAt v k) x) n ds
-holds-told {len = len} {w = w} {ds = ds} v k x h o =
-    record {
-      roomy = record { few = o .roomy .few; room = rw length-set (o .roomy .room) };
-      points = λ j m i.
-          pointed-same w (set w (cellAt v k) x) (slotOf (headsOf len) j m ds)
-          (other w (cellAt v k) (slotOf (headsOf len) j m ds) x (λ e. let z = slot-number (headsOf len) j m ds in omega (arith, e, z, h)))
-          ∙ o .points j m i;
-      nodes = keep (λ r g a. mark-same w (set w (cellAt v k) x) r (other w (cellAt v k) (8 * r + 2) x (λ e. omega (arith, e, h)))) (o .nodes);
-      once = o .once;
-    }
+-- The number k of the five of row v is not one where a key of a kind is kept that is declared there.
+abbrev pub Free : ℕ → ℕ → ℕ → Type 0
+Free kind v k = (i : ℕ) → i < widthOf kind → cellAt v k ≡ spotOf kind (v / 16) i → ⊥
+
+-- of a name all five are free, of a character all but the first
+pub free-name : (kind v k : ℕ) → k < 5 → kind ≡ 1 → 1 ≤ v / 16 → Free kind v k
+free-name kind v k h e o i l z = let s = spot-is kind (v / 16) i l .before e in omega (arith, z, s, o)
+
+pub free-char : (kind v k : ℕ) → 1 ≤ k → kind ≡ 0 → Free kind v k
+free-char kind v k h e i l z =
+    let m = width-char kind e in
+    let n : (kind ≡ 1 → ⊥) = λ x. omega (arith, x, e) in
+    let s = spot-own kind (v / 16) i n in
+    omega (arith, z, s, l, m, h)
+
+-- where the number is none that is kept for d, all is alike
+told-alike : (w : List ℕ) (v k x : ℕ) → k < 5 → (d : Decl) → ((i : ℕ) → i < widthOf (kindOf (d .key)) → cellAt v k ≡ spotOf (kindOf (d .key)) (d .place / 16) i → ⊥)
+    → Alike w (set w (cellAt v k) x) d
+told-alike w v k x h d f = record {
+  tag = tag-same w (set w (cellAt v k) x) (d .place / 16) (other w (cellAt v k) (8 * (d .place / 16) + 2) x (λ e. omega (arith, e, h)));
+  kept = λ i l. other w (cellAt v k) (spotOf (kindOf (d .key)) (d .place / 16) i) x (λ e. f i l (sym e));
+}
+
+module _ {key : ℕ → Key} {len : ℕ} {w : List ℕ} (v k x : ℕ) (h : k < 5) where
+  -- and so it is for all that was declared in rows before
+  told-before : {n : ℕ} {ds : List Decl} → n ≤ v / 16 → Nodes key len w n ds → All (Alike w (set w (cellAt v k) x)) ds
+  told-before b ns = all-nodes (λ m d l a. let c = a .below in
+      told-alike w v k x h d (λ i j e. let s = spot-is (kindOf (d .key)) (d .place / 16) i j .to in omega (arith, e, s, c, l, b))) ns
+
+  -- and for all, where the number belongs to a row that is declared
+  told-all : {n : ℕ} {ds : List Decl} → isPlace v ds ≡ true → Free (kindOf (key v)) v k → Nodes key len w n ds → All (Alike w (set w (cellAt v k) x)) ds
+  unfolding isPlace
+  told-all p f none = tt
+  told-all p f (more {d = d} {ds = es} a ns) = by (eqb (d .place) v)
+      (λ t. let e = eqb-true (d .place) v t in
+      let c : key v ≡ d .key = ap key (sym e) ∙ a .keyed in
+      let g : Free (kindOf (d .key)) (d .place) k = subst (λ (z : Key). Free (kindOf z) (d .place) k) c (subst (λ (z : ℕ). Free (kindOf (key v)) z k) (sym e) f) in
+      (told-alike w v k x h d (λ i l q. g i l (ap (λ (z : ℕ). cellAt z k) e ∙ q)), told-before (omega (arith, e)) ns))
+      (λ t. let r : isPlace v es ≡ true = rw t at p in
+      let b = placed v ns r in
+      (told-alike w v k x h d (λ i l q. let s = spot-is (kindOf (d .key)) (d .place / 16) i l .from in omega (arith, q, s, b, h)), told-all r f ns))
+
+  -- what holds goes on holding
+  pub holds-told : {n : ℕ} {ds : List Decl} → isPlace v ds ≡ true → Free (kindOf (key v)) v k → Holds key len w n ds → Holds key len (set w (cellAt v k) x) n ds
+  holds-told {ds = ds} p f o =
+      record {
+        roomy = record { few = o .roomy .few; room = rw length-set (o .roomy .room) };
+        points = λ j m i.
+            pointed-same w (set w (cellAt v k) x) (slotOf (headsOf len) j m ds)
+            (other w (cellAt v k) (slotOf (headsOf len) j m ds) x (λ e. let z = slot-number (headsOf len) j m ds in omega (arith, e, z, h)))
+            ∙ o .points j m i;
+        nodes = keep (told-all p f (o .nodes)) (o .nodes);
+        once = o .once;
+      }
+
+  -- and so it does where a number behind the rows changes
+  pub holds-behind : {n : ℕ} {ds : List Decl} → headsOf len ≤ v / 16 → Holds key len w n ds → Holds key len (set w (cellAt v k) x) n ds
+  holds-behind b o = holds-beyond (length-set w (cellAt v k) x) (λ i l. other w (cellAt v k) i x (λ e. omega (arith, e, l, b))) o

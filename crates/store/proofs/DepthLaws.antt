@@ -10,9 +10,9 @@ use Rattle.lists.proofs.Bools.{by, and-left, and-right, and-intro, clash, cond-
 use Rattle.rules.specs.Text.{if_then_else_, same}
 use Rattle.rules.proofs.TextLaws.{same-true, same-refl}
 use Rattle.subjects.specs.Keys.{Key, sameKey}
-use Rattle.subjects.specs.Numbers.{isDeclarable, numbersOf, bitOf}
+use Rattle.subjects.specs.Numbers.{isDeclarable, kindOf, numbersOf, bitOf}
 use Rattle.subjects.proofs.KeyLaws.{sameKey-equal}
-use Rattle.subjects.proofs.BitLaws.{bits-numbers, kindOf, kind-low, numbers-apart}
+use Rattle.subjects.proofs.BitLaws.{bits-numbers, kind-low, numbers-apart}
 use Rattle.store.specs.declared.Found.the-variants.{At, Nothing}
 use Rattle.store.specs.Store.{Decl, first, Once, another, together, depthOf, Nodes, none, more}
 use Rattle.store.proofs.WayLaws.{together-less, depth-on, depth-off}

@@ -1,6 +1,6 @@
 pub mod WayLaws
-pub mod SlotLaws
 pub mod AreaLaws
+pub mod SlotLaws
 pub mod DepthLaws
 pub mod SeekLaws
 pub mod DeclareLaws

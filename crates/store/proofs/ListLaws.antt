@@ -1,18 +1,22 @@
 -- For callers: what the list says after a declaration and after a number is set, and how marks and keys go together.
-use mathlib.Core.Path.{_≡_, refl, sym, ap, _∙_}
+use mathlib.Core.Path.{_≡_, refl, sym, ap, _∙_, subst}
 use mathlib.Core.Bool.{true, false, false≢true}
 use mathlib.Core.List.{List, [], _∷_}
-use Prim.Native.Nat.{ℕ, _/_, _≤_, _<_}
+use Prim.Native.Nat.{ℕ, _+_, _*_, _/_, _≤_, _<_}
 use native.Mathlib.Omega.{arith}
+use lib.ListN.{getD}
 use lib.Dec.{eqb}
 use borrow.Author.Tests.{eq-eqb, eqb-true, eqb-false}
 use Rattle.lists.proofs.Bools.{by}
 use Rattle.lists.proofs.Lists.{All}
-use Rattle.subjects.specs.Keys.{Key, sameKey}
+use Rattle.rules.specs.State.{character}
+use Rattle.rows.specs.Cells.{cell}
+use Rattle.subjects.specs.Keys.{Key, item, sameKey}
+use Rattle.subjects.specs.Numbers.{kindOf, widthOf, numbersOf}
 use Rattle.subjects.proofs.KeyLaws.{sameKey-true, sameKey-refl, sameKey-equal}
 use Rattle.store.specs.declared.Found.the-variants.{At, Nothing}
-use Rattle.store.specs.Store.{Decl, first, isPlace, Once, another, fresh, Nodes, none, more, Holds}
-use Rattle.store.proofs.AreaLaws.{placed, placed-within}
+use Rattle.store.specs.Store.{Decl, first, isPlace, Once, another, fresh, aboveOf, spotOf, Nodes, none, more, Holds, Declares}
+use Rattle.store.proofs.AreaLaws.{spot-is, spot-own, free-name, free-char, placed, placed-within}
 
 -- ## Nothing declared
 
@@ -92,9 +96,6 @@ module _ {key : ℕ → Key} {len : ℕ} {w : List ℕ} where
       (λ u. let q : At (d .place) ≡ At p = rw u at e in let z : d .place ≡ p = cc in absurd (eqb-false (d .place) p t z))
       (λ u. first-place k p ns (rw u at e))))
 
-  new-place : {n : ℕ} {ds : List Decl} (p : ℕ) → Nodes key len w n ds → n ≤ p / 16 → isPlace p ds ≡ false
-  new-place {ds = ds} p ns h = by (isPlace p ds) (λ t. let b = placed p ns t in absurd (omega arith)) (λ t. t)
-
   one-row : {n : ℕ} {ds : List Decl} (p q : ℕ) → Nodes key len w n ds → isPlace p ds ≡ true → isPlace q ds ≡ true → p / 16 ≡ q / 16 → p ≡ q
   unfolding isPlace
   one-row p q none e f r = absurd (false≢true e)
@@ -123,8 +124,33 @@ module _ {key : ℕ → Key} {len : ℕ} {w : List ℕ} where
     pub place-within : (p : ℕ) → isPlace p ds ≡ true → p / 2 ≤ len
     place-within p e = placed-within p (v .nodes) e
 
-    pub place-new : (p : ℕ) → n ≤ p / 16 → isPlace p ds ≡ false
-    place-new p h = new-place p (v .nodes) h
-
     pub place-row : (p q : ℕ) → isPlace p ds ≡ true → isPlace q ds ≡ true → p / 16 ≡ q / 16 → p ≡ q
     place-row p q e f r = one-row p q (v .nodes) e f r
+
+-- ## The five numbers of rows, after a declaration
+
+module _ {key : ℕ → Key} {len v : ℕ} {w w′ : List ℕ} (d : Declares key len w v w′) where
+  -- of rows before those that it takes, and behind its own, all five stay
+  pub five-older : (u k : ℕ) → k < 5 → u / 16 + aboveOf (kindOf (key v)) < v / 16 → cell w′ u k ≡ cell w u k
+  five-older u k h b = d .five u k h (λ i l e. let s = spot-is (kindOf (key v)) (v / 16) i l .from in omega (arith, e, s, b, h))
+
+  pub five-later : (u k : ℕ) → k < 5 → v / 16 < u / 16 → cell w′ u k ≡ cell w u k
+  five-later u k h b = d .five u k h (λ i l e. let s = spot-is (kindOf (key v)) (v / 16) i l .to in omega (arith, e, s, b, h))
+
+  -- of its own row all five if it is a name, all but the first if it is a character
+  pub five-named : (k : ℕ) → k < 5 → kindOf (key v) ≡ 1 → 1 ≤ v / 16 → cell w′ v k ≡ cell w v k
+  five-named k h e o = d .five v k h (free-name (kindOf (key v)) v k h e o)
+
+  pub five-character : (k : ℕ) → k < 5 → kindOf (key v) ≡ 0 → 1 ≤ k → cell w′ v k ≡ cell w v k
+  five-character k h e o = d .five v k h (free-char (kindOf (key v)) v k o e)
+
+-- the first number of a character's row tells its code
+pub code-told : {key : ℕ → Key} {len n v c : ℕ} {w : List ℕ} {ds : List Decl} → Holds key len w n (fresh key v ∷ ds) → key v ≡ item (character c) → cell w v 0 ≡ 2 * c + 2
+unfolding kindOf numbersOf widthOf
+code-told {key} {v = v} {c = c} {w = w} h e = go (h .nodes)
+  where
+    go : {len n : ℕ} {ds : List Decl} → Nodes key len w n (fresh key v ∷ ds) → cell w v 0 ≡ 2 * c + 2
+    go (more a ns) =
+        let f : (i : ℕ) → i < widthOf 0 → getD w (spotOf 0 (v / 16) i) 0 ≡ getD (numbersOf (item (character c))) i 0 =
+        subst (λ (k : Key). (i : ℕ) → i < widthOf (kindOf k) → getD w (spotOf (kindOf k) (v / 16) i) 0 ≡ getD (numbersOf k) i 0) e (a .kept) in
+        ap (λ (x : ℕ). getD w x 0) (sym (spot-own 0 (v / 16) 0 (λ z. omega (arith, z)))) ∙ f 0 (omega arith)

@@ -1,13 +1,12 @@
--- The characters in quotes, one after the other: the next one, and the turns of the loops.
+-- The characters in quotes, one after the other: the next one, and the turns of the loop.
 use mathlib.Core.Path.{_≡_, refl, sym, ap, _∙_, subst}
-use mathlib.Core.Bool.{Bool, true, false}
+use mathlib.Core.Bool.{true, false}
 use mathlib.Core.List.{List, [], _∷_, map}
 use Prim.Native.Nat.{ℕ, _+_, _*_, _%_, _≤_, _<_}
 use native.Mathlib.Nat.{le-refl}
 use native.Mathlib.Omega.{arith}
 use lib.ListN.{length}
-use borrow.Author.Tests.{eq-eqb, ne-eqb}
-use Rattle.rules.specs.Text.{same, every, oneOf}
+use Rattle.rules.specs.Text.{every, oneOf}
 use Rattle.rules.specs.Names.{charShaped, codeOf, isCharName}
 use Rattle.rules.specs.Lines.{quoted}
 use Rattle.rules.proofs.TextLaws.{every-head, every-tail, oneOf-head-false, oneOf-tail-false}
@@ -83,7 +82,7 @@ module _ (g : Signs) (src : List ℕ) (p : Spot) {n : Named} (w : NamedIs g src 
     unfolding charsLeft
     next-char h f a = record { chars = rw (there .names, f, a .names); mode = a .mode (there .mode h); to = a .to }
 
--- ## The turns of the loops
+-- ## The turns of the loop
 
 module _ (g : Signs) (src : List ℕ) (q : Spot) {s : NextChar} (w : NextIs g src q s) where
   pub step-char : {c : CodePoint} {r : Spot} → s ≡ Char c r → CharNext g src q (c .0) r
@@ -95,23 +94,12 @@ module _ (g : Signs) (src : List ℕ) (q : Spot) {s : NextChar} (w : NextIs g sr
   pub step-less : {c : CodePoint} {r : Spot} → s ≡ Char c r → length (charsLeft g src r) < length (charsLeft g src q)
   step-less e = let x = step-char e in rw (x .chars) (omega arith)
 
-  pub ends-more : {c : CodePoint} {r : Spot} → s ≡ Char c r → false ≡ same [] (charsLeft g src q)
-  unfolding same
-  ends-more e = let x = step-char e in sym (rw (x .chars))
-
-  pub ends-none : s ≡ End → true ≡ same [] (charsLeft g src q)
-  unfolding same
-  ends-none e = sym (rw (step-end e))
-
 -- The characters before q make h.
 pub record Summing (g : Signs) (src : List ℕ) (p q : Spot) (h : ℕ) : Type 0 where
   pub rest : hashFrom h (charsLeft g src q) ≡ hashOf (charsLeft g src p)
   pub small : h < 16777216
   pub mode : q .mode ≡ quoted
   pub to : q .at ≤ length src
-
-pub summing-none : (g : Signs) (src : List ℕ) (p : Spot) → p .at ≤ length src → p .mode ≡ quoted → Summing g src p p 0
-summing-none g src p h m = record { rest = refl; small = omega arith; mode = m; to = h }
 
 module _ {g : Signs} {src : List ℕ} {p q : Spot} {h : ℕ} {s : NextChar} (v : Summing g src p q h) (w : NextIs g src q s) where
   pub summing-end : s ≡ End → h ≡ hashOf (charsLeft g src p)
@@ -123,46 +111,3 @@ module _ {g : Signs} {src : List ℕ} {p q : Spot} {h : ℕ} {s : NextChar} (v :
   summing-more {c} {x} {r} e f =
       let y : CharNext g src q (c .0) r = step-char g src q w e in
       record { rest = rw f (rw (y .chars) at (v .rest)); small = omega arith; mode = y .mode; to = y .to }
-
--- The quotes agree before i and before j.
-pub record Agree (g : Signs) (src : List ℕ) (p q i j : Spot) : Type 0 where
-  pub rest : same (charsLeft g src p) (charsLeft g src q) ≡ same (charsLeft g src i) (charsLeft g src j)
-  pub first : i .at ≤ length src
-  pub first-mode : i .mode ≡ quoted
-  pub second : j .at ≤ length src
-  pub second-mode : j .mode ≡ quoted
-
-pub agree-none : (g : Signs) (src : List ℕ) (p q : Spot) → p .at ≤ length src → p .mode ≡ quoted → q .at ≤ length src → q .mode ≡ quoted
-    → Agree g src p q p q
-agree-none g src p q h m k n = record { rest = refl; first = h; first-mode = m; second = k; second-mode = n }
-
-module _ {g : Signs} {src : List ℕ} {p q i j : Spot} (v : Agree g src p q i j) (s : NextChar) (w : NextIs g src i s) where
-  pub agree-end : {t : Bool} → s ≡ End → t ≡ same [] (charsLeft g src j) → t ≡ same (charsLeft g src p) (charsLeft g src q)
-  agree-end e f = f ∙ sym (v .rest ∙ rw (step-end g src i w e))
-
-  module _ {a : CodePoint} {k : Spot} (e : s ≡ Char a k) (t : NextChar) (x : NextIs g src j t) where
-    one : CharNext g src i (a .0) k
-    one = step-char g src i w e
-
-    pub agree-longer : t ≡ End → false ≡ same (charsLeft g src p) (charsLeft g src q)
-    unfolding same
-    agree-longer f = sym (v .rest ∙ rw (one .chars, step-end g src j x f))
-
-    module _ {b : CodePoint} {l : Spot} (f : t ≡ Char b l) where
-      two : CharNext g src j (b .0) l
-      two = step-char g src j x f
-
-      pub agree-not : (a .0 ≡ b .0 → ⊥) → false ≡ same (charsLeft g src p) (charsLeft g src q)
-      unfolding same
-      agree-not n = sym (v .rest ∙ rw (one .chars, two .chars) (simp (ne-eqb (a .0) (b .0) n)))
-
-      pub agree-more : a .0 ≡ b .0 → Agree g src p q k l
-      unfolding same
-      agree-more h =
-          record {
-            rest = v .rest ∙ rw (one .chars, two .chars) (simp (eq-eqb (a .0) (b .0) h));
-            first = one .to;
-            first-mode = one .mode;
-            second = two .to;
-            second-mode = two .mode;
-          }

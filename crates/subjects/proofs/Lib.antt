@@ -3,4 +3,5 @@ pub mod SubjectLaws
 pub mod CharsLaws
 pub mod KeyLaws
 pub mod NumberLaws
+pub mod SqueezeLaws
 pub mod BitLaws

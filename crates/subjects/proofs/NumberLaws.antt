@@ -1,4 +1,4 @@
--- The numbers of keys: of a name by its reader, of the characters of quotes one after the other.
+-- The numbers of keys: of a character, of a name by its reader, of the characters of quotes one after the other.
 use mathlib.Core.Path.{_≡_, refl, sym, ap, _∙_, subst}
 use mathlib.Core.Bool.{Bool, true, false, _&&_}
 use mathlib.Core.List.{List, [], _∷_, map}
@@ -6,9 +6,9 @@ use Prim.Native.Nat.{ℕ, suc, _+_, _*_, _/_, _%_, _≤_, _<_}
 use native.Mathlib.Numerals.{add-one}
 use native.Mathlib.Omega.{arith}
 use lib.ListN.{length, set, replicate, length-set, length-replicate}
-use lib.Dec.{leb, ltb}
+use lib.Dec.{leb}
 use borrow.Author.Tests.{lt-leb, le-ltb, lt-ltb, leb-true}
-use Rattle.lists.proofs.Bools.{and-left, and-right, and-intro}
+use Rattle.lists.proofs.Bools.{and-left, and-right, and-intro, clash}
 use Rattle.rules.specs.Text.{every}
 use Rattle.rules.specs.Names.{nameRefusal, charShaped, codeOf, isCharacter, isCharName}
 use Rattle.rules.proofs.TextLaws.{every-head, every-tail}
@@ -24,43 +24,61 @@ use Rattle.names.specs.declared.Code.the-variants.{Char, Other}
 use Rattle.names.specs.Named.{CodeIs}
 use Rattle.names.specs.Packed.{PackedIs}
 use Rattle.names.proofs.PackLaws.{plain-name}
+use Rattle.subjects.specs.declared.Told.{Told}
 use Rattle.subjects.specs.declared.NextChar.{NextChar}
 use Rattle.subjects.specs.declared.NextChar.the-variants as next
-use Rattle.subjects.specs.Keys.{nameSpot, quoteSpot, subjectLeft, charsLeft, Key, item, chars, keyAt, hashKey, CharNext, NextIs}
-use Rattle.subjects.specs.Numbers.{isCode, isDeclarable, withCodes, numbersOf, NumbersAre, CodesAre, CodePut}
-use Rattle.subjects.proofs.SubjectLaws.{subject-char, subject-name, hash-char, hash-name}
+use Rattle.subjects.specs.Keys.{nameSpot, quoteSpot, subjectLeft, charsLeft, Key, item, chars, keyAt, hashSubject, hashKey, CharNext, NextIs}
+use Rattle.subjects.specs.Numbers.{kindOf, squeezed, isCode, isDeclarable, withCodes, numbersOf, NumbersAre, CodesAre, CodePut}
+use Rattle.subjects.proofs.SubjectLaws.{subject-char, subject-name}
 use Rattle.subjects.proofs.KeyLaws.{keyAt-name, keyAt-quotes}
 use Rattle.subjects.proofs.CharsLaws.{Summing, summing-more, summing-end, step-char, step-end}
+use Rattle.subjects.proofs.SqueezeLaws.{squeezed-long}
 
 -- ## A name
 
 pub eight-long : {key : List ℕ} → key ≡ replicate 8 0 → length key ≡ 8
 eight-long z = ap length z ∙ length-replicate {A = ℕ} 8 0
 
-module _ (n : List ℕ) {c : Code} (w : CodeIs n c) where
-  pub numbers-char : {x : CodePoint} {h : ℕ} (r : Pack) (key : List ℕ) → c ≡ Char x → key ≡ replicate 8 0 → h ≡ x .0 → r ≡ record { hash = h % 16777216; plain = ltb (x .0) 1114112 }
-      → NumbersAre (item (subjectOf n)) (set key 0 (x .0)) r
-  unfolding hashKey isDeclarable numbersOf
-  numbers-char {x} r key e z h f =
-      let s = subject-char n w e in
-      record {
-        plain = ap (λ (y : Pack). y .plain) f ∙ sym (ap (λ (y : Subject). isDeclarable (item y)) s);
-        hash = ap (λ (y : Pack). y .hash) f ∙ hash-char n w e h;
-        long = length-set key 0 (x .0) ∙ eight-long z;
-        numbers = λ d. ap (λ (y : List ℕ). set y 0 (x .0)) z ∙ sym (ap (λ (y : Subject). numbersOf (item y)) s);
-      }
+-- a code that is a character's
+pub numbers-code : {x : CodePoint} {h : ℕ} (r : Told) (key : List ℕ) → key ≡ replicate 8 0 → h ≡ x .0 → x .0 < 1114112
+    → r ≡ record { hash = h % 16777216; kind = 0; plain = true } → NumbersAre (item (character (x .0))) (set key 0 (2 * x .0 + 2)) r
+unfolding hashKey hashSubject kindOf isDeclarable numbersOf
+numbers-code {x} r key z e l f = record {
+  plain = ap (λ (y : Told). y .plain) f ∙ sym (lt-ltb (x .0) 1114112 l);
+  kind = ap (λ (y : Told). y .kind) f;
+  hash = ap (λ (y : Told). y .hash) f ∙ ap (λ (y : ℕ). y % 16777216) e;
+  long = length-set key 0 (2 * x .0 + 2) ∙ eight-long z;
+  numbers = λ d. ap (λ (y : List ℕ). set y 0 (2 * x .0 + 2)) z;
+}
 
-  pub numbers-name : {r : Pack} {key : List ℕ} → c ≡ Other → PackedIs n key r → NumbersAre (item (subjectOf n)) key r
-  unfolding hashKey isDeclarable numbersOf
-  numbers-name e p =
-      let s = subject-name n w e in
-      let d = ap (λ (y : Subject). isDeclarable (item y)) s in
-      record {
-        plain = p .plain ∙ sym d;
-        hash = hash-name n w e (p .hash);
-        long = p .long;
-        numbers = λ h. p .numbers (sym d ∙ h) ∙ sym (ap (λ (y : Subject). numbersOf (item y)) s);
-      }
+-- one that is none
+pub numbers-strange : {x : CodePoint} {h : ℕ} (r : Told) (key : List ℕ) → key ≡ replicate 8 0 → h ≡ x .0 → 1114112 ≤ x .0
+    → r ≡ record { hash = h % 16777216; kind = 0; plain = false } → NumbersAre (item (character (x .0))) key r
+unfolding hashKey hashSubject kindOf isDeclarable
+numbers-strange {x} r key z e l f =
+    let n = le-ltb (x .0) 1114112 l in
+    record {
+      plain = ap (λ (y : Told). y .plain) f ∙ sym n;
+      kind = ap (λ (y : Told). y .kind) f;
+      hash = ap (λ (y : Told). y .hash) f ∙ ap (λ (y : ℕ). y % 16777216) e;
+      long = eight-long z;
+      numbers = λ d. clash d n;
+    }
+
+module _ (n : List ℕ) {c : Code} (w : CodeIs n c) where
+  pub numbers-char : {x : CodePoint} {r : Told} {key : List ℕ} → c ≡ Char x → NumbersAre (item (character (x .0))) key r → NumbersAre (item (subjectOf n)) key r
+  numbers-char {r = r} {key = key} e h = subst (λ (y : Subject). NumbersAre (item y) key r) (sym (subject-char n w e)) h
+
+  pub numbers-name : {k : Pack} {r : Told} {key after : List ℕ} → c ≡ Other → PackedIs n key k → after ≡ squeezed key
+      → r ≡ record { hash = k .hash; kind = 1; plain = k .plain } → NumbersAre (item (subjectOf n)) after r
+  unfolding hashKey hashSubject kindOf isDeclarable numbersOf
+  numbers-name {k} {r} {key} {after} e p z f = subst (λ (y : Subject). NumbersAre (item y) after r) (sym (subject-name n w e)) (record {
+    plain = ap (λ (y : Told). y .plain) f ∙ p .plain;
+    kind = ap (λ (y : Told). y .kind) f;
+    hash = ap (λ (y : Told). y .hash) f ∙ p .hash;
+    long = ap length z ∙ squeezed-long key;
+    numbers = λ h. z ∙ ap squeezed (p .numbers h);
+  })
 
 -- ## The characters of quotes
 
@@ -147,14 +165,15 @@ module _ {g : Signs} {src : List ℕ} {p q : Spot} {key : List ℕ} {n h : ℕ} 
         codes = u .is (charsLeft g src p) (charsLeft g src r) (subst (CodesAre (charsLeft g src p) key n) (y .chars) (v .codes));
       }
 
-  pub numbering-end : {r : Pack} → s ≡ next.End → r ≡ record { hash = h; plain = leb n 4 } → NumbersAre (chars (charsLeft g src p)) key r
-  unfolding hashKey withCodes every
+  pub numbering-end : {r : Told} → s ≡ next.End → r ≡ record { hash = h; kind = 2; plain = leb n 4 } → NumbersAre (chars (charsLeft g src p)) key r
+  unfolding hashKey kindOf withCodes every
   numbering-end {r} e f =
       let d = subst (CodesAre (charsLeft g src p) key n) (step-end g src q w e) (v .codes) in
       let t : isDeclarable (chars (charsLeft g src p)) ≡ leb n 4 = d .plain ∙ last n in
       record {
-        plain = ap (λ (y : Pack). y .plain) f ∙ sym t;
-        hash = ap (λ (y : Pack). y .hash) f ∙ summing-end (v .summing) w e;
+        plain = ap (λ (y : Told). y .plain) f ∙ sym t;
+        kind = ap (λ (y : Told). y .kind) f;
+        hash = ap (λ (y : Told). y .hash) f ∙ summing-end (v .summing) w e;
         long = d .long;
         numbers = λ i. d .numbers (leb-true n 4 (sym t ∙ i));
       }
@@ -171,7 +190,7 @@ module _ {g : Signs} {src : List ℕ} {p q : Spot} {key : List ℕ} {n h : ℕ} 
 
 -- ## What stands at a mark
 
-module _ (g : Signs) (src : List ℕ) (v : ℕ) {p : Spot} {key : List ℕ} {r : Pack} where
+module _ (g : Signs) (src : List ℕ) (v : ℕ) {p : Spot} {key : List ℕ} {r : Told} where
   pub numbers-item : v % 2 ≡ 0 → p ≡ nameSpot (v / 2) → NumbersAre (item (subjectLeft g src p)) key r → NumbersAre (keyAt g src v) key r
   numbers-item e f h = subst (λ (k : Key). NumbersAre k key r) (ap (λ (x : Spot). item (subjectLeft g src x)) f ∙ sym (keyAt-name g src v e)) h
 

@@ -1,25 +1,21 @@
-// What stands at a mark of the source: a name's subject, or the characters of quotes; its numbers, and whether two are the same.
+// What stands at a mark of the source: a name's subject, or the characters of quotes; and the numbers that tell it from all others of its kind.
 ghost use mathlib.Core.Path.{_≡_};
 ghost use mathlib.Core.Bool.{true};
-ghost use mathlib.Core.List.{[]};
 ghost use Prim.Native.Nat.{_/_, _≤_, _<_};
 ghost use lib.ListN.{length, replicate};
-ghost use Rattle.rules.specs.Text.{same};
 ghost use Rattle.rules.specs.Lines.{quoted};
-ghost use Rattle.rules.specs.OrderLines.{sameSubject};
+ghost use Rattle.rules.specs.State.{character};
 ghost use Rattle.tokens.specs.Left.{isInside};
 ghost use Rattle.names.specs.Named.{nameLeft};
-ghost use Rattle.subjects.specs.Keys.{nameSpot, quoteSpot, charOf, charsLeft, subjectLeft, item, chars, AfterName, NextIs, keyAt, sameKey};
-ghost use Rattle.subjects.specs.Numbers.{NumbersAre, CodePut};
+ghost use Rattle.subjects.specs.Keys.{nameSpot, quoteSpot, charOf, charsLeft, subjectLeft, item, chars, AfterName, NextIs, keyAt};
+ghost use Rattle.subjects.specs.Numbers.{narrow, squeezed, NumbersAre, CodePut};
 use lines::Signs;
 use lines::Spot;
 use names::Code;
 use names::Named;
-use names::Pack;
 use names::name_char;
 use names::next_name;
 use names::pack_name;
-use names::same_name;
 use tokens::Closing;
 use tokens::end_of_name;
 use units::CodePoint;
@@ -28,6 +24,13 @@ use units::CodePoint;
 pub enum NextChar {
     Char(CodePoint, Spot),
     End,
+}
+
+// What is told of a key: its hash, its kind, and whether it can be declared.
+pub struct Told {
+    pub hash: usize,
+    pub kind: u32,
+    pub plain: bool,
 }
 
 // The spot of a name's mark, right after its `<`.
@@ -120,7 +123,7 @@ fn put_code(key: &mut [u32], n: usize, c: CodePoint) -> usize
 }
 
 // The numbers of the characters in quotes.
-fn chars_numbers(src: &[u8], g: Signs, p: Spot, key: &mut [u32]) -> Pack
+fn chars_numbers(src: &[u8], g: Signs, p: Spot, key: &mut [u32]) -> Told
     requires { ⌜ (p .at ≤ length (now src)) × (p .mode ≡ quoted) × (now key ≡ replicate 8 0) ⌝ }
     ensures { λ r. ⌜ NumbersAre (chars (charsLeft g (now (src .entry)) p)) (now (key .exit)) r ⌝ }
 {
@@ -137,8 +140,9 @@ fn chars_numbers(src: &[u8], g: Signs, p: Spot, key: &mut [u32]) -> Pack
                 q = r;
             }
             NextChar::End => {
-                return Pack {
+                return Told {
                     hash: h,
+                    kind: 2,
                     plain: n <= 4,
                 };
             }
@@ -146,67 +150,71 @@ fn chars_numbers(src: &[u8], g: Signs, p: Spot, key: &mut [u32]) -> Pack
     }
 }
 
-// Whether no character is left in quotes.
-fn ends(src: &[u8], g: Signs, p: Spot) -> bool
-    requires { ⌜ (p .at ≤ length (now src)) × (p .mode ≡ quoted) ⌝ }
-    ensures { λ r. ⌜ r ≡ same [] (charsLeft g (now (src .entry)) p) ⌝ }
+// Four bytes in 28 bits.
+fn narrowed(q: u32) -> u32
+    ensures { λ r. ⌜ (r ≡ narrow q) × (r < 268435456) ⌝ }
 {
-    let s = next_char(src, g, p);
-    match s {
-        NextChar::Char(_, _) => return false,
-        NextChar::End => return true,
-    }
+    q % 128 + 128 * (q / 256 % 128) + 16384 * (q / 65536 % 128) + 2097152 * (q / 16777216 % 128)
 }
 
-// Whether two quotes have the same characters.
-fn same_chars(src: &[u8], g: Signs, p: Spot, q: Spot) -> bool
-    requires { ⌜ (p .at ≤ length (now src)) × (p .mode ≡ quoted) × (q .at ≤ length (now src)) × (q .mode ≡ quoted) ⌝ }
-    ensures { λ r. ⌜ r ≡ same (charsLeft g (now (src .entry)) p) (charsLeft g (now (src .entry)) q) ⌝ }
+// The eight numbers of a name as seven.
+fn squeeze(key: &mut [u32])
+    requires { ⌜ length (now key) ≡ 8 ⌝ }
+    ensures { λ _. ⌜ now (key .exit) ≡ squeezed (now (key .entry)) ⌝ }
 {
-    let mut i = p;
-    let mut j = q;
-    loop {
-        let s = next_char(src, g, i);
-        match s {
-            NextChar::Char(a, k) => {
-                let t = next_char(src, g, j);
-                match t {
-                    NextChar::Char(b, l) => {
-                        if a.0 == b.0 {
-                            i = k;
-                            j = l;
-                        } else {
-                            return false;
-                        }
-                    }
-                    NextChar::End => return false,
-                }
-            }
-            NextChar::End => return ends(src, g, j),
-        }
+    let mut rest = narrowed(key[7]);
+    let mut i = 0;
+    while i < 7 {
+        key[i] = narrowed(key[i]) + 268435456 * (rest % 16);
+        rest = rest / 16;
+        i += 1;
+    }
+    key[7] = 0;
+}
+
+// The number of a character, where it is one.
+fn code_numbers(x: CodePoint, key: &mut [u32]) -> Told
+    requires { ⌜ now key ≡ replicate 8 0 ⌝ }
+    ensures { λ r. ⌜ NumbersAre (item (character (x .0))) (now (key .exit)) r ⌝ }
+{
+    let hash = wide(x) % 16777216;
+    if x.0 < 0x110000 {
+        key[0] = 2 * x.0 + 2;
+        return Told {
+            hash: hash,
+            kind: 0,
+            plain: true,
+        };
+    }
+    Told {
+        hash: hash,
+        kind: 0,
+        plain: false,
     }
 }
 
 // The numbers of what the name at a spot means.
-fn subject_numbers(src: &[u8], g: Signs, p: Spot, key: &mut [u32]) -> Pack
+fn subject_numbers(src: &[u8], g: Signs, p: Spot, key: &mut [u32]) -> Told
     requires { ⌜ (p .at ≤ length (now src)) × (now key ≡ replicate 8 0) ⌝ }
     ensures { λ r. ⌜ NumbersAre (item (subjectLeft g (now (src .entry)) p)) (now (key .exit)) r ⌝ }
 {
     let c = name_char(src, g, p);
     match c {
-        Code::Char(x) => {
-            key[0] = x.0;
-            return Pack {
-                hash: wide(x) % 16777216,
-                plain: x.0 < 0x110000,
+        Code::Char(x) => return code_numbers(x, key),
+        Code::Other => {
+            let k = pack_name(src, g, p, key);
+            squeeze(key);
+            return Told {
+                hash: k.hash,
+                kind: 1,
+                plain: k.plain,
             };
         }
-        Code::Other => return pack_name(src, g, p, key),
     }
 }
 
-// The numbers of what stands at a mark, its hash, and whether it can be declared.
-pub fn key_numbers(src: &[u8], g: Signs, v: usize, key: &mut [u32]) -> Pack
+// The numbers of what stands at a mark, its hash and kind, and whether it can be declared.
+pub fn key_numbers(src: &[u8], g: Signs, v: usize, key: &mut [u32]) -> Told
     requires { ⌜ (v / 2 ≤ length (now src)) × (now key ≡ replicate 8 0) ⌝ }
     ensures { λ r. ⌜ NumbersAre (keyAt g (now (src .entry)) v) (now (key .exit)) r ⌝ }
 {
@@ -214,40 +222,4 @@ pub fn key_numbers(src: &[u8], g: Signs, v: usize, key: &mut [u32]) -> Pack
         return subject_numbers(src, g, name_spot(v), key);
     }
     chars_numbers(src, g, quote_spot(v), key)
-}
-
-// Whether the names at two spots mean the same.
-pub fn same_subject(src: &[u8], g: Signs, p: Spot, q: Spot) -> bool
-    requires { ⌜ (p .at ≤ length (now src)) × (q .at ≤ length (now src)) ⌝ }
-    ensures { λ r. ⌜ r ≡ sameSubject (subjectLeft g (now (src .entry)) p) (subjectLeft g (now (src .entry)) q) ⌝ }
-{
-    let c = name_char(src, g, p);
-    let d = name_char(src, g, q);
-    match c {
-        Code::Char(x) => match d {
-            Code::Char(y) => return x.0 == y.0,
-            Code::Other => return false,
-        },
-        Code::Other => match d {
-            Code::Char(_) => return false,
-            Code::Other => return same_name(src, g, p, q),
-        },
-    }
-}
-
-// Whether the same stands at two marks.
-pub fn same_key(src: &[u8], g: Signs, v: usize, w: usize) -> bool
-    requires { ⌜ (v / 2 ≤ length (now src)) × (w / 2 ≤ length (now src)) ⌝ }
-    ensures { λ r. ⌜ r ≡ sameKey (keyAt g (now (src .entry)) v) (keyAt g (now (src .entry)) w) ⌝ }
-{
-    if v % 2 == 0 {
-        if w % 2 == 0 {
-            return same_subject(src, g, name_spot(v), name_spot(w));
-        }
-        return false;
-    }
-    if w % 2 == 0 {
-        return false;
-    }
-    same_chars(src, g, quote_spot(v), quote_spot(w))
 }

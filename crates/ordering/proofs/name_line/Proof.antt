@@ -1,6 +1,6 @@
 -- `ordering::name_line` meets its contract: the line is refused, or the row of its subject is given its numbers.
 use Rattle.ordering.proofs.StepLaws.{line-refused}
-use Rattle.ordering.proofs.NameLaws.{name-fits, name-ready, name-listed}
+use Rattle.ordering.proofs.NameLaws.{name-ready, name-listed}
 use borrow.Author.Needs.{needs}
 use Rattle.ordering.proofs.name_line.Statement.{statement}
 use Rattle.ordering.proofs.name_line.Tie as tie
@@ -18,7 +18,7 @@ name-refusal-requires : tie.Need-name-refusal-requires
 name-refusal-requires c κs = search needs
 
 row-for-requires : tie.Need-row-for-requires
-row-for-requires c κs = (search needs, search needs, search name-fits)
+row-for-requires c κs = search needs
 
 list-line-requires : tie.Need-list-line-requires
 list-line-requires c κs =
@@ -33,7 +33,13 @@ same-length : tie.Need-same-length
 same-length c = search needs
 
 returns : tie.Need-returns
-returns c = search name-listed
+returns c =
+    let rowed = c .before .before .before .before .before .before in
+    let read = rowed .before .before .before in
+    let coded = read .before .before in
+    let found = coded .before in
+    let start = found .before .before .before .before .before in
+    search (name-listed _ _ _ _ _ _ (start .pre .1) _ _ _ _ (start .pre .0) _ (found .find .ensures) (coded .name-char .result) (coded .name-char .ensures) _ (read .name-refusal .ensures))
 
 same-length-2 : tie.Need-same-length-2
 same-length-2 c = search needs

@@ -1,5 +1,5 @@
 -- `ordering::row_for` meets its contract: a law for each way to return.
-use Rattle.ordering.proofs.RowLaws.{row-found, row-inside, row-new}
+use Rattle.ordering.proofs.RowLaws.{row-found, row-new}
 use borrow.Author.Needs.{needs}
 use Rattle.ordering.proofs.row_for.Statement.{statement}
 use Rattle.ordering.proofs.row_for.Tie as tie
@@ -16,9 +16,6 @@ enum-told c = search needs
 declare-requires : tie.Need-declare-requires
 declare-requires c κs = search needs
 
-tell-code-requires : tie.Need-tell-code-requires
-tell-code-requires c κs = (search needs, search row-inside)
-
 same-length : tie.Need-same-length
 same-length c = search needs
 
@@ -28,11 +25,4 @@ returns-2 c = search row-new
 pub row-for-spec : {M : Type 1} → statement M
 row-for-spec =
     tie.close
-    (tie.spec
-    enum-known-f
-    returns
-    enum-told
-    declare-requires
-    tell-code-requires
-    same-length
-    returns-2)
+    (tie.spec enum-known-f returns enum-told declare-requires same-length returns-2)

@@ -1,5 +1,5 @@
--- `store::declare` meets its contract: a new row, and the slot at the end of its way that leads to it.
-use Rattle.store.proofs.DeclareLaws.{declared}
+-- `store::declare` meets its contract: its numbers are kept, a new row has its tag, and the slot at the end of its way leads to it.
+use Rattle.store.proofs.DeclareLaws.{kind-told, declared}
 use borrow.Author.Needs.{needs}
 use Rattle.store.proofs.declare.Statement.{statement}
 use Rattle.store.proofs.declare.Tie as tie
@@ -22,8 +22,14 @@ slice-aggregate-way-end c = search needs
 way-end-requires : tie.Need-way-end-requires
 way-end-requires c κs = search needs
 
-cast-new-row : tie.Need-cast-new-row
-cast-new-row c = search needs
+slice-aggregate-keep-key : tie.Need-slice-aggregate-keep-key
+slice-aggregate-keep-key c = search needs
+
+keep-key-requires : tie.Need-keep-key-requires
+keep-key-requires c κs = search needs
+
+tag-of-requires : tie.Need-tag-of-requires
+tag-of-requires c κs = search kind-told
 
 new-row-requires : tie.Need-new-row-requires
 new-row-requires c κs = search needs
@@ -50,7 +56,9 @@ declare-spec =
     add-way-end
     slice-aggregate-way-end
     way-end-requires
-    cast-new-row
+    slice-aggregate-keep-key
+    keep-key-requires
+    tag-of-requires
     new-row-requires
     add-point
     point-requires

@@ -1,5 +1,5 @@
--- `store::find` meets its contract.
-use Rattle.store.proofs.SeekLaws.{strange-nowhere, found-chain, found-plain, found-numbers, found-long}
+-- `store::find` meets its contract: the way of the key is followed, if it can be declared.
+use Rattle.store.proofs.SeekLaws.{sought-some, sought-found, strange-nowhere}
 use borrow.Author.Needs.{needs}
 use Rattle.store.proofs.find.Statement.{statement}
 use Rattle.store.proofs.find.Tie as tie
@@ -17,10 +17,10 @@ slice-aggregate-find-from : tie.Need-slice-aggregate-find-from
 slice-aggregate-find-from c = search needs
 
 find-from-requires : tie.Need-find-from-requires
-find-from-requires c κs = (search needs, (search needs, (search found-plain, (search found-chain, search needs, search found-numbers, search found-long))))
+find-from-requires c κs = (search sought-some, search needs)
 
 returns : tie.Need-returns
-returns c = search needs
+returns c = search sought-found
 
 returns-2 : tie.Need-returns-2
 returns-2 c = search strange-nowhere

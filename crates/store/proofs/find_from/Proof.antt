@@ -1,18 +1,16 @@
--- `store::find_from` meets its contract. The invariant: what is passed on the way has other keys, whatever list the area holds. It has come no
+-- `store::find_from` meets its contract. The invariant: what is passed on the way has other keys, whatever source the area belongs to. It has come no
 -- deeper than 259. So the measure, which falls by one for each row that is read, begins at 260 and ends at 1 or more, whatever was declared: at most 259 rows are read.
-use lib.ListN.{length}
 use Prim.Native.Nat.{_-_}
-use Rattle.subjects.specs.Keys.{keyAt}
-use Rattle.store.proofs.SeekLaws.{Seeking, seeking-start, seeking-on, seek-in, seek-found, seek-none}
+use Rattle.store.proofs.SeekLaws.{Seeking, seeking-start, seeking-found, seeking-on, seeking-none}
 use borrow.Author.Needs.{needs}
 use Rattle.store.proofs.find_from.Statement.{statement}
 use Rattle.store.proofs.find_from.Tie as tie
 
 abbrev Inv-loop : tie.InvT-loop
-Inv-loop src g work v h left₀ l₀ depth₀ left l depth = Seeking (keyAt g src) (length src) work (keyAt g src v) l depth left
+Inv-loop work kind key h l₀ depth₀ l depth = Seeking work key kind h l depth
 
 abbrev μ-loop : tie.MeasureT-loop
-μ-loop src g work v h left₀ l₀ depth₀ left l depth = 260 - depth
+μ-loop work kind key h l₀ depth₀ l depth = 260 - depth
 
 mul-linked : tie.Need-mul-linked Inv-loop μ-loop
 mul-linked c = search needs
@@ -29,23 +27,23 @@ loop-holds c = search seeking-start
 sub-row : tie.Need-sub-row Inv-loop μ-loop
 sub-row c = search needs
 
-mark-in-requires : tie.Need-mark-in-requires Inv-loop μ-loop
-mark-in-requires c κs = search needs
+tag-in-requires : tie.Need-tag-in-requires Inv-loop μ-loop
+tag-in-requires c κs = search needs
 
 same-key-requires : tie.Need-same-key-requires Inv-loop μ-loop
-same-key-requires c κs = (search seek-in, search needs)
+same-key-requires c κs = search needs
 
-same-length : tie.Need-same-length Inv-loop μ-loop
-same-length c = search needs
+mark-of-requires : tie.Need-mark-of-requires Inv-loop μ-loop
+mark-of-requires c κs = search needs
 
 returns : tie.Need-returns Inv-loop μ-loop
-returns c = search seek-found
-
-next-side-requires : tie.Need-next-side-requires Inv-loop μ-loop
-next-side-requires c κs = search needs
+returns c = search seeking-found
 
 mul-linked-2 : tie.Need-mul-linked-2 Inv-loop μ-loop
 mul-linked-2 c = search needs
+
+side-at-requires : tie.Need-side-at-requires Inv-loop μ-loop
+side-at-requires c κs = search needs
 
 add-linked-2 : tie.Need-add-linked-2 Inv-loop μ-loop
 add-linked-2 c = search needs
@@ -62,11 +60,8 @@ loop-less c = search needs
 loop-again : tie.Need-loop-again Inv-loop μ-loop
 loop-again c = search seeking-on
 
-same-length-2 : tie.Need-same-length-2 Inv-loop μ-loop
-same-length-2 c = search needs
-
 returns-2 : tie.Need-returns-2 Inv-loop μ-loop
-returns-2 c = search seek-none
+returns-2 c = search seeking-none
 
 pub find-from-spec : {M : Type 1} → statement M
 find-from-spec =
@@ -79,16 +74,15 @@ find-from-spec =
     linked-requires
     loop-holds
     sub-row
-    mark-in-requires
+    tag-in-requires
     same-key-requires
-    same-length
+    mark-of-requires
     returns
-    next-side-requires
     mul-linked-2
+    side-at-requires
     add-linked-2
     linked-requires-2
     add-depth
     loop-less
     loop-again
-    same-length-2
     returns-2)

@@ -1,4 +1,4 @@
--- `store::way_end` meets its contract. The invariant: the way is followed as far as the depth. The measure is how deep it can still go.
+-- `store::way_end` meets its contract. The invariant: the way is followed as far as a depth, and a slot leads on from there. The measure is what is left of the rows.
 use Prim.Native.Nat.{_-_}
 use Rattle.store.proofs.DeclareLaws.{Walks, walks-start, walks-none, walks-out, walks-all, walks-on}
 use borrow.Author.Needs.{needs}
@@ -6,10 +6,10 @@ use Rattle.store.proofs.way_end.Statement.{statement}
 use Rattle.store.proofs.way_end.Tie as tie
 
 abbrev Inv-loop : tie.InvT-loop
-Inv-loop heads work h left₀ slot₀ depth₀ left slot depth = Walks heads work h left₀ slot depth left
+Inv-loop heads work h key slot₀ depth₀ slot depth = Walks heads work h key slot depth
 
 abbrev μ-loop : tie.MeasureT-loop
-μ-loop heads work h left₀ slot₀ depth₀ left slot depth = heads - depth
+μ-loop heads work h key slot₀ depth₀ slot depth = heads - depth
 
 mul-slot : tie.Need-mul-slot Inv-loop μ-loop
 mul-slot c = search needs
@@ -23,14 +23,8 @@ loop-holds c = search walks-start
 linked-requires : tie.Need-linked-requires Inv-loop μ-loop
 linked-requires c κs = search needs
 
-same-length : tie.Need-same-length Inv-loop μ-loop
-same-length c = search needs
-
 returns : tie.Need-returns Inv-loop μ-loop
 returns c = search walks-none
-
-same-length-2 : tie.Need-same-length-2 Inv-loop μ-loop
-same-length-2 c = search needs
 
 returns-2 : tie.Need-returns-2 Inv-loop μ-loop
 returns-2 c = search walks-out
@@ -41,8 +35,8 @@ sub-slot c = search needs
 mul-slot-2 : tie.Need-mul-slot-2 Inv-loop μ-loop
 mul-slot-2 c = search needs
 
-next-side-requires : tie.Need-next-side-requires Inv-loop μ-loop
-next-side-requires c κs = search needs
+side-at-requires : tie.Need-side-at-requires Inv-loop μ-loop
+side-at-requires c κs = search needs
 
 add-slot-2 : tie.Need-add-slot-2 Inv-loop μ-loop
 add-slot-2 c = search needs
@@ -55,9 +49,6 @@ loop-less c = search needs
 
 loop-again : tie.Need-loop-again Inv-loop μ-loop
 loop-again c = search walks-on
-
-same-length-3 : tie.Need-same-length-3 Inv-loop μ-loop
-same-length-3 c = search needs
 
 returns-3 : tie.Need-returns-3 Inv-loop μ-loop
 returns-3 c = search walks-all
@@ -72,16 +63,13 @@ way-end-spec =
     add-slot
     loop-holds
     linked-requires
-    same-length
     returns
-    same-length-2
     returns-2
     sub-slot
     mul-slot-2
-    next-side-requires
+    side-at-requires
     add-slot-2
     add-depth
     loop-less
     loop-again
-    same-length-3
     returns-3)

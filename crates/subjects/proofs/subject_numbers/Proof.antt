@@ -1,6 +1,5 @@
 -- `subjects::subject_numbers` meets its contract: those of a character, or those of a name.
-use Rattle.subjects.proofs.NumberLaws.{eight-long, numbers-char, numbers-name}
-use native.Mathlib.Omega.{arith}
+use Rattle.subjects.proofs.NumberLaws.{numbers-char, numbers-name}
 use borrow.Author.Needs.{needs}
 use Rattle.subjects.proofs.subject_numbers.Statement.{statement}
 use Rattle.subjects.proofs.subject_numbers.Tie as tie
@@ -11,11 +10,8 @@ name-char-requires c κs = search needs
 enum-known-c : tie.Need-enum-known-c
 enum-known-c c = search needs
 
-slice-write-key : tie.Need-slice-write-key
-slice-write-key c = let e = eight-long (c .before .before .before .before .before .before .pre .1) in omega (arith, e)
-
-wide-requires : tie.Need-wide-requires
-wide-requires c κs = search needs
+code-numbers-requires : tie.Need-code-numbers-requires
+code-numbers-requires c κs = search needs
 
 same-length : tie.Need-same-length
 same-length c = search needs
@@ -29,6 +25,9 @@ enum-told c = search needs
 pack-name-requires : tie.Need-pack-name-requires
 pack-name-requires c κs = search needs
 
+squeeze-requires : tie.Need-squeeze-requires
+squeeze-requires c κs = search needs
+
 same-length-2 : tie.Need-same-length-2
 same-length-2 c = search needs
 
@@ -41,11 +40,11 @@ subject-numbers-spec =
     (tie.spec
     name-char-requires
     enum-known-c
-    slice-write-key
-    wide-requires
+    code-numbers-requires
     same-length
     returns
     enum-told
     pack-name-requires
+    squeeze-requires
     same-length-2
     returns-2)
