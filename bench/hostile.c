@@ -8,7 +8,7 @@
 
 /* ---- Names and elements with one number ---- */
 
-/* The number by which the compiler keeps a name (crates/names) or the characters of an element (crates/subjects), from the number of what
+/* The number by which the compiler keeps a name (crates/text_names) or the characters of an element (crates/work_subjects), from the number of what
  * stands before the last byte or character. */
 static uint32_t number_on(uint32_t before, uint32_t last)
 {

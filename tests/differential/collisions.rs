@@ -9,8 +9,8 @@ use crate::text::Joins;
 const LONGEST_NAME: usize = 32;
 const MOST_TOGGLES: usize = 16;
 
-/// The number by which the compiler keeps a name (crates/names) or the characters of an element
-/// (crates/subjects), from the number of what stands before the last byte or character.
+/// The number by which the compiler keeps a name (crates/text_names) or the characters of an element
+/// (crates/work_subjects), from the number of what stands before the last byte or character.
 fn number_on(before: u32, last: u32) -> u32 {
     before.wrapping_mul(10_368_889).wrapping_add(last) & 0xFF_FFFF
 }

@@ -8,7 +8,7 @@ use lib.ListN.{length, take}
 use lib.Dec.{eqb}
 use lib.Seq.{take-append-seam, drop-at}
 use borrow.Author.Tests.{ne-eqb}
-use Rattle.lists.proofs.Bools.{by, clash, or-false-intro}
+use Rattle.base_lists.proofs.Bools.{by, clash, or-false-intro}
 use Rattle.rules.specs.Text.{within, every, oneOf}
 use Rattle.rules.specs.Meaning.{Item, Meaning, goodWeights, goodItem, weightCount, good}
 use Rattle.rules.specs.Table.{ruleNumber, ends, charNumbers, listing, starts, weightNumbers, storedForm, meaningIn, accepted}
@@ -20,21 +20,21 @@ use Rattle.rules.proofs.SizeLaws.{weights-length, ends-length}
 use Rattle.rules.proofs.WidthLaws.{good-range}
 use Rattle.rules.proofs.StorableLaws.{rules-drop, meaning-stored, weights-append}
 use Rattle.rules.proofs.TableLaws.{parts-drop, accepted-stored}
-use Rattle.units.specs.declared.Refusal.the-variants.{NotAccepted}
-use Rattle.table.specs.declared.Verdict.{Verdict}
-use Rattle.table.specs.declared.Verdict.the-variants as verdict
-use Rattle.table.proofs.AnswerLaws.{checkedAs-unique}
-use Rattle.order.specs.declared.Stepping.{Stepping}
-use Rattle.order.specs.declared.Stepping.the-variants as stepping
-use Rattle.order.specs.declared.Comparison.{Comparison}
-use Rattle.order.specs.declared.Comparison.the-variants as comparison
-use Rattle.order.proofs.AnswerLaws.{steppedAs-unique, comparedAs-unique}
-use Rattle.keys.specs.declared.Keyed.{Keyed}
-use Rattle.keys.specs.declared.Keyed.the-variants as keyed
-use Rattle.keys.proofs.AnswerLaws.{keyedAs-unique}
-use Rattle.directory.specs.declared.Directed.{Directed}
-use Rattle.directory.specs.declared.Directed.the-variants as directed
-use Rattle.directory.proofs.AnswerLaws.{directedIs-unique}
+use Rattle.base_units.specs.declared.Refusal.the-variants.{NotAccepted}
+use Rattle.table_check.specs.declared.Verdict.{Verdict}
+use Rattle.table_check.specs.declared.Verdict.the-variants as verdict
+use Rattle.table_check.proofs.AnswerLaws.{checkedAs-unique}
+use Rattle.order_compare.specs.declared.Stepping.{Stepping}
+use Rattle.order_compare.specs.declared.Stepping.the-variants as stepping
+use Rattle.order_compare.specs.declared.Comparison.{Comparison}
+use Rattle.order_compare.specs.declared.Comparison.the-variants as comparison
+use Rattle.order_compare.proofs.AnswerLaws.{steppedAs-unique, comparedAs-unique}
+use Rattle.order_keys.specs.declared.Keyed.{Keyed}
+use Rattle.order_keys.specs.declared.Keyed.the-variants as keyed
+use Rattle.order_keys.proofs.AnswerLaws.{keyedAs-unique}
+use Rattle.order_directory.specs.declared.Directed.{Directed}
+use Rattle.order_directory.specs.declared.Directed.the-variants as directed
+use Rattle.order_directory.proofs.AnswerLaws.{directedIs-unique}
 use Rattle.demands.specs.Answered.{Checks, Steps, Compares, Keys, Directs, levelsStated, weightsStated}
 
 -- ## What is not accepted

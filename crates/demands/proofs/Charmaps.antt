@@ -8,7 +8,7 @@ use lib.ListN.{length, getD, take, drop, length-map, List·getD-append}
 use lib.Dec.{leb, ltb}
 use lib.Seq.{take-append-seam}
 use borrow.Author.Tests.{le-ltb}
-use Rattle.lists.proofs.Bools.{by}
+use Rattle.base_lists.proofs.Bools.{by}
 use Rattle.rules.specs.Text.{every, oneOf, within, Result, granted}
 use Rattle.rules.specs.Names.{isCharacter}
 use Rattle.rules.specs.Charmap.{Given, mapStart, mapLinesFrom, noCode, givesByte}
@@ -20,14 +20,14 @@ use Rattle.rules.proofs.TextLaws.{every-append, every-cons}
 use Rattle.rules.proofs.AreaLaws.{accepted-parts, code-at}
 use Rattle.rules.proofs.CharmapLaws.{givenBy, given-good, charmap-length, charmap-none}
 use Rattle.rules.proofs.CodingLaws.{parts-decoded, decode-encode, encode-length}
-use Rattle.units.specs.declared.Refusal.the-variants.{NotMapped}
-use Rattle.units.proofs.NumberLaws.{numberOf-some}
-use Rattle.charmap.specs.declared.Mapped.{Mapped}
-use Rattle.charmap.specs.declared.Mapped.the-variants as mapped
-use Rattle.charmap.proofs.CodeLaws.{read-gives, read-accepted, read-decodes}
-use Rattle.coding.specs.declared.Coded.{Coded}
-use Rattle.coding.specs.declared.Coded.the-variants as coded
-use Rattle.coding.proofs.AnswerLaws.{writtenIs-unique}
+use Rattle.base_units.specs.declared.Refusal.the-variants.{NotMapped}
+use Rattle.base_units.proofs.NumberLaws.{numberOf-some}
+use Rattle.charmap_read.specs.declared.Mapped.{Mapped}
+use Rattle.charmap_read.specs.declared.Mapped.the-variants as mapped
+use Rattle.charmap_read.proofs.CodeLaws.{read-gives, read-accepted, read-decodes}
+use Rattle.charmap_coding.specs.declared.Coded.{Coded}
+use Rattle.charmap_coding.specs.declared.Coded.the-variants as coded
+use Rattle.charmap_coding.proofs.AnswerLaws.{writtenIs-unique}
 use Rattle.demands.specs.Answered.{Reads, Decodes, Encodes, firstGiven}
 use Rattle.demands.proofs.InOrder.{read-refusal}
 use Rattle.demands.proofs.OneOrder.{refusal-in}

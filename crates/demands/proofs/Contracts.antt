@@ -12,36 +12,36 @@ use denote.Ref.{now}
 use denote.Triple.Entry.{Args, Res}
 use denote.Triple.Spec.{Spec, Meets}
 use denote.Triple.Clauses.{Ended, AtExit, closing}
-use Rattle.compile.proofs.compile as compile
-use Rattle.compile.proofs.compile.Symbol as compile-code
-use Rattle.compile.proofs.compile.Met as compile-thm
-use Rattle.table.proofs.check as check
-use Rattle.table.proofs.check.Symbol as check-code
-use Rattle.table.proofs.check.Met as check-thm
-use Rattle.order.proofs.step as step
-use Rattle.order.proofs.step.Symbol as step-code
-use Rattle.order.proofs.step.Met as step-thm
-use Rattle.order.proofs.compare as compare
-use Rattle.order.proofs.compare.Symbol as compare-code
-use Rattle.order.proofs.compare.Met as compare-thm
-use Rattle.keys.proofs.key as key
-use Rattle.keys.proofs.key.Symbol as key-code
-use Rattle.keys.proofs.key.Met as key-thm
-use Rattle.charmap.proofs.read as read
-use Rattle.charmap.proofs.read.Symbol as read-code
-use Rattle.charmap.proofs.read.Met as read-thm
-use Rattle.coding.proofs.check_area as check-area
-use Rattle.coding.proofs.check_area.Symbol as check-area-code
-use Rattle.coding.proofs.check_area.Met as check-area-thm
-use Rattle.coding.proofs.decode as decode
-use Rattle.coding.proofs.decode.Symbol as decode-code
-use Rattle.coding.proofs.decode.Met as decode-thm
-use Rattle.coding.proofs.encode as encode
-use Rattle.coding.proofs.encode.Symbol as encode-code
-use Rattle.coding.proofs.encode.Met as encode-thm
-use Rattle.directory.proofs.directory as directory
-use Rattle.directory.proofs.directory.Symbol as directory-code
-use Rattle.directory.proofs.directory.Met as directory-thm
+use Rattle.locale_compile.proofs.compile as compile
+use Rattle.locale_compile.proofs.compile.Symbol as compile-code
+use Rattle.locale_compile.proofs.compile.Met as compile-thm
+use Rattle.table_check.proofs.check as check
+use Rattle.table_check.proofs.check.Symbol as check-code
+use Rattle.table_check.proofs.check.Met as check-thm
+use Rattle.order_compare.proofs.step as step
+use Rattle.order_compare.proofs.step.Symbol as step-code
+use Rattle.order_compare.proofs.step.Met as step-thm
+use Rattle.order_compare.proofs.compare as compare
+use Rattle.order_compare.proofs.compare.Symbol as compare-code
+use Rattle.order_compare.proofs.compare.Met as compare-thm
+use Rattle.order_keys.proofs.key as key
+use Rattle.order_keys.proofs.key.Symbol as key-code
+use Rattle.order_keys.proofs.key.Met as key-thm
+use Rattle.charmap_read.proofs.read as read
+use Rattle.charmap_read.proofs.read.Symbol as read-code
+use Rattle.charmap_read.proofs.read.Met as read-thm
+use Rattle.charmap_coding.proofs.check_area as check-area
+use Rattle.charmap_coding.proofs.check_area.Symbol as check-area-code
+use Rattle.charmap_coding.proofs.check_area.Met as check-area-thm
+use Rattle.charmap_coding.proofs.decode as decode
+use Rattle.charmap_coding.proofs.decode.Symbol as decode-code
+use Rattle.charmap_coding.proofs.decode.Met as decode-thm
+use Rattle.charmap_coding.proofs.encode as encode
+use Rattle.charmap_coding.proofs.encode.Symbol as encode-code
+use Rattle.charmap_coding.proofs.encode.Met as encode-thm
+use Rattle.order_directory.proofs.directory as directory
+use Rattle.order_directory.proofs.directory.Symbol as directory-code
+use Rattle.order_directory.proofs.directory.Met as directory-thm
 use Rattle.demands.specs.Answered.{Compiles, Checks, Steps, Compares, Keys, Reads, ChecksArea, Decodes, Encodes, Directs}
 
 module _ {M : Type 1} (𝓤 : URA M) (H : Heap 𝓤) (𝓜 : Model 𝓤 H) (𝓖 : GhostRules 𝓤 H) (𝓡 : Running 𝓤 H 𝓜) where

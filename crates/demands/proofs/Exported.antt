@@ -1,5 +1,5 @@
 -- What is proved of the code of each exported function: run on any arguments, it ends, and it leaves the paper's answer told in numbers, and the areas as the
--- paper has them (Rattle.exports.specs.Told). It asks nothing of the caller, and no second answer meets what it promises.
+-- paper has them (Rattle.zeharmeku.specs.Told). It asks nothing of the caller, and no second answer meets what it promises.
 use mathlib.Core.Path.{_≡_, sym, _∙_}
 use mathlib.Core.List.{List}
 use Prim.Native.Nat.{ℕ}
@@ -11,37 +11,37 @@ use denote.Ref.{now}
 use denote.Triple.Spec.{Meets}
 use Rattle.rules.specs.Calls as calls
 use Rattle.rules.specs.Calls.{compileCall, checkCall, stepCall, compareCall, keyCall, charmapCall, areaCall, decodeCall, encodeCall, directoryCall}
-use Rattle.exports.specs.Told.{told, checkedNumbers, steppedNumbers, comparedNumbers, WrittenIs, MappedIs, CompiledIs, DirectedIs}
-use Rattle.exports.proofs.zeharmeku_compile as compile
-use Rattle.exports.proofs.zeharmeku_compile.Symbol as compile-code
-use Rattle.exports.proofs.zeharmeku_compile.Met as compile-thm
-use Rattle.exports.proofs.zeharmeku_check as check
-use Rattle.exports.proofs.zeharmeku_check.Symbol as check-code
-use Rattle.exports.proofs.zeharmeku_check.Met as check-thm
-use Rattle.exports.proofs.zeharmeku_step as step
-use Rattle.exports.proofs.zeharmeku_step.Symbol as step-code
-use Rattle.exports.proofs.zeharmeku_step.Met as step-thm
-use Rattle.exports.proofs.zeharmeku_compare as compare
-use Rattle.exports.proofs.zeharmeku_compare.Symbol as compare-code
-use Rattle.exports.proofs.zeharmeku_compare.Met as compare-thm
-use Rattle.exports.proofs.zeharmeku_key as key
-use Rattle.exports.proofs.zeharmeku_key.Symbol as key-code
-use Rattle.exports.proofs.zeharmeku_key.Met as key-thm
-use Rattle.exports.proofs.zeharmeku_charmap as charmap
-use Rattle.exports.proofs.zeharmeku_charmap.Symbol as charmap-code
-use Rattle.exports.proofs.zeharmeku_charmap.Met as charmap-thm
-use Rattle.exports.proofs.zeharmeku_area as area
-use Rattle.exports.proofs.zeharmeku_area.Symbol as area-code
-use Rattle.exports.proofs.zeharmeku_area.Met as area-thm
-use Rattle.exports.proofs.zeharmeku_decode as decode
-use Rattle.exports.proofs.zeharmeku_decode.Symbol as decode-code
-use Rattle.exports.proofs.zeharmeku_decode.Met as decode-thm
-use Rattle.exports.proofs.zeharmeku_encode as encode
-use Rattle.exports.proofs.zeharmeku_encode.Symbol as encode-code
-use Rattle.exports.proofs.zeharmeku_encode.Met as encode-thm
-use Rattle.exports.proofs.zeharmeku_directory as directory
-use Rattle.exports.proofs.zeharmeku_directory.Symbol as directory-code
-use Rattle.exports.proofs.zeharmeku_directory.Met as directory-thm
+use Rattle.zeharmeku.specs.Told.{told, checkedNumbers, steppedNumbers, comparedNumbers, WrittenIs, MappedIs, CompiledIs, DirectedIs}
+use Rattle.zeharmeku.proofs.zeharmeku_compile as compile
+use Rattle.zeharmeku.proofs.zeharmeku_compile.Symbol as compile-code
+use Rattle.zeharmeku.proofs.zeharmeku_compile.Met as compile-thm
+use Rattle.zeharmeku.proofs.zeharmeku_check as check
+use Rattle.zeharmeku.proofs.zeharmeku_check.Symbol as check-code
+use Rattle.zeharmeku.proofs.zeharmeku_check.Met as check-thm
+use Rattle.zeharmeku.proofs.zeharmeku_step as step
+use Rattle.zeharmeku.proofs.zeharmeku_step.Symbol as step-code
+use Rattle.zeharmeku.proofs.zeharmeku_step.Met as step-thm
+use Rattle.zeharmeku.proofs.zeharmeku_compare as compare
+use Rattle.zeharmeku.proofs.zeharmeku_compare.Symbol as compare-code
+use Rattle.zeharmeku.proofs.zeharmeku_compare.Met as compare-thm
+use Rattle.zeharmeku.proofs.zeharmeku_key as key
+use Rattle.zeharmeku.proofs.zeharmeku_key.Symbol as key-code
+use Rattle.zeharmeku.proofs.zeharmeku_key.Met as key-thm
+use Rattle.zeharmeku.proofs.zeharmeku_charmap as charmap
+use Rattle.zeharmeku.proofs.zeharmeku_charmap.Symbol as charmap-code
+use Rattle.zeharmeku.proofs.zeharmeku_charmap.Met as charmap-thm
+use Rattle.zeharmeku.proofs.zeharmeku_area as area
+use Rattle.zeharmeku.proofs.zeharmeku_area.Symbol as area-code
+use Rattle.zeharmeku.proofs.zeharmeku_area.Met as area-thm
+use Rattle.zeharmeku.proofs.zeharmeku_decode as decode
+use Rattle.zeharmeku.proofs.zeharmeku_decode.Symbol as decode-code
+use Rattle.zeharmeku.proofs.zeharmeku_decode.Met as decode-thm
+use Rattle.zeharmeku.proofs.zeharmeku_encode as encode
+use Rattle.zeharmeku.proofs.zeharmeku_encode.Symbol as encode-code
+use Rattle.zeharmeku.proofs.zeharmeku_encode.Met as encode-thm
+use Rattle.zeharmeku.proofs.zeharmeku_directory as directory
+use Rattle.zeharmeku.proofs.zeharmeku_directory.Symbol as directory-code
+use Rattle.zeharmeku.proofs.zeharmeku_directory.Met as directory-thm
 use Rattle.demands.proofs.Contracts.{promises}
 
 module _ {M : Type 1} (𝓤 : URA M) (H : Heap 𝓤) (𝓜 : Model 𝓤 H) (𝓖 : GhostRules 𝓤 H) (𝓡 : Running 𝓤 H 𝓜) where

@@ -7,7 +7,7 @@ use Prim.Native.Nat.{ℕ, _+_}
 use lib.ListN.{length}
 use lib.Dec.{eqb, leb, ltb}
 use borrow.Author.Tests.{ltb-true, ltb-false, le-leb, lt-leb}
-use Rattle.lists.proofs.Bools.{by}
+use Rattle.base_lists.proofs.Bools.{by}
 use Rattle.rules.specs.Text.{if_then_else_, _unless_, within, every}
 use Rattle.rules.specs.Names.{isCharacter}
 use Rattle.rules.specs.Meaning.{sizeOf}
@@ -21,22 +21,22 @@ use Rattle.rules.specs.Coding.{areaAccepted, codeAt, byteAt, decodeOf, encodeOf
 use Rattle.rules.specs.Directory.{partsOf, partsFit, goodPart, weightsOf, plainFirst, goodHeadings, directoryOf}
 use Rattle.rules.specs.Calls as calls
 use Rattle.rules.specs.Calls.{compiledAs, compileCall, checkCall, stepCall, compareCall, keyFor, keyCall, writtenAs, mappedAs, charmapCall, areaCall, decodeCall, encodeCall, directedAs, directoryCall}
-use Rattle.compile.specs.Answers.{toldAs}
-use Rattle.compile.specs.declared.Compiled.{Compiled}
-use Rattle.table.specs.Answers.{checkedAs}
-use Rattle.table.specs.declared.Verdict.{Verdict}
-use Rattle.order.specs.Answers.{steppedAs, comparedAs}
-use Rattle.order.specs.declared.Stepping.{Stepping}
-use Rattle.order.specs.declared.Comparison.{Comparison}
-use Rattle.keys.specs.Answers.{keyedAs}
-use Rattle.keys.specs.declared.Keyed.{Keyed}
-use Rattle.charmap.specs.Answers.{readAs}
-use Rattle.charmap.specs.declared.Mapped.{Mapped}
-use Rattle.coding.specs.Answers.{numberIs, writtenIs}
-use Rattle.coding.specs.declared.AreaVerdict.{AreaVerdict}
-use Rattle.coding.specs.declared.Coded.{Coded}
-use Rattle.directory.specs.Answers.{directedIs}
-use Rattle.directory.specs.declared.Directed.{Directed}
+use Rattle.locale_compile.specs.Answers.{toldAs}
+use Rattle.locale_compile.specs.declared.Compiled.{Compiled}
+use Rattle.table_check.specs.Answers.{checkedAs}
+use Rattle.table_check.specs.declared.Verdict.{Verdict}
+use Rattle.order_compare.specs.Answers.{steppedAs, comparedAs}
+use Rattle.order_compare.specs.declared.Stepping.{Stepping}
+use Rattle.order_compare.specs.declared.Comparison.{Comparison}
+use Rattle.order_keys.specs.Answers.{keyedAs}
+use Rattle.order_keys.specs.declared.Keyed.{Keyed}
+use Rattle.charmap_read.specs.Answers.{readAs}
+use Rattle.charmap_read.specs.declared.Mapped.{Mapped}
+use Rattle.charmap_coding.specs.Answers.{numberIs, writtenIs}
+use Rattle.charmap_coding.specs.declared.AreaVerdict.{AreaVerdict}
+use Rattle.charmap_coding.specs.declared.Coded.{Coded}
+use Rattle.order_directory.specs.Answers.{directedIs}
+use Rattle.order_directory.specs.declared.Directed.{Directed}
 use Rattle.demands.specs.Answered.{Compiles, Checks, Steps, Compares, Keys, Reads, ChecksArea, Decodes, Encodes, Directs, firstGiven}
 
 -- the two ways to say that n is not above m

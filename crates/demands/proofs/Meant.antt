@@ -13,12 +13,12 @@ use Rattle.rules.specs.Compile.{isRanked, meaningOf, finish, compileOf}
 use Rattle.rules.specs.Table.{meaningIn, accepted}
 use Rattle.rules.specs.Calls.{checkCall}
 use Rattle.rules.proofs.ResultLaws.{granted-unique, granted-else, granted-then}
-use Rattle.units.proofs.NumberLaws.{numberOf-some}
-use Rattle.compile.specs.declared.Compiled.{Compiled}
-use Rattle.compile.specs.declared.Compiled.the-variants as compiled
-use Rattle.compile.proofs.CodeLaws.{compile-gives, compile-accepted, compile-means}
-use Rattle.table.specs.Answers.{checkedAs}
-use Rattle.table.specs.declared.Verdict.{Verdict}
+use Rattle.base_units.proofs.NumberLaws.{numberOf-some}
+use Rattle.locale_compile.specs.declared.Compiled.{Compiled}
+use Rattle.locale_compile.specs.declared.Compiled.the-variants as compiled
+use Rattle.locale_compile.proofs.CodeLaws.{compile-gives, compile-accepted, compile-means}
+use Rattle.table_check.specs.Answers.{checkedAs}
+use Rattle.table_check.specs.declared.Verdict.{Verdict}
 use Rattle.demands.specs.Answered.{Compiles, Checks, sourceMeaning, levelsStated, weightsStated, firstGiven}
 use Rattle.demands.proofs.InOrder.{compile-refusal}
 use Rattle.demands.proofs.BadTables.{accepted-weights, accepted-levels}

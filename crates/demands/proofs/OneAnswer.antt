@@ -2,22 +2,22 @@
 use mathlib.Core.Path.{_≡_, sym, _∙_}
 use mathlib.Core.List.{List}
 use Prim.Native.Nat.{ℕ}
-use Rattle.compile.specs.declared.Compiled.{Compiled}
-use Rattle.compile.proofs.AnswerLaws.{toldAs-unique}
-use Rattle.table.specs.declared.Verdict.{Verdict}
-use Rattle.table.proofs.AnswerLaws.{checkedAs-unique}
-use Rattle.order.specs.declared.Stepping.{Stepping}
-use Rattle.order.specs.declared.Comparison.{Comparison}
-use Rattle.order.proofs.AnswerLaws.{steppedAs-unique, comparedAs-unique}
-use Rattle.keys.specs.declared.Keyed.{Keyed}
-use Rattle.keys.proofs.AnswerLaws.{keyedAs-unique}
-use Rattle.charmap.specs.declared.Mapped.{Mapped}
-use Rattle.charmap.proofs.AnswerLaws.{readAs-unique}
-use Rattle.coding.specs.declared.AreaVerdict.{AreaVerdict}
-use Rattle.coding.specs.declared.Coded.{Coded}
-use Rattle.coding.proofs.AnswerLaws.{numberIs-unique, writtenIs-unique}
-use Rattle.directory.specs.declared.Directed.{Directed}
-use Rattle.directory.proofs.AnswerLaws.{directedIs-unique}
+use Rattle.locale_compile.specs.declared.Compiled.{Compiled}
+use Rattle.locale_compile.proofs.AnswerLaws.{toldAs-unique}
+use Rattle.table_check.specs.declared.Verdict.{Verdict}
+use Rattle.table_check.proofs.AnswerLaws.{checkedAs-unique}
+use Rattle.order_compare.specs.declared.Stepping.{Stepping}
+use Rattle.order_compare.specs.declared.Comparison.{Comparison}
+use Rattle.order_compare.proofs.AnswerLaws.{steppedAs-unique, comparedAs-unique}
+use Rattle.order_keys.specs.declared.Keyed.{Keyed}
+use Rattle.order_keys.proofs.AnswerLaws.{keyedAs-unique}
+use Rattle.charmap_read.specs.declared.Mapped.{Mapped}
+use Rattle.charmap_read.proofs.AnswerLaws.{readAs-unique}
+use Rattle.charmap_coding.specs.declared.AreaVerdict.{AreaVerdict}
+use Rattle.charmap_coding.specs.declared.Coded.{Coded}
+use Rattle.charmap_coding.proofs.AnswerLaws.{numberIs-unique, writtenIs-unique}
+use Rattle.order_directory.specs.declared.Directed.{Directed}
+use Rattle.order_directory.proofs.AnswerLaws.{directedIs-unique}
 use Rattle.demands.specs.Answered.{Compiles, Checks, Steps, Compares, Keys, Reads, ChecksArea, Decodes, Encodes, Directs}
 
 pub one-compile : (src area work : List ℕ) (x y : Compiled) (a b v w : List ℕ) → Compiles src area work x a v → Compiles src area work y b w

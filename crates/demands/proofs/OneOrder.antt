@@ -10,7 +10,7 @@ use native.Mathlib.Omega.{arith}
 use lib.ListN.{length, take, drop}
 use lib.Dec.{leb, ltb}
 use lib.Seq.{take-append-seam}
-use Rattle.lists.proofs.Bools.{by, and-left, and-right}
+use Rattle.base_lists.proofs.Bools.{by, and-left, and-right}
 use Rattle.rules.specs.Meaning.{good}
 use Rattle.rules.specs.Table.{accepted, meaningIn}
 use Rattle.rules.specs.Order as paper
@@ -21,14 +21,14 @@ use Rattle.rules.proofs.TableLaws.{accepted-stored}
 use Rattle.rules.proofs.SignLaws.{Follows, follows-not-greater}
 use Rattle.rules.proofs.KeyLaws.{key-order, key-determines}
 use Rattle.rules.proofs.OrderLaws.{compare-equal, compare-level, compare-level-le, compare-antisym, turned, compare-follows, compare-decided, compare-agreed, Decided, commonSum, through}
-use Rattle.units.specs.Numbers.{signOf}
-use Rattle.units.proofs.NumberLaws.{numberOf-some}
-use Rattle.order.specs.Answers.{answerAs}
-use Rattle.order.specs.declared.Answer.{Answer}
-use Rattle.order.specs.declared.Comparison.{Comparison}
-use Rattle.order.specs.declared.Comparison.the-variants as comparison
-use Rattle.keys.specs.declared.Keyed.{Keyed}
-use Rattle.keys.specs.declared.Keyed.the-variants as keyed
+use Rattle.base_units.specs.Numbers.{signOf}
+use Rattle.base_units.proofs.NumberLaws.{numberOf-some}
+use Rattle.order_compare.specs.Answers.{answerAs}
+use Rattle.order_compare.specs.declared.Answer.{Answer}
+use Rattle.order_compare.specs.declared.Comparison.{Comparison}
+use Rattle.order_compare.specs.declared.Comparison.the-variants as comparison
+use Rattle.order_keys.specs.declared.Keyed.{Keyed}
+use Rattle.order_keys.specs.declared.Keyed.the-variants as keyed
 use Rattle.demands.specs.Answered.{Compares, Keys, firstGiven}
 use Rattle.demands.proofs.InOrder.{key-refusal}
 

@@ -7,7 +7,7 @@ use native.Mathlib.Omega.{arith}
 use lib.ListN.{length, getD, drop, length-map, length-append, List·getD-append}
 use lib.Dec.{leb, ltb}
 use borrow.Author.Tests.{ltb-false}
-use Rattle.lists.proofs.Bools.{by}
+use Rattle.base_lists.proofs.Bools.{by}
 use Rattle.rules.specs.Text.{every}
 use Rattle.rules.specs.Table.{accepted, meaningIn}
 use Rattle.rules.specs.Order.{greater, levelsOf}
@@ -16,13 +16,13 @@ use Rattle.rules.specs.Calls as calls
 use Rattle.rules.specs.Calls.{over, directedAs, directoryCall}
 use Rattle.rules.proofs.TableLaws.{accepted-stored}
 use Rattle.rules.proofs.DirectoryLaws.{Above, heading-none, heading-before, heading-last, heading-most, heading-own, heading-rises, some-weight, weight-rises, zero-none, none-zero}
-use Rattle.units.specs.Numbers.{signOf}
-use Rattle.units.proofs.NumberLaws.{numberOf-some}
-use Rattle.order.specs.declared.Answer.{Answer}
-use Rattle.order.specs.declared.Comparison.the-variants as comparison
-use Rattle.directory.specs.declared.Directed.{Directed}
-use Rattle.directory.specs.declared.Directed.the-variants as directed
-use Rattle.directory.proofs.HeadingLaws.{getD-map, weight-there, weights-many}
+use Rattle.base_units.specs.Numbers.{signOf}
+use Rattle.base_units.proofs.NumberLaws.{numberOf-some}
+use Rattle.order_compare.specs.declared.Answer.{Answer}
+use Rattle.order_compare.specs.declared.Comparison.the-variants as comparison
+use Rattle.order_directory.specs.declared.Directed.{Directed}
+use Rattle.order_directory.specs.declared.Directed.the-variants as directed
+use Rattle.order_directory.proofs.HeadingLaws.{getD-map, weight-there, weights-many}
 use Rattle.demands.specs.Answered.{Compares, Directs, firstGiven}
 use Rattle.demands.proofs.InOrder.{directory-refusal}
 use Rattle.demands.proofs.Untouched.{past-over}

@@ -19,18 +19,18 @@ use Rattle.rules.specs.Calls.{over, cleared, compiledAs, compileCall, keyFor, k
 use Rattle.rules.proofs.SizeLaws.{stored-size}
 use Rattle.rules.proofs.CompileLaws.{compile-good}
 use Rattle.rules.proofs.CharmapLaws.{charmap-length}
-use Rattle.units.specs.declared.Refusal.{Refusal}
-use Rattle.units.specs.Numbers.{numberOf}
-use Rattle.units.proofs.NumberLaws.{numberOf-some}
-use Rattle.compile.specs.Answers.{toldAs}
-use Rattle.compile.specs.declared.Compiled.{Compiled}
-use Rattle.compile.specs.declared.Compiled.the-variants as compiled
-use Rattle.compile.proofs.CodeLaws.{compile-gives}
-use Rattle.keys.specs.declared.Keyed.the-variants as keyed
-use Rattle.charmap.specs.declared.Mapped.the-variants as mapped
-use Rattle.charmap.proofs.CodeLaws.{read-gives}
-use Rattle.coding.specs.declared.Coded.the-variants as coded
-use Rattle.directory.specs.declared.Directed.the-variants as directed
+use Rattle.base_units.specs.declared.Refusal.{Refusal}
+use Rattle.base_units.specs.Numbers.{numberOf}
+use Rattle.base_units.proofs.NumberLaws.{numberOf-some}
+use Rattle.locale_compile.specs.Answers.{toldAs}
+use Rattle.locale_compile.specs.declared.Compiled.{Compiled}
+use Rattle.locale_compile.specs.declared.Compiled.the-variants as compiled
+use Rattle.locale_compile.proofs.CodeLaws.{compile-gives}
+use Rattle.order_keys.specs.declared.Keyed.the-variants as keyed
+use Rattle.charmap_read.specs.declared.Mapped.the-variants as mapped
+use Rattle.charmap_read.proofs.CodeLaws.{read-gives}
+use Rattle.charmap_coding.specs.declared.Coded.the-variants as coded
+use Rattle.order_directory.specs.declared.Directed.the-variants as directed
 use Rattle.demands.specs.Answered.{Compiles, Keys, Reads, Decodes, Encodes, Directs}
 
 -- ## Refused

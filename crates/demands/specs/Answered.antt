@@ -11,22 +11,22 @@ use Rattle.rules.specs.State.{start}
 use Rattle.rules.specs.Source.{linesFrom}
 use Rattle.rules.specs.Compile.{meaningOf}
 use Rattle.rules.specs.Calls.{compileCall, checkCall, stepCall, compareCall, keyCall, charmapCall, areaCall, decodeCall, encodeCall, directoryCall}
-use Rattle.compile.specs.Answers.{toldAs}
-use Rattle.compile.specs.declared.Compiled.{Compiled}
-use Rattle.table.specs.Answers.{checkedAs}
-use Rattle.table.specs.declared.Verdict.{Verdict}
-use Rattle.order.specs.Answers.{steppedAs, comparedAs}
-use Rattle.order.specs.declared.Stepping.{Stepping}
-use Rattle.order.specs.declared.Comparison.{Comparison}
-use Rattle.keys.specs.Answers.{keyedAs}
-use Rattle.keys.specs.declared.Keyed.{Keyed}
-use Rattle.charmap.specs.Answers.{readAs}
-use Rattle.charmap.specs.declared.Mapped.{Mapped}
-use Rattle.coding.specs.Answers.{numberIs, writtenIs}
-use Rattle.coding.specs.declared.AreaVerdict.{AreaVerdict}
-use Rattle.coding.specs.declared.Coded.{Coded}
-use Rattle.directory.specs.Answers.{directedIs}
-use Rattle.directory.specs.declared.Directed.{Directed}
+use Rattle.locale_compile.specs.Answers.{toldAs}
+use Rattle.locale_compile.specs.declared.Compiled.{Compiled}
+use Rattle.table_check.specs.Answers.{checkedAs}
+use Rattle.table_check.specs.declared.Verdict.{Verdict}
+use Rattle.order_compare.specs.Answers.{steppedAs, comparedAs}
+use Rattle.order_compare.specs.declared.Stepping.{Stepping}
+use Rattle.order_compare.specs.declared.Comparison.{Comparison}
+use Rattle.order_keys.specs.Answers.{keyedAs}
+use Rattle.order_keys.specs.declared.Keyed.{Keyed}
+use Rattle.charmap_read.specs.Answers.{readAs}
+use Rattle.charmap_read.specs.declared.Mapped.{Mapped}
+use Rattle.charmap_coding.specs.Answers.{numberIs, writtenIs}
+use Rattle.charmap_coding.specs.declared.AreaVerdict.{AreaVerdict}
+use Rattle.charmap_coding.specs.declared.Coded.{Coded}
+use Rattle.order_directory.specs.Answers.{directedIs}
+use Rattle.order_directory.specs.declared.Directed.{Directed}
 
 -- ## The ten operations
 

@@ -1,4 +1,4 @@
 // The pairs program: it reads locale.src and charmap.src, then standard input, and compares each two neighbouring lines.
 fn main() {
-    pairing::run(b"locale.src", b"charmap.src", 0);
+    pairs_run::run(b"locale.src", b"charmap.src", 0);
 }

@@ -11,7 +11,7 @@ use borrow.Author.Tests.{not-true}
 use Rattle.rules.specs.Text.{same, oneOf}
 use Rattle.rules.specs.Meaning.{Item, hasChars, noTwoAlike}
 use Rattle.rules.specs.Table.{placed, before, unpadded, listKey, keyed}
-use Rattle.lists.proofs.Bools.{by, and-left, and-right, and-intro, not-intro, or-false-left, or-false-right, or-false-intro}
+use Rattle.base_lists.proofs.Bools.{by, and-left, and-right, and-intro, not-intro, or-false-left, or-false-right, or-false-intro}
 use Rattle.rules.proofs.TextLaws.{same-true, same-refl}
 use Rattle.rules.proofs.StorableLaws.{chars-back, Stored, AllStored}
 use Rattle.rules.proofs.SortLaws.{before-irrefl, before-less, before-rest, Apart, AllApart}

@@ -9,8 +9,8 @@ use lib.ListN.{length, getD, take, drop}
 use lib.Dec.{leb, eqb}
 use lib.Seq.{getD-take, getD-drop, length-take-le}
 use borrow.Author.Tests.{leb-true, le-leb, eqb-true, eqb-false, eq-eqb, ne-eqb}
-use Rattle.lists.proofs.Bools.{and-left, and-right, and-intro, by, cond-true, cond-false}
-use Rattle.lists.proofs.Places.{getD-default}
+use Rattle.base_lists.proofs.Bools.{and-left, and-right, and-intro, by, cond-true, cond-false}
+use Rattle.base_lists.proofs.Places.{getD-default}
 use Rattle.rules.specs.Text.{every}
 use Rattle.rules.specs.Names.{isCharacter}
 use Rattle.rules.specs.Charmap.{noCode}

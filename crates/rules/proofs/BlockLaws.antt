@@ -3,7 +3,7 @@
 use mathlib.Core.Path.{_≡_, refl, sym, ap, subst, _∙_}
 use mathlib.Core.Bool.{Bool, true, false, _||_, false≢true}
 use mathlib.Core.List.{List, [], _∷_, _++_, append-assoc, append-nil}
-use Rattle.lists.proofs.Bools.{by, or-false-intro, or-false-left, or-false-right}
+use Rattle.base_lists.proofs.Bools.{by, or-false-intro, or-false-left, or-false-right}
 use Rattle.rules.specs.Text.{oneOf}
 use Rattle.rules.specs.State.{Subject, OrderLine}
 use Rattle.rules.specs.OrderLines.{sameSubject, takenOut, putAfter, placed, blockWith, again}

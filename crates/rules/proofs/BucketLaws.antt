@@ -7,7 +7,7 @@ use native.Mathlib.Omega.{arith}
 use lib.Dec.{ltb}
 use lib.Bits.{and-le-r}
 use borrow.Author.Tests.{ltb-true}
-use Rattle.lists.proofs.Bools.{cond-by}
+use Rattle.base_lists.proofs.Bools.{cond-by}
 use Rattle.rules.specs.Text.{same}
 use Rattle.rules.specs.Table.{doubled, mask, bucket}
 

@@ -7,7 +7,7 @@ use native.Mathlib.Omega.{arith}
 use lib.ListN.{length, drop}
 use lib.Dec.{eqb, ltb, lit<}
 use borrow.Author.Tests.{lt-ltb, not-true}
-use Rattle.lists.proofs.Bools.{and-right}
+use Rattle.base_lists.proofs.Bools.{and-right}
 use Rattle.rules.specs.Text.{if_then_else_}
 use Rattle.rules.specs.Tokens.{Token, tokenAt}
 use Rattle.rules.specs.State.{Chain, State, Outcome}

@@ -7,7 +7,7 @@ use native.Mathlib.Omega.{arith}
 use lib.ListN.{length, getD, drop}
 use lib.Dec.{eqb}
 use borrow.Author.Tests.{eq-eqb, ne-eqb}
-use Rattle.lists.proofs.Bools.{and-right, by, cond-true, cond-false, cond-both}
+use Rattle.base_lists.proofs.Bools.{and-right, by, cond-true, cond-false, cond-both}
 use Rattle.rules.specs.Text.{if_then_else_, is, same}
 use Rattle.rules.specs.Tokens.{word, name, Token, theName, tokensOf, operands, tokensRefusal, plainMarks, wordsOf}
 use Rattle.rules.specs.State.{inOtherCategory, Chain, Subject, undefined, State, inPhase, inCollate, Outcome, gives}

@@ -9,7 +9,7 @@ use lib.ListN.{length, getD, take, drop, length-append, List·getD-append}
 use lib.Dec.{ltb, eqb}
 use lib.Seq.{take-at, drop-at, getD-append-add}
 use borrow.Author.Tests.{eqb-true, eqb-false, eq-eqb, ne-eqb}
-use Rattle.lists.proofs.Bools.{and-intro, by, cond-true}
+use Rattle.base_lists.proofs.Bools.{and-intro, by, cond-true}
 use Rattle.rules.specs.Text.{if_then_else_, every, oneOf, granted}
 use Rattle.rules.specs.Charmap.{mapStart, Given, MapEnded, noCode, givesByte, mapLinesFrom, codeGiven, firstByte, encodes, numbersFrom, areaOf, charmapOf}
 use Rattle.rules.specs.Coding.{isCode, goodOnes, onesOf, oneEach, areaAccepted, byteAt}

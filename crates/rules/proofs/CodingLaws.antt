@@ -7,7 +7,7 @@ use native.Mathlib.Omega.{arith}
 use lib.ListN.{length, length-map}
 use lib.Dec.{ltb, leb}
 use borrow.Author.Tests.{leb-true, le-leb, ltb-false, le-ltb, not-false}
-use Rattle.lists.proofs.Bools.{and-left, and-right, and-intro}
+use Rattle.base_lists.proofs.Bools.{and-left, and-right, and-intro}
 use Rattle.rules.specs.Text.{within, every, granted}
 use Rattle.rules.specs.Names.{isCharacter}
 use Rattle.rules.specs.Order.{goodString}

@@ -7,7 +7,7 @@ use native.Mathlib.Omega.{arith}
 use lib.ListN.{length, getD, length-append}
 use lib.Dec.{eqb, leb, ltb, lit≤}
 use borrow.Author.Tests.{eqb-true, eq-eqb, ne-eqb, ltb-false, not-true, not-false}
-use Rattle.lists.proofs.Bools.{and-intro, by}
+use Rattle.base_lists.proofs.Bools.{and-intro, by}
 use Rattle.rules.specs.Text.{within, every, oneOf, same, granted, refused}
 use Rattle.rules.specs.Meaning.{Rule, Item, item, Meaning, sizeOf, goodWeights, goodItem, hasChars, noTwoAlike, good}
 use Rattle.rules.specs.State.{Declaration, undefined, OrderLine, State, start}

@@ -7,8 +7,8 @@ use native.Mathlib.Omega.{arith}
 use lib.ListN.{length, getD}
 use lib.Dec.{eqb, leb, ltb}
 use borrow.Author.Tests.{leb-true, leb-false, le-leb, lt-leb, ltb-true, eqb-true, eqb-false, ne-eqb, not-true}
-use Rattle.lists.proofs.Lists.{All}
-use Rattle.lists.proofs.Bools.{by, and-left, and-right, or-false-left, or-false-right}
+use Rattle.base_lists.proofs.Lists.{All}
+use Rattle.base_lists.proofs.Bools.{by, and-left, and-right, or-false-left, or-false-right}
 use Rattle.rules.specs.Text.{every}
 use Rattle.rules.specs.Meaning.{Rule, Meaning, good}
 use Rattle.rules.specs.Order.{Entry, equal, greater, signℕ, signEntry, signList, entriesFrom, walked, levelEntries, elements, levelsOf, levelsFrom, weightsAt, compareOf}

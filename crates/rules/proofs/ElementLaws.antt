@@ -9,8 +9,8 @@ use native.Mathlib.Decide.{decLt}
 use lib.ListN.{length, drop, getD}
 use lib.Dec.{leb, eqb, eqb·suc-zero}
 use borrow.Author.Tests.{leb-true, le-leb, eqb-true, eq-eqb, not-true}
-use Rattle.lists.proofs.Bools.{and-left, and-right, by, cond-true, cond-false}
-use Rattle.lists.proofs.Lists.{All, drop-pred, length-zero}
+use Rattle.base_lists.proofs.Bools.{and-left, and-right, by, cond-true, cond-false}
+use Rattle.base_lists.proofs.Lists.{All, drop-pred, length-zero}
 use Rattle.rules.specs.Text.{if_then_else_, oneOf, same, begins}
 use Rattle.rules.specs.Meaning.{Item, hasChars, noTwoAlike}
 use Rattle.rules.specs.Order.{noItem, Step, longest, undefinedFrom, stepOf, elements}

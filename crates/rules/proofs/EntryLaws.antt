@@ -7,8 +7,8 @@ use native.Mathlib.Omega.{arith}
 use lib.ListN.{length, getD, length-map, length-reverse}
 use lib.Dec.{leb}
 use borrow.Author.Tests.{leb-true}
-use Rattle.lists.proofs.Bools.{and-left, and-right, cond-false, cond-both}
-use Rattle.lists.proofs.Lists.{All}
+use Rattle.base_lists.proofs.Bools.{and-left, and-right, cond-false, cond-both}
+use Rattle.base_lists.proofs.Lists.{All}
 use Rattle.rules.specs.Text.{every, within}
 use Rattle.rules.specs.Meaning.{Rule, Item, countAll, goodWeights, goodItem}
 use Rattle.rules.specs.Order.{Entry, noItem, weightsAt, more, entriesFrom, walked, levelEntries}

@@ -8,7 +8,7 @@ use native.Mathlib.Omega.{arith}
 use lib.ListN.{length, drop}
 use lib.Dec.{ltb, leb, eqb}
 use borrow.Author.Tests.{leb-true, leb-false, le-leb, lt-leb, lt-ltb, eqb-true, eqb-false, eq-eqb, ne-eqb, not-true}
-use Rattle.lists.proofs.Bools.{and-left, and-right, and-intro, or-false-left, or-false-right, or-false-intro, clash, by, cond-both}
+use Rattle.base_lists.proofs.Bools.{and-left, and-right, and-intro, or-false-left, or-false-right, or-false-intro, clash, by, cond-both}
 use Rattle.rules.specs.Text.{if_then_else_, every, oneOf, is, _unless_, lowest}
 use Rattle.rules.specs.Names.{namesRefusal, hexValue, charShaped, codeOf, isCharacter, isCharName}
 use Rattle.rules.specs.Tokens.{isText, Token, tokenAt, theName, tokensOf, operands, isRange, isEntry}

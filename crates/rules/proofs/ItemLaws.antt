@@ -7,7 +7,7 @@ use native.Mathlib.Omega.{arith}
 use lib.ListN.{length, length-map}
 use lib.Dec.{leb}
 use borrow.Author.Tests.{eq-eqb, leb-true, le-leb}
-use Rattle.lists.proofs.Bools.{and-intro, or-false-left, or-false-right, or-false-intro, not-intro, by, clash, cond-both, cond-by}
+use Rattle.base_lists.proofs.Bools.{and-intro, or-false-left, or-false-right, or-false-intro, not-intro, by, clash, cond-both, cond-by}
 use Rattle.rules.specs.Text.{within, every, oneOf, same}
 use Rattle.rules.specs.Names.{isCharacter}
 use Rattle.rules.specs.Meaning.{Item, item, goodWeights, goodItem, hasChars, noTwoAlike}

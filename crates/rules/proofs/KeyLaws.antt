@@ -7,8 +7,8 @@ use native.Mathlib.Omega.{arith}
 use lib.ListN.{length}
 use lib.Dec.{ltb, leb}
 use borrow.Author.Tests.{lt-ltb, leb-true}
-use Rattle.lists.proofs.Bools.{and-left, and-right, and-intro}
-use Rattle.lists.proofs.Lists.{All}
+use Rattle.base_lists.proofs.Bools.{and-left, and-right, and-intro}
+use Rattle.base_lists.proofs.Lists.{All}
 use Rattle.rules.specs.Text.{if_then_else_, every, within}
 use Rattle.rules.specs.Names.{isCharacter}
 use Rattle.rules.specs.Meaning.{Rule, Item, Meaning, goodItem, good}

@@ -7,7 +7,7 @@ use native.Mathlib.Omega.{arith}
 use lib.ListN.{length, getD}
 use lib.Dec.{leb, eqb}
 use borrow.Author.Tests.{leb-true, le-leb, eqb-true, eq-eqb, not-true}
-use Rattle.lists.proofs.Bools.{and-left, and-right, and-intro, or-false-intro, not-intro, by, clash}
+use Rattle.base_lists.proofs.Bools.{and-left, and-right, and-intro, or-false-intro, not-intro, by, clash}
 use Rattle.rules.specs.Text.{within, every, oneOf, same}
 use Rattle.rules.specs.Names.{isCharacter}
 use Rattle.rules.specs.Meaning.{Item, Meaning, goodWeights, goodItem, hasChars, noTwoAlike, good}

@@ -5,7 +5,7 @@ use mathlib.Core.List.{List, [], _∷_}
 use Prim.Native.Nat.{suc, _≤_}
 use native.Mathlib.Omega.{arith}
 use lib.ListN.{length}
-use Rattle.lists.proofs.Bools.{by, or-false-intro}
+use Rattle.base_lists.proofs.Bools.{by, or-false-intro}
 use Rattle.rules.specs.Text.{oneOf}
 use Rattle.rules.specs.State.{Subject, OrderLine}
 use Rattle.rules.specs.OrderLines.{sameSubject, takenOut, putAfter}

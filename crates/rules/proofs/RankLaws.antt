@@ -7,7 +7,7 @@ use native.Mathlib.Omega.{arith}
 use lib.ListN.{length}
 use lib.Dec.{eqb}
 use borrow.Author.Tests.{eq-eqb, eqb-true, ne-eqb}
-use Rattle.lists.proofs.Bools.{by, clash}
+use Rattle.base_lists.proofs.Bools.{by, clash}
 use Rattle.rules.specs.Text.{if_then_else_, oneOf}
 use Rattle.rules.specs.State.{Subject, character, named, undefined, OrderLine}
 use Rattle.rules.specs.OrderLines.{sameSubject, rankFrom}

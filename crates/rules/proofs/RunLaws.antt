@@ -9,7 +9,7 @@ use lib.ListN.{length, drop, drop-of-length-le}
 use lib.Seq.{drop-drop}
 use lib.Dec.{eqb}
 use borrow.Author.Tests.{eq-eqb, ne-eqb}
-use Rattle.lists.proofs.Bools.{cond-true, cond-false, cond-both}
+use Rattle.base_lists.proofs.Bools.{cond-true, cond-false, cond-both}
 use Rattle.rules.specs.Text.{if_then_else_}
 use Rattle.rules.specs.Lines.{Signs, Scan, scan, scanStart, lineFrom, lineOf, takesAsIs, opensComment, endsEntry, scanEscaped, outside, comment}
 use Rattle.rules.specs.State.{State, Outcome}

@@ -7,7 +7,7 @@ use lib.ListN.{length, getD}
 use lib.Dec.{eqb, lit<}
 use native.Mathlib.Omega.{arith}
 use borrow.Author.Tests.{eq-eqb, eqb-true, le-leb, ne-eqb}
-use Rattle.lists.proofs.Bools.{and-left, and-right, clash, by, cond-both, cond-by}
+use Rattle.base_lists.proofs.Bools.{and-left, and-right, clash, by, cond-both, cond-by}
 use Rattle.rules.specs.Text.{if_then_else_, within, is, same}
 use Rattle.rules.specs.Tokens.{word, name, Token, tokenAt, theName, single, tokensOf, operands, tokensRefusal, plainMarks, wordsOf}
 use Rattle.rules.specs.Lines.{lineOf}

@@ -7,7 +7,7 @@ use native.Mathlib.Omega.{arith}
 use lib.ListN.{length, length-map, length-append}
 use lib.Dec.{eqb, leb, ltb, lit<, lit≤}
 use borrow.Author.Tests.{leb-true, ltb-true, not-true}
-use Rattle.lists.proofs.Bools.{and-left, and-right, and-intro, or-false-intro, not-intro, clash, by, cond-by}
+use Rattle.base_lists.proofs.Bools.{and-left, and-right, and-intro, or-false-intro, not-intro, clash, by, cond-by}
 use Rattle.rules.specs.Text.{within, every, oneOf, is}
 use Rattle.rules.specs.Names.{codeOf, isCharacter, isCharName, charShaped}
 use Rattle.rules.specs.Tokens.{semi, Token, tokenAt, theName}

@@ -8,7 +8,7 @@ use lib.ListN.{length, take, drop}
 use lib.Seq.{take-append-seam, drop-append-seam}
 use lib.Dec.{leb, eqb}
 use borrow.Author.Tests.{ne-eqb, leb-true}
-use Rattle.lists.proofs.Bools.{and-left}
+use Rattle.base_lists.proofs.Bools.{and-left}
 use Rattle.rules.proofs.TextLaws.{every-head, every-tail}
 use Rattle.rules.specs.Text.{every, within}
 use Rattle.rules.proofs.MeaningLaws.{item-parts, good-parts}

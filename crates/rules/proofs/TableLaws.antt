@@ -8,7 +8,7 @@ use lib.ListN.{length, getD, drop, length-append}
 use lib.Seq.{take-at, drop-at}
 use lib.Dec.{leb}
 use borrow.Author.Tests.{le-leb}
-use Rattle.lists.proofs.Bools.{and-left, and-right}
+use Rattle.base_lists.proofs.Bools.{and-left, and-right}
 use Rattle.rules.proofs.TextLaws.{begins-append, begins-split}
 use Rattle.rules.proofs.MeaningLaws.{good-parts}
 use Rattle.rules.proofs.StorableLaws.{rules-back, rules-drop, cut-back, chars-back, AllStored, meaning-stored, weights-append}

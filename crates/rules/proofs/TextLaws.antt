@@ -7,7 +7,7 @@ use native.Mathlib.Omega.{arith}
 use lib.ListN.{length, getD, drop}
 use lib.Dec.{eqb, leb, ltb}
 use borrow.Author.Tests.{eq-eqb, eqb-true, leb-true, le-leb}
-use Rattle.lists.proofs.Bools.{and-left, and-right, and-intro, or-false-left, or-false-right, by, clash}
+use Rattle.base_lists.proofs.Bools.{and-left, and-right, and-intro, or-false-left, or-false-right, by, clash}
 use Rattle.rules.specs.Text.{within, every, oneOf, same, begins, _unless_, lower, lowest}
 
 -- ## every, oneOf

@@ -7,7 +7,7 @@ use native.Mathlib.Omega.{arith}
 use lib.ListN.{length, getD}
 use lib.Dec.{leb, ltb}
 use borrow.Author.Tests.{leb-true, lt-ltb}
-use Rattle.lists.proofs.Bools.{and-left, and-right, and-intro, cond-both}
+use Rattle.base_lists.proofs.Bools.{and-left, and-right, and-intro, cond-both}
 use Rattle.rules.specs.Text.{within, every}
 use Rattle.rules.specs.Names.{isCharacter}
 use Rattle.rules.specs.Meaning.{Rule, Item, Meaning, countAll, weightCount, goodWeights, goodItem, noTwoAlike, good}

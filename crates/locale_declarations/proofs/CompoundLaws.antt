@@ -1,0 +1,230 @@
+-- collating-element: what it does where it may stand, and its refusal.
+use mathlib.Core.Path.{_≡_, refl, sym, ap, _∙_, subst}
+use mathlib.Core.Bool.{Bool, true, false, not, _&&_, _||_, false≢true}
+use mathlib.Core.List.{List, [], _∷_, map}
+use Prim.Native.Nat.{ℕ, _+_, _/_, _%_, _≤_, _<_}
+use native.Mathlib.Omega.{arith}
+use lib.ListN.{length}
+use lib.Dec.{eqb, leb}
+use borrow.Author.Tests.{eqb-true}
+use Rattle.base_lists.proofs.Bools.{by, clash, and-left, and-right}
+use Rattle.rules.specs.Text.{bytes, within, every, _unless_, lower, lowest}
+use Rattle.rules.specs.Names.{codeOf, isCharName}
+use Rattle.rules.specs.Meaning.{Rule}
+use Rattle.rules.specs.Tokens.{Token, tokenAt, theName, operands, tokensRefusal}
+use Rattle.rules.specs.State.{beforeOrder, afterOrder, Chain, Declaration, element, named, OrderLine, State, withDeclared, Outcome}
+use Rattle.rules.specs.Declarations.{elementFormed, elementLine}
+use Rattle.rules.specs.Source.{collateLine}
+use Rattle.rules.proofs.TextLaws.{lower-none, lowest-unless}
+use Rattle.text_lines.specs.declared.Signs.{Signs}
+use Rattle.text_lines.specs.declared.Spot.{Spot}
+use Rattle.text_lines.specs.declared.LineEnd.{LineEnd}
+use Rattle.text_tokens.specs.Left.{tokensLeft}
+use Rattle.work_subjects.specs.Keys.{Key, item, chars, keyAt, sameKey}
+use Rattle.work_subjects.specs.Numbers.{isDeclarable, kindOf}
+use Rattle.work_subjects.proofs.NumberLaws.{chars-declarable}
+use Rattle.work_store.specs.Store.{Decl, first, knownIn, isPlace, fresh, Holds, Sound}
+use Rattle.work_store.specs.declared.Found.the-variants.{Nothing}
+use Rattle.work_store.proofs.ListLaws.{first-fresh-other, isPlace-older, place-below}
+use Rattle.work_rows.specs.Cells.{cell}
+use Rattle.work_order.specs.declared.Order.{Order}
+use Rattle.work_order.specs.Listed.{charsNumber}
+use Rattle.work_known.specs.Known.{declaredAt, Says, elements, isRow, Known}
+use Rattle.work_known.proofs.MarkLaws.{row-by}
+use Rattle.work_known.proofs.GrownLaws.{Grown, known-grown}
+use Rattle.work_known.proofs.NewLaws.{says-on, kind-name}
+use Rattle.locale_symbols.specs.Symbols.{isNewIn}
+use Rattle.locale_elements.specs.declared.Element.{Element}
+use Rattle.locale_elements.specs.declared.Element.the-variants as answer
+use Rattle.locale_elements.specs.Compounds.{elementRefusal, charsIn, DeclaresBoth, ElementAt, ElementNot, ElementIs}
+use Rattle.locale_elements.proofs.PaperLaws.{element-paper, element-misplaced}
+use Rattle.locale_keywords.proofs.KeywordLaws.{at-element}
+use Rattle.locale_sheet.specs.declared.Sheet.{Sheet}
+use Rattle.locale_sheet.specs.declared.Step.the-variants.{Next, Refused}
+use Rattle.locale_sheet.specs.Sheets.{Open}
+use Rattle.locale_sheet.proofs.OrderLaws.{open-declared}
+use Rattle.locale_declarations.specs.Worded.{Opened, Writes}
+use Rattle.locale_declarations.proofs.RefusalLaws.{Fair, bounded-clean, bounded-three, fair-element}
+use Rattle.locale_declarations.proofs.OpenedLaws.{line-moves, line-accepted, line-refused, line-foul}
+use Rattle.locale_declarations.proofs.DeclareLaws.{says-alike, first-none, new-unknown, first-declarable, positive, line-reaches}
+
+-- ## What is known after it
+
+-- what is declared at two marks more: one of them, or what was before
+two-by : {P : Type 0} (key : ℕ → Key) (v q : ℕ) (ds : List Decl) (u : ℕ) → isPlace u (fresh key q ∷ fresh key v ∷ ds) ≡ true → isPlace u ds ≡ false
+    → (u ≡ q → P) → (u ≡ v → P) → P
+unfolding isPlace
+two-by key v q ds u p z f g =
+    by (eqb q u)
+    (λ t. f (sym (eqb-true q u t)))
+    (λ t. by (eqb v u) (λ y. g (sym (eqb-true v u y))) (λ y. clash (rw (t, y) at p) z))
+
+module _ (g : Signs) (src w : List ℕ) (o : Order) (rs : List Rule) (n : ℕ) (cs : List Declaration) (ls : List OrderLine) (k : Known g src w o rs n cs ls)
+    (v q : ℕ) (w′ : List ℕ) (d : DeclaresBoth (keyAt g src) (length src) w v q w′) (room : n + 1 ≤ v / 16) (later : v / 16 + 1 ≤ q / 16) (inside : q / 2 ≤ length src) where
+  -- the five numbers of what was declared stay
+  kept : (u j : ℕ) → isPlace u (k .ds) ≡ true → j < 5 → cell w′ u j ≡ cell w u j
+  kept u j p c = d .before u j c (let b = place-below (k .holds) u p in omega (arith, b, room))
+
+  -- and those of the rows of order lines
+  pub element-older : (u j : ℕ) → isRow (length src) (k .ds) u ≡ true → j < 5 → cell w′ u j ≡ cell w u j
+  element-older u j r c = row-by (length src) (k .ds) u r (λ p e. kept u j p c) (λ z. d .after u j c (omega (arith, z, inside)))
+
+  module _ (first-some : 1 ≤ v) (m xs : List ℕ) (name : keyAt g src v ≡ item (named m)) (quotes : keyAt g src q ≡ chars xs) (odd : q % 2 ≡ 1) where
+    kind-quotes : kindOf (keyAt g src q) ≡ 2
+    unfolding kindOf
+    kind-quotes = rw quotes
+
+    grown : Grown (length src) w w′ n (q / 16 + 1) (k .ds) (fresh (keyAt g src) q ∷ fresh (keyAt g src) v ∷ k .ds)
+    grown =
+        let key = keyAt g src in
+        let ds = fresh key q ∷ fresh key v ∷ k .ds in
+        record {
+          long = d .long;
+          four = λ u j r b c.
+              row-by (length src) ds u r
+              (λ p e. by (isPlace u (k .ds))
+              (λ t. kept u j t c)
+              (λ t. two-by key v q (k .ds) u p t
+              (λ z. absurd (let x = ap (λ (y : ℕ). y % 2) z in omega (arith, x, e, odd)))
+              (λ z. subst (λ (x : ℕ). cell w′ x j ≡ cell w x j) (sym z) (d .own j b c (omega (arith, room)) (kind-name name) kind-quotes))))
+              (λ z. d .after u j c (omega (arith, z, inside)));
+          rest = λ u j a b c. d .after u j c (omega (arith, a));
+          rows = omega (arith, room, later);
+          older = λ u p. isPlace-older key q (fresh key v ∷ k .ds) u (isPlace-older key v (k .ds) u p);
+          newer = λ u p z. two-by key v q (k .ds) u p z (λ e. omega (arith, e, room, later)) (λ e. omega (arith, e, room));
+          some = λ u p z. two-by key v q (k .ds) u p z (λ e. omega (arith, e, later)) (λ e. omega (arith, e, first-some));
+        }
+
+    pub known-element-new : isDeclarable (item (named m)) ≡ true → isDeclarable (chars xs) ≡ true → first (item (named m)) (k .ds) ≡ Nothing → first (chars xs) (k .ds) ≡ Nothing
+        → Known g src w′ o rs (q / 16 + 1) (element m xs ∷ cs) ls
+    unfolding sameKey
+    known-element-new fit fits a b =
+        let key = keyAt g src in
+        let can = ap isDeclarable name ∙ fit in
+        let new = ap (λ (x : Key). first x (k .ds)) name ∙ a in
+        let more = ap isDeclarable quotes ∙ fits in
+        let later-new = ap (λ (x : Key). first x (fresh key v ∷ k .ds)) quotes ∙ first-fresh-other key v (k .ds) (chars xs) (rw name) ∙ b in
+        let before = says-on w w′ (k .ds) cs (λ u p. kept u charsNumber p (omega arith)) (k .says) in
+        known-grown g src w o rs n cs ls k w′ (q / 16 + 1) (fresh key q ∷ fresh key v ∷ k .ds) (element m xs ∷ cs)
+        (d .is n (k .ds) (k .holds) room (kind-name name) can new kind-quotes more later-new)
+        (subst (λ (x : Key). Says w′ (declaredAt x q ∷ fresh key v ∷ k .ds) (element m xs ∷ cs)) (sym quotes)
+        (subst (λ (x : Key). Says w′ (declaredAt (chars xs) q ∷ declaredAt x v ∷ k .ds) (element m xs ∷ cs)) (sym name) (elements (d .chars) (omega (arith, odd)) before)))
+        grown
+
+-- ## What is accepted is new and can be declared
+
+pub record Fresh (ds : List Decl) (n xs : List ℕ) : Type 0 where
+  pub fit : isDeclarable (item (named n)) ≡ true
+  pub fits : isDeclarable (chars xs) ≡ true
+  pub name : knownIn (item (named n)) ds ≡ false
+  pub quotes : knownIn (chars xs) ds ≡ false
+
+not-both : (a b : Bool) → a ≡ true → not (a && b) ≡ true → b ≡ false
+not-both true true e h = absurd (false≢true h)
+not-both true false e h = refl
+not-both false b e h = absurd (false≢true e)
+
+element-new : (ds : List Decl) (os : List Token) → elementRefusal ds os ≡ 0 → Fresh ds (theName (tokenAt os 0)) (charsIn os)
+unfolding elementRefusal
+element-new ds os h =
+    let ns = tokenAt os 2 .names in
+    let xs = map codeOf ns in
+    let a = isNewIn ds (theName (tokenAt os 0)) in
+    let fit = every isCharName ns in
+    let b = not (fit && knownIn (chars xs) ds) in
+    let few = within 2 4 (length xs) in
+    let z = lower-none (tokensRefusal os) (lowest (3 unless elementFormed os ∷ 5 unless (a && b) ∷ 6 unless fit ∷ 7 unless few ∷ [])) h in
+    let y = lowest-unless 3 (elementFormed os) (5 unless (a && b) ∷ 6 unless fit ∷ 7 unless few ∷ []) (omega arith) (z .1) .1 in
+    let x = lowest-unless 5 (a && b) (6 unless fit ∷ 7 unless few ∷ []) (omega arith) y in
+    let c = lowest-unless 6 fit (7 unless few ∷ []) (omega arith) (x .1) in
+    let d = lowest-unless 7 few [] (omega arith) (c .1) .0 in
+    record {
+      fit = first-declarable os (z .0);
+      fits = chars-declarable ns (c .0) (and-right (leb 2 (length xs)) (leb (length xs) 4) d);
+      name = new-unknown ds (theName (tokenAt os 0)) (and-left a b (x .0));
+      quotes = not-both fit (knownIn (chars xs) ds) (c .0) (and-right a b (x .0));
+    }
+
+-- ## collating-element
+
+module _ (g : Signs) (src : List ℕ) (at : ℕ) (p : Spot) (e : LineEnd) (l : Opened g src at p e "collating-element") where
+  abbrev left : List Token
+  left = operands (tokensLeft g src p)
+
+  element-fault : (s : State) (number : ℕ)
+      → lower (tokensRefusal left) (collateLine s number (bytes "collating-element") left .refusal) ≡ lower (tokensRefusal left) (elementLine s left .refusal)
+  element-fault s number = ap (λ (o : Outcome). lower (tokensRefusal left) (o .refusal)) (at-element s number (bytes "collating-element") left refl)
+
+  element-state : (s : State) (number : ℕ)
+      → collateLine s number (bytes "collating-element") left .state ≡ withDeclared s (element (theName (tokenAt left 0)) (charsIn left) ∷ s .declared)
+  unfolding elementLine
+  element-state s number = ap (λ (o : Outcome). o .state) (at-element s number (bytes "collating-element") left refl)
+
+  -- its name stands behind the keyword
+  element-behind : (v : ℕ) → p .at < v / 2 → at + 18 ≤ v / 2
+  unfolding bytes
+  element-behind v h = let a : 17 + at ≤ p .at = l .first .long in omega (arith, a, h)
+
+  module _ (w w′ : List ℕ) (sh : Sheet) where
+    -- where a declaration may stand
+    abbrev may : Bool
+    may = eqb (sh .phase) beforeOrder || eqb (sh .phase) afterOrder
+
+    pub element-misplaced-step : {x : ℕ} → x ≡ lower (2 unless e .text) 3 → {t : Bool} → t ≡ may → t ≡ false → Writes g src w sh at w′ (Refused x)
+    element-misplaced-step b z n =
+        record {
+          is = λ number depth. line-refused l w sh number depth (bounded-three (e .text) b) (λ cs s o d u.
+              element-fault s number ∙ element-misplaced s left (rw (o .phase) (sym z ∙ n)));
+        }
+
+    pub element-foul : e .text ≡ false → Writes g src w sh at w′ (Refused 2)
+    element-foul x = record { is = λ number depth. line-foul l w sh number depth x }
+
+    module _ {t : Bool} (m : t ≡ may) (f : t ≡ true) (x : e .text ≡ true) where
+      declares : may ≡ true
+      declares = sym m ∙ f
+
+      paper : {r : ℕ} → ((n : ℕ) (ds : List Decl) → Holds (keyAt g src) (length src) w n ds → elementRefusal ds left ≡ r)
+          → {cs : List Chain} {s : State} (number : ℕ) → Open g src w sh cs at s
+          → lower (tokensRefusal left) (collateLine s number (bytes "collating-element") left .refusal) ≡ r
+      paper h {s = s} number o =
+          let k = o .known in
+          element-fault s number ∙ sym (element-paper s left (k .ds) (says-alike (k .says)) (rw (o .phase) declares)) ∙ h (o .n) (k .ds) (k .holds)
+
+      module _ {y : Element} (a : ElementIs g src p w w′ y) where
+        pub element-refused-step : Sound (keyAt g src) (length src) w → {r : ℕ} → y ≡ answer.Refused r → Writes g src w sh at w′ (Refused r)
+        element-refused-step i {r} z =
+            let b : ElementNot g src p w r = subst (ElementIs g src p w w′) z a .0 in
+            let c = b .refusal .is (i .n) (i .ds) (i .holds) in
+            record {
+              is = λ number depth. line-refused l w sh number depth
+                  (bounded-clean x (subst Fair c (fair-element (i .ds) left)) (positive r (b .some))) (λ cs s o d u. paper (b .refusal .is) number o);
+            }
+
+        pub element-done : {v q : ℕ} → y ≡ answer.Declared v q → Writes g src w sh at w′ (Next sh (e .next) (e .feeds))
+        element-done {v} {q} z =
+            let b : ElementAt g src p w v q = subst (ElementIs g src p w w′) z a .0 in
+            let c : DeclaresBoth (keyAt g src) (length src) w v q w′ = subst (ElementIs g src p w w′) z a .1 in
+            let m = theName (tokenAt left 0) in
+            let xs = charsIn left in
+            let far = element-behind v (b .mark .behind) in
+            record {
+              is = λ number depth. record {
+                moves = line-moves l;
+                leaves = λ cs s o d u.
+                    let k = o .known in
+                    let n = element-new (k .ds) left (b .refusal .is (o .n) (k .ds) (k .holds)) in
+                    let rows : o .n ≤ (at + 5) / 8 = rw declares at (o .rows (l .first .inside)) in
+                    record {
+                      after = withDeclared s (element m xs ∷ s .declared);
+                      outcome = line-accepted l w sh number o u x (paper (b .refusal .is) number o) (element-state s number);
+                      held = open-declared g src w sh cs at s o (l .first .inside) (e .next) w′ (q / 16 + 1) (element m xs ∷ s .declared) declares (let i = line-moves l .on in omega (arith, i))
+                          (known-element-new g src w (sh .order) (s .ordered .rules) (o .n) (s .declared) (s .ordered .lines) k v q w′ c
+                          (omega (arith, rows, far)) (b .quotes .later) (b .quotes .within) (let y = b .mark .behind in omega (arith, y)) m xs (b .mark .key) (b .quotes .key) (b .quotes .odd)
+                          (n .fit) (n .fits) (first-none (item (named m)) (k .ds) (n .name)) (first-none (chars xs) (k .ds) (n .quotes)))
+                          (c .long)
+                          (element-older g src w (sh .order) (s .ordered .rules) (o .n) (s .declared) (s .ordered .lines) k v q w′ c
+                          (omega (arith, rows, far)) (b .quotes .later) (b .quotes .within)) (c .beyond) (λ h. let r = line-reaches l (b .quotes .room) h in omega (arith, r));
+                    };
+              };
+            }

@@ -1,0 +1,46 @@
+-- `locale_declarations::order_start_line` meets its contract: a law for each answer.
+use Rattle.locale_declarations.proofs.StartLaws.{start-misplaced, start-refused, start-foul, start-done}
+use borrow.Author.Needs.{needs}
+use Rattle.locale_declarations.proofs.order_start_line.Statement.{statement}
+use Rattle.locale_declarations.proofs.order_start_line.Tie as tie
+
+levels-of-requires : tie.Need-levels-of-requires
+levels-of-requires c κs = search needs
+
+enum-known-l : tie.Need-enum-known-l
+enum-known-l c = search needs
+
+refusal-with-requires : tie.Need-refusal-with-requires
+refusal-with-requires c κs = search needs
+
+returns : tie.Need-returns
+returns c = search start-refused
+
+enum-known-l-2 : tie.Need-enum-known-l-2
+enum-known-l-2 c = search needs
+
+returns-2 : tie.Need-returns-2
+returns-2 c = search start-done
+
+returns-3 : tie.Need-returns-3
+returns-3 c = search start-foul
+
+refusal-with-requires-2 : tie.Need-refusal-with-requires-2
+refusal-with-requires-2 c κs = search needs
+
+returns-4 : tie.Need-returns-4
+returns-4 c = search start-misplaced
+
+pub order-start-line-spec : {M : Type 1} → statement M
+order-start-line-spec =
+    tie.close
+    (tie.spec
+    levels-of-requires
+    enum-known-l
+    refusal-with-requires
+    returns
+    enum-known-l-2
+    returns-2
+    returns-3
+    refusal-with-requires-2
+    returns-4)

@@ -1,0 +1,65 @@
+// How a line inside LC_COLLATE that is read whole begins.
+ghost use mathlib.Core.Path.{_≡_};
+ghost use Prim.Native.Nat.{_≤_};
+ghost use lib.ListN.{length};
+ghost use Rattle.rules.specs.Text.{_unless_, lower};
+ghost use Rattle.locale_opening.specs.Begun.{OpeningIs};
+use text_lines::LineEnd;
+use text_lines::Signs;
+use text_lines::Spot;
+use text_lines::line_end;
+use text_tokens::Next;
+use text_tokens::Tok;
+use text_tokens::lower_of;
+use text_tokens::next_token;
+use text_tokens::skip_gaps;
+
+// What a line begins with, and its end.
+pub enum Opening {
+    // nothing but blanks
+    Blank(LineEnd),
+    // what may begin no line: a separator, quotes, an escape pair, or what is malformed
+    Foul(LineEnd),
+    // a word: the spot where it begins, and it
+    Word(Spot, Tok, LineEnd),
+    // a name: the spot where it begins, and it
+    Name(Spot, Tok, LineEnd),
+}
+
+// A line's refusal r, and that of a byte of it that is no text.
+pub fn refusal_with(text: bool, r: u8) -> u8
+    ensures { λ x. ⌜ x ≡ lower (2 unless text) r ⌝ }
+{
+    if text {
+        return r;
+    }
+    lower_of(2, r)
+}
+
+// How the line at a place begins.
+pub fn open_line(src: &[u8], g: Signs, at: usize) -> Opening
+    requires { ⌜ at ≤ length (now src) ⌝ }
+    ensures { λ r. ⌜ OpeningIs g (now (src .entry)) at r ⌝ }
+{
+    let p = Spot {
+        at: at,
+        mode: 0,
+        fresh: true,
+    };
+    let e = line_end(src, g, p);
+    let q = skip_gaps(src, g, p);
+    let n = next_token(src, g, q);
+    match n {
+        Next::End => return Opening::Blank(e),
+        Next::Broken => return Opening::Foul(e),
+        Next::Token(t) => {
+            if t.kind == 4 {
+                return Opening::Word(q, t, e);
+            }
+            if t.kind == 5 {
+                return Opening::Name(q, t, e);
+            }
+            return Opening::Foul(e);
+        }
+    }
+}

@@ -1,0 +1,43 @@
+-- `locale_order_lines::undefined_line` meets its contract: the line is refused, or the row of UNDEFINED is given its numbers.
+use Rattle.locale_order_lines.proofs.StepLaws.{line-refused}
+use Rattle.locale_order_lines.proofs.UndefinedLaws.{undefined-ready, undefined-listed}
+use borrow.Author.Needs.{needs}
+use Rattle.locale_order_lines.proofs.undefined_line.Statement.{statement}
+use Rattle.locale_order_lines.proofs.undefined_line.Tie as tie
+
+add-m : tie.Need-add-m
+add-m c = search needs
+
+mul-m : tie.Need-mul-m
+mul-m c = search needs
+
+undefined-refusal-requires : tie.Need-undefined-refusal-requires
+undefined-refusal-requires c κs = search needs
+
+list-line-requires : tie.Need-list-line-requires
+list-line-requires c κs = search undefined-ready
+
+same-length : tie.Need-same-length
+same-length c = search needs
+
+returns : tie.Need-returns
+returns c = search undefined-listed
+
+same-length-2 : tie.Need-same-length-2
+same-length-2 c = search needs
+
+returns-2 : tie.Need-returns-2
+returns-2 c = search line-refused
+
+pub undefined-line-spec : {M : Type 1} → statement M
+undefined-line-spec =
+    tie.close
+    (tie.spec
+    add-m
+    mul-m
+    undefined-refusal-requires
+    list-line-requires
+    same-length
+    returns
+    same-length-2
+    returns-2)

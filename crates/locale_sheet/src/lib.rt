@@ -1,0 +1,34 @@
+// What is known between two lines in LC_COLLATE beside the work area, and what a line may do to it.
+use work_order::Order;
+
+// The open block: the mark of its named line, the mark of the line after which the next one comes to stand, and the place from which on its own lines are
+// written. Outside a block the three say nothing.
+pub struct Block {
+    pub named: usize,
+    pub last: usize,
+    pub from: usize,
+}
+
+// Where the next line stands (3 before, 4 in, 5 after the order, 6 in a block; 1 after END LC_COLLATE); how many toggles are named; the place after the
+// word order_start, and how many levels there are; the order lines; the open block.
+pub struct Sheet {
+    pub phase: u8,
+    pub toggles: usize,
+    pub rules: usize,
+    pub levels: usize,
+    pub order: Order,
+    pub block: Block,
+}
+
+// What a line in a used branch does.
+pub enum Step {
+    // the sheet after it, the place after it, and its LFs
+    Next(Sheet, usize, usize),
+    // ifdef or ifndef: whether its branch is used
+    Opens(bool, Sheet, usize, usize),
+    // END LC_COLLATE
+    Closes(usize, usize),
+    // elif, else or endif: the chain that is open reads it
+    Branch,
+    Refused(u8),
+}

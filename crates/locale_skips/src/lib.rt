@@ -1,0 +1,302 @@
+// The lines of a locale source that are passed over: an unused branch of a conditional chain, and another category.
+ghost use mathlib.Core.Path.{_≡_};
+ghost use Prim.Native.Nat.{_≤_, _<_};
+ghost use lib.ListN.{length};
+ghost use Rattle.text_lines.specs.Stream.{lineStart};
+ghost use Rattle.text_reader.specs.Turns.{AtLine, Turns};
+ghost use Rattle.text_passed.specs.Words.{firstWord};
+ghost use Rattle.locale_skips.specs.Passing.{KindIs, Begins, TurnIs, BranchIs, BranchStands, branchReading, Named, nameAt, Copies, isEnd, Reaches, AfterIs, CategoryIs};
+use text_lines::Signs;
+use text_lines::Spot;
+use text_passed::first_word_is;
+use text_passed::words_are;
+use text_reader::Reader;
+use text_reader::line;
+use text_reader::line_at;
+use text_reader::line_number;
+use text_reader::past;
+use text_reader::place;
+use text_reader::reader_at;
+use text_reader::used_up;
+use text_tokens::WordStep;
+use text_tokens::word_byte;
+
+// What a line is in an unused branch, by its first word.
+pub enum Kind {
+    // it opens an inner chain
+    Opens,
+    // it closes a chain
+    Closes,
+    // it begins another branch
+    Branches,
+    Other,
+}
+
+// What a line of an unused branch does.
+pub enum Turn {
+    // it is passed over, with so many chains open after it
+    On(usize),
+    // it is one of the branch's own chain
+    Own,
+    // it opens one chain more than may nest
+    Deep,
+}
+
+// Stop: the place and the number of the line that is to be read next. Refused: why, and at which line.
+pub enum Skip {
+    Stop(usize, usize),
+    Refused(u8, usize),
+}
+
+// What the line at a place is in an unused branch.
+fn line_kind(src: &[u8], g: Signs, at: usize) -> Kind
+    requires { ⌜ at ≤ length (now src) ⌝ }
+    ensures { λ r. ⌜ KindIs (firstWord g (now (src .entry)) (lineStart at)) r ⌝ }
+{
+    let p = Spot {
+        at: at,
+        mode: 0,
+        fresh: true,
+    };
+    if first_word_is(src, g, p, b"ifdef") {
+        return Kind::Opens;
+    }
+    if first_word_is(src, g, p, b"ifndef") {
+        return Kind::Opens;
+    }
+    if first_word_is(src, g, p, b"endif") {
+        return Kind::Closes;
+    }
+    if first_word_is(src, g, p, b"elif") {
+        return Kind::Branches;
+    }
+    if first_word_is(src, g, p, b"else") {
+        return Kind::Branches;
+    }
+    Kind::Other
+}
+
+// What the line at a place does in an unused branch, where `depth` chains are open with the branch's own and `total` with the inner ones.
+fn branch_turn(src: &[u8], g: Signs, at: usize, depth: usize, total: usize) -> Turn
+    requires { ⌜ (at ≤ length (now src)) × (depth ≤ total) ⌝ }
+    ensures { λ r. ⌜ TurnIs g (now (src .entry)) at depth total r ⌝ }
+{
+    let k = line_kind(src, g, at);
+    match k {
+        Kind::Opens => {
+            if total < 8 {
+                return Turn::On(total + 1);
+            }
+            return Turn::Deep;
+        }
+        Kind::Closes => {
+            if total == depth {
+                return Turn::Own;
+            }
+            return Turn::On(total - 1);
+        }
+        Kind::Branches => {
+            if total == depth {
+                return Turn::Own;
+            }
+            return Turn::On(total);
+        }
+        Kind::Other => return Turn::On(total),
+    }
+}
+
+// How far an unused branch is read. As in every state of a loop that holds a reader (crates/text_reader), the first three fields are whether the
+// loop is over, and the place and the number of the line that comes next.
+struct Branch {
+    over: bool,
+    next: usize,
+    number: usize,
+    // the chains that are open, with the inner ones
+    total: usize,
+    // what is answered if it is over, or no line comes next
+    answer: Skip,
+    // the chains that are open, with the branch's own, and the two characters
+    depth: usize,
+    signs: Signs,
+}
+
+// The line at a place, which comes next.
+fn branch_line(src: &[u8], s: Branch, at: usize, number: usize) -> Branch
+    requires { ⌜ AtLine branchReading (now src) s at number ⌝ }
+    ensures { λ r. ⌜ Turns branchReading (now (src .entry)) s at number r ⌝ }
+{
+    let g = s.signs;
+    let depth = s.depth;
+    let total = s.total;
+    let t = branch_turn(src, g, at, depth, total);
+    match t {
+        Turn::Own => {
+            return Branch {
+                over: true,
+                next: at,
+                number: number,
+                total: total,
+                answer: Skip::Stop(at, number),
+                depth: depth,
+                signs: g,
+            };
+        }
+        Turn::Deep => {
+            return Branch {
+                over: true,
+                next: at,
+                number: number,
+                total: total,
+                answer: Skip::Refused(7, number),
+                depth: depth,
+                signs: g,
+            };
+        }
+        Turn::On(o) => {
+            let e = line_at(src, g, at);
+            let n = number + e.feeds;
+            return Branch {
+                over: false,
+                next: e.next,
+                number: n,
+                total: o,
+                answer: Skip::Refused(3, n),
+                depth: depth,
+                signs: g,
+            };
+        }
+    }
+}
+
+// The lines that come next, up to the one that ends the branch or to the end of the source.
+fn branch_lines(src: &[u8], s: Branch) -> Branch
+    requires { ⌜ BranchStands (now src) s s (s .next) (s .number) ⌝ }
+    ensures { λ r. ⌜ BranchIs (s .signs) (now (src .entry)) (s .next) (s .number) (s .depth) (r .answer) ⌝ }
+{
+    let mut t = s;
+    let mut q = reader_at(src, t.next, t.number);
+    while !used_up(q) {
+        t = branch_line(q.src, t, q.at, q.number);
+        if t.over {
+            return t;
+        }
+        q = reader_at(q.src, t.next, t.number);
+    }
+    t
+}
+
+// The rest of an unused branch, where `depth` chains are open: the next line of its own chain.
+pub fn skip_branch(src: &[u8], g: Signs, at: usize, number: usize, depth: usize) -> Skip
+    requires { ⌜ Begins (now src) at number ⌝ }
+    ensures { λ r. ⌜ BranchIs g (now (src .entry)) at number depth r ⌝ }
+{
+    let s = Branch {
+        over: false,
+        next: at,
+        number: number,
+        total: depth,
+        answer: Skip::Refused(3, number),
+        depth: depth,
+        signs: g,
+    };
+    let t = branch_lines(src, s);
+    t.answer
+}
+
+// Whether the line at a place is the END line of the category of this name.
+fn is_end(src: &[u8], g: Signs, at: usize, name: &[u8]) -> bool
+    requires { ⌜ (at ≤ length (now src)) × (0 < length (now name)) ⌝ }
+    ensures { λ r. ⌜ r ≡ isEnd g (now (src .entry)) at (now (name .entry)) ⌝ }
+{
+    let p = Spot {
+        at: at,
+        mode: 0,
+        fresh: true,
+    };
+    words_are(src, g, p, b"END", name)
+}
+
+// The reader at the END line of the category of this name, or at the end of the source.
+fn to_end<'a, 'b>(r: Reader<'a>, g: Signs, name: &'b [u8]) -> Reader<'a>
+    requires { ⌜ Begins (now (r .src)) (r .at) (r .number) × (0 < length (now name)) ⌝ }
+    ensures { λ q. ⌜ (q .src ≡ r .entry .src) × Reaches g (now (r .entry .src)) (r .entry .at) (r .entry .number) (now (name .entry)) (q .at) (q .number) ⌝ }
+{
+    let mut q = r;
+    while !used_up(q) {
+        if is_end(q.src, g, q.at, name) {
+            return q;
+        }
+        q = past(q, line(q, g));
+    }
+    q
+}
+
+// The line after the one at a place, if one stands there.
+fn line_after(src: &[u8], g: Signs, at: usize, number: usize) -> Skip
+    requires { ⌜ Begins (now src) at number ⌝ }
+    ensures { λ r. ⌜ AfterIs g (now (src .entry)) at number r ⌝ }
+{
+    if at < src.len() {
+        let e = line_at(src, g, at);
+        return Skip::Stop(e.next, number + e.feeds);
+    }
+    Skip::Refused(3, number)
+}
+
+// The rest of another category of this name: the line after its END line.
+fn skip_named(src: &[u8], g: Signs, at: usize, number: usize, name: &[u8]) -> Skip
+    requires { ⌜ Begins (now src) at number × (0 < length (now name)) ⌝ }
+    ensures { λ r. ⌜ CategoryIs g (now (src .entry)) at number (now (name .entry)) r ⌝ }
+{
+    let q = to_end(reader_at(src, at, number), g, name);
+    line_after(src, g, place(q), line_number(q))
+}
+
+// The word at a place, copied to the front of the room: how many bytes it has. So a name is read once, however many lines it is joined of.
+fn copy_word(src: &[u8], g: Signs, at: usize, room: &mut [u8]) -> usize
+    requires { ⌜ (at ≤ length (now src)) × (length (nameAt g (now src) at) ≤ length (now room)) ⌝ }
+    ensures { λ r. ⌜ Copies g (now (src .entry)) at (now (room .entry)) (now (room .exit)) r ⌝ }
+{
+    let mut q = Spot {
+        at: at,
+        mode: 0,
+        fresh: true,
+    };
+    let mut i = 0;
+    loop {
+        let s = word_byte(src, g, q);
+        match s {
+            WordStep::End => return i,
+            WordStep::Byte(b, r) => {
+                room[i] = b;
+                i += 1;
+                q = r;
+            }
+        }
+    }
+}
+
+// The rest of another category, with room for its name.
+fn skip_copied(
+    src: &[u8],
+    g: Signs,
+    at: usize,
+    number: usize,
+    category: usize,
+    room: &mut [u8],
+) -> Skip
+    requires { ⌜ Begins (now src) at number × Named g (now src) category × (32 ≤ length (now room)) ⌝ }
+    ensures { λ r. ⌜ CategoryIs g (now (src .entry)) at number (nameAt g (now (src .entry)) category) r ⌝ }
+{
+    let n = copy_word(src, g, category, room);
+    skip_named(src, g, at, number, &room[..n])
+}
+
+// The rest of another category, whose name stands at `category`: the line after its END line.
+pub fn skip_category(src: &[u8], g: Signs, at: usize, number: usize, category: usize) -> Skip
+    requires { ⌜ Begins (now src) at number × Named g (now src) category ⌝ }
+    ensures { λ r. ⌜ CategoryIs g (now (src .entry)) at number (nameAt g (now (src .entry)) category) r ⌝ }
+{
+    let mut room = [0u8; 32];
+    skip_copied(src, g, at, number, category, &mut room)
+}

@@ -1,0 +1,115 @@
+-- Cutting a string: an element more each time, and all of them where the string ends.
+use mathlib.Core.Path.{_≡_, refl, sym, ap, _∙_}
+use mathlib.Core.Bool.{true}
+use mathlib.Core.List.{List, _∷_, append-nil}
+use Prim.Native.Nat.{ℕ, _+_, _-_, _≤_, _<_}
+use native.Mathlib.Numerals.{add-one}
+use native.Mathlib.Omega.{arith}
+use mir.Syntax.{w32}
+use mir.Val.{Fits}
+use lib.ListN.{length, take, drop, set, length-drop, drop-of-length-le}
+use lib.Seq.{drop-drop, take-suc-set, append-snoc}
+use lib.Dec.{leb}
+use Rattle.base_lists.proofs.Bools.{and-right}
+use Rattle.rules.specs.Meaning.{Item}
+use Rattle.rules.specs.Text.{every}
+use Rattle.rules.specs.Names.{isCharacter}
+use Rattle.rules.specs.Table.{accepted, meaningIn}
+use Rattle.rules.specs.Order.{goodString, Step, stepOf, elements}
+use Rattle.rules.proofs.KeyLaws.{goodString-length}
+use Rattle.rules.proofs.ElementLaws.{UpTo, step-size, step-place, elements-step}
+use Rattle.table_layout.specs.Parts.{Within}
+use Rattle.table_layout.proofs.PartLaws.{table-good}
+use Rattle.order_find.specs.Answer.{foundAs}
+use Rattle.order_find.specs.declared.Found.{Found}
+use Rattle.order_elements.specs.Cuts.{Ready, Cut, CutOne, Split}
+
+-- ## What is ready
+
+pub good-characters : (s : List ℕ) → goodString s ≡ true → every isCharacter s ≡ true
+unfolding goodString
+good-characters s g = and-right (leb (length s) 4096) (every isCharacter s) g
+
+-- a string that is not refused, and an area with a number for each of its characters
+pub good-ready : {t s : List ℕ} (places : List ℕ) → accepted t ≡ true → goodString s ≡ true → length s ≤ length places → Ready t s places
+good-ready {s = s} places h g k = record { checked = h; characters = good-characters s g; short = goodString-length s g; room = k }
+
+-- an area that keeps its length still has room
+pub ready-kept : {t s places : List ℕ} (after : List ℕ) → Ready t s places → length after ≡ length places → Ready t s after
+ready-kept after r e = record { checked = r .checked; characters = r .characters; short = r .short; room = omega (arith, r .room) }
+
+-- ## One element
+
+module _ {t s places : List ℕ} {at : ℕ} {f : Found} (r : Ready t s places) (h : at < length s)
+    (e : foundAs f ≡ stepOf (meaningIn t .items) (drop at s)) where
+  some-left : 0 < length (drop at s)
+  some-left = rw (length-drop at s) (omega arith)
+
+  -- its place is that of an item
+  found-place : UpTo (length (meaningIn t .items)) (f .place)
+  found-place =
+      let p : f .place ≡ stepOf (meaningIn t .items) (drop at s) .place = ap (λ (x : Step). x .place) e in
+      rw p (step-place (meaningIn t .items) (drop at s) some-left (table-good t (r .checked) .undefined))
+
+  pub found-within : Within t (f .place) 0
+  found-within = record {
+    checked = r .checked;
+    from-one = found-place .least;
+    in-items = found-place .most;
+    in-levels = omega (arith, table-good t (r .checked) .some-level);
+  }
+
+  pub found-fits : Fits w32 (f .place)
+  found-fits = record { fits = omega (arith, found-place .most, table-good t (r .checked) .few-items) }
+
+  -- it takes some of the characters that are left
+  found-size : UpTo (length s - at) (f .size)
+  found-size =
+      let p : f .size ≡ stepOf (meaningIn t .items) (drop at s) .size = ap (λ (x : Step). x .size) e in
+      rw (p, ← length-drop at s) (step-size (meaningIn t .items) (drop at s) some-left)
+
+  -- it is the first of the elements that are left
+  pub found-first : elements (meaningIn t .items) 0 (drop at s) ≡ f .place ∷ elements (meaningIn t .items) 0 (drop (at + f .size) s)
+  found-first =
+      let p : f .place ≡ stepOf (meaningIn t .items) (drop at s) .place = ap (λ (x : Step). x .place) e in
+      let q : f .size ≡ stepOf (meaningIn t .items) (drop at s) .size = ap (λ (x : Step). x .size) e in
+      elements-step (meaningIn t .items) (drop at s) some-left ∙ rw (← p, ← q, drop-drop (f .size) at s)
+
+  pub cut-more : {many : ℕ} → Cut t s places at many → CutOne t s (set places many (f .place)) at many f
+  cut-more {many} v =
+      let is : List Item = meaningIn t .items in
+      let rest : List ℕ = elements is 0 (drop (at + f .size) s) in
+      let k : many < length places = omega (arith, v .fewer, r .room) in
+      record {
+        is = e;
+        some = found-size .least;
+        cut = record {
+          to = omega (arith, found-size .most);
+          fewer = omega (arith, v .fewer, found-size .least);
+          same =
+              rw (add-one many, take-suc-set places many (f .place) k, append-snoc (take many places) (f .place) rest, ← found-first) (v .same);
+        };
+      }
+
+-- ## All elements
+
+-- some elements are cut, in an area that keeps its length
+pub record Cutting (t s before places : List ℕ) (at many : ℕ) : Type 0 where
+  pub ready : Ready t s places
+  pub cut : Cut t s places at many
+  pub kept : length places ≡ length before
+
+pub cutting-none : (t s places : List ℕ) → Ready t s places → Cutting t s places places 0 0
+cutting-none t s places r = record { ready = r; cut = record { to = omega arith; fewer = omega arith; same = refl }; kept = refl }
+
+pub cutting-more : {t s before places after : List ℕ} {at many : ℕ} {f : Found} → Cutting t s before places at many
+    → length after ≡ length places → CutOne t s after at many f → Cutting t s before after (at + f .size) (many + 1)
+cutting-more {after = after} v e w = record { ready = ready-kept after (v .ready) e; cut = w .cut; kept = e ∙ v .kept }
+
+-- where the string ends, all are cut
+pub cut-all : {t s before places : List ℕ} {at many : ℕ} → Cutting t s before places at many → length s ≤ at → Split t s places many
+unfolding elements
+cut-all {s = s} {places = places} {many = many} v h = record {
+  is = sym (append-nil (take many places)) ∙ (rw (drop-of-length-le s h) at (v .cut .same));
+  inside = omega (arith, v .cut .fewer, v .cut .to, v .ready .room);
+}

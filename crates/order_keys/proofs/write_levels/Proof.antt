@@ -1,0 +1,55 @@
+-- `order_keys::write_levels` meets its contract. The loop's invariant: the bytes of the levels from the present one on are still to be written. The measure is how many levels are left.
+use borrow.Author.Needs.{needs}
+use Prim.Native.Nat.{_-_}
+use Rattle.order_keys.proofs.LevelsLaws.{Levels, levels-none, level-at, level-room, levels-more, levels-all}
+use Rattle.order_keys.proofs.write_levels.Statement.{statement}
+use Rattle.order_keys.proofs.write_levels.Tie as tie
+
+abbrev Inv-loop : tie.InvT-loop
+Inv-loop t places room₀ many level₀ next₀ room level next = Levels t places room₀ room level next
+
+abbrev μ-loop : tie.MeasureT-loop
+μ-loop t places room₀ many level₀ next₀ room level next = many - level
+
+levels-requires : tie.Need-levels-requires Inv-loop μ-loop
+levels-requires c κs = search needs
+
+loop-holds : tie.Need-loop-holds Inv-loop μ-loop
+loop-holds c = search levels-none
+
+rule-of-requires : tie.Need-rule-of-requires Inv-loop μ-loop
+rule-of-requires c κs = search needs
+
+write-level-requires : tie.Need-write-level-requires Inv-loop μ-loop
+write-level-requires c κs = search (level-at, level-room)
+
+add-level : tie.Need-add-level Inv-loop μ-loop
+add-level c = search needs
+
+loop-less : tie.Need-loop-less Inv-loop μ-loop
+loop-less c = search needs
+
+loop-again : tie.Need-loop-again Inv-loop μ-loop
+loop-again c = search levels-more
+
+same-length : tie.Need-same-length Inv-loop μ-loop
+same-length c = search needs
+
+returns : tie.Need-returns Inv-loop μ-loop
+returns c = search levels-all
+
+pub write-levels-spec : {M : Type 1} → statement M
+write-levels-spec =
+    tie.close
+    (tie.spec
+    Inv-loop
+    μ-loop
+    levels-requires
+    loop-holds
+    rule-of-requires
+    write-level-requires
+    add-level
+    loop-less
+    loop-again
+    same-length
+    returns)

@@ -1,0 +1,167 @@
+-- Refusals of tokens (Rattle.rules.specs.Text, Names, Tokens): the lower of several, and that a malformed token gives 3 whatever else stands.
+use mathlib.Core.Path.{_≡_, refl, sym, ap, _∙_}
+use mathlib.Core.Logic.{_⊎_, inl, inr}
+use mathlib.Core.Bool.{Bool, true, false, not, _&&_, _||_}
+use mathlib.Core.List.{List, [], _∷_, _++_, map}
+use Prim.Native.Nat.{ℕ, _≤_, _<_, min}
+use native.Mathlib.Omega.{arith}
+use lib.ListN.{length}
+use lib.Dec.{eqb, leb, ltb}
+use borrow.Author.Tests.{eqb-true, eqb-false, ltb-true, ltb-false, ne-eqb, lt-ltb, le-ltb}
+use Rattle.base_lists.proofs.Bools.{by}
+use Rattle.rules.specs.Text.{every, _unless_, lower, lowest}
+use Rattle.rules.specs.Names.{isVisible, nameRefusal, namesRefusal}
+use Rattle.rules.specs.Tokens.{broken, quote, name, Token, token, tokensRefusal}
+use Rattle.base_lists.proofs.Lists.{All}
+
+-- ## The lower of two
+
+pub lower-none-left : (b : ℕ) → lower 0 b ≡ b
+unfolding lower
+lower-none-left b = refl
+
+pub lower-none-right : (a : ℕ) → lower a 0 ≡ a
+unfolding lower
+lower-none-right a = by (eqb a 0) (λ t. rw t (sym (eqb-true a 0 t))) (λ t. rw t)
+
+-- of two that are refusals it is the smaller
+lower-min : (a b : ℕ) → (a ≡ 0 → ⊥) → (b ≡ 0 → ⊥) → lower a b ≡ min a b
+unfolding lower
+lower-min a b h k =
+    by (ltb a b) (λ t. let l = ltb-true a b t in simp (ne-eqb a 0 h, ne-eqb b 0 k, t) (omega arith))
+    (λ t. let l = ltb-false a b t in simp (ne-eqb a 0 h, ne-eqb b 0 k, t) (omega arith))
+
+min-assoc : (a b c : ℕ) → min (min a b) c ≡ min a (min b c)
+min-assoc a b c = omega arith
+
+pub lower-assoc : (a b c : ℕ) → lower (lower a b) c ≡ lower a (lower b c)
+lower-assoc a b c =
+    by (eqb a 0) (λ t. rw (eqb-true a 0 t, lower-none-left b, lower-none-left (lower b c))) (λ t.
+    by (eqb b 0) (λ u. rw (eqb-true b 0 u, lower-none-right a, lower-none-left c)) (λ u.
+    by (eqb c 0) (λ w. rw (eqb-true c 0 w, lower-none-right b, lower-none-right (lower a b))) (λ w.
+    let h = eqb-false a 0 t in
+    let k = eqb-false b 0 u in
+    let l = eqb-false c 0 w in
+    let e = lower-min a b h k in
+    let f = lower-min b c k l in
+    lower-min (lower a b) c (λ z. omega arith) l
+    ∙ ap (λ (x : ℕ). min x c) e
+    ∙ min-assoc a b c
+    ∙ ap (λ (x : ℕ). min a x) (sym f)
+    ∙ sym (lower-min a (lower b c) h (λ z. omega arith)))))
+
+-- ## Refusals from 3 on
+
+-- none, or 3 and above
+abbrev pub Late : ℕ → Type 0
+Late r = (r ≡ 0) ⊎ (3 ≤ r)
+
+pub late-lower : (a b : ℕ) → Late a → Late b → Late (lower a b)
+unfolding lower
+late-lower a b h k =
+    by (eqb a 0) (λ t. rw t k) (λ t. by (eqb b 0) (λ u. rw (t, u) h) (λ u. by (ltb a b) (λ w. rw (t, u, w) h) (λ w. rw (t, u, w) k)))
+
+pub late-lowest : (rs : List ℕ) → All Late rs → Late (lowest rs)
+unfolding lowest
+late-lowest [] h = inl refl
+late-lowest (r ∷ rs) h = late-lower r (lowest rs) (h .0) (late-lowest rs (h .1))
+
+pub late-unless : (n : ℕ) (t : Bool) → 3 ≤ n → Late (n unless t)
+late-unless n true h = inl refl
+late-unless n false h = inr h
+
+late-name : (n : List ℕ) → Late (nameRefusal n)
+unfolding nameRefusal
+late-name n =
+    late-lower (3 unless (leb 1 (length n) && every isVisible n)) (7 unless leb (length n) 32)
+    (late-unless 3 (leb 1 (length n) && every isVisible n) (omega arith)) (late-unless 7 (leb (length n) 32) (omega arith))
+
+late-names : (ns : List (List ℕ)) → All Late (map nameRefusal ns)
+late-names [] = tt
+late-names (n ∷ ns) = (late-name n, late-names ns)
+
+pub late-tokens : (ts : List Token) → Late (tokensRefusal ts)
+unfolding tokensRefusal namesRefusal
+late-tokens [] = inl refl
+late-tokens (t ∷ ts) =
+    let whole = not (eqb (t .kind) broken || (eqb (t .kind) quote && eqb (length (t .names)) 0)) in
+    late-lowest ((3 unless whole) ∷ namesRefusal (t .names) ∷ tokensRefusal ts ∷ [])
+    (late-unless 3 whole (omega arith), (late-lowest (map nameRefusal (t .names)) (late-names (t .names)), (late-tokens ts, tt)))
+
+-- so 3 wins wherever it stands
+pub three-left : (r : ℕ) → Late r → lower 3 r ≡ 3
+unfolding lower
+three-left r (inl e) = rw e
+three-left r (inr h) = simp (ne-eqb r 0 (λ e. omega arith)) (by (ltb 3 r) (λ t. rw t) (λ t. rw t (let l = ltb-false 3 r t in omega arith)))
+
+pub three-right : (r : ℕ) → Late r → lower r 3 ≡ 3
+unfolding lower
+three-right r (inl e) = rw e
+three-right r (inr h) = simp (ne-eqb r 0 (λ e. omega arith)) (by (ltb r 3) (λ t. let l = ltb-true r 3 t in absurd (omega arith)) (λ t. rw t))
+
+-- ## Refusals of tokens
+
+-- a token's refusal and that of those after it
+pub tokensRefusal-cons : (t : Token) (ts : List Token) → tokensRefusal (t ∷ ts) ≡ lower (tokensRefusal (t ∷ [])) (tokensRefusal ts)
+unfolding tokensRefusal lowest
+tokensRefusal-cons t ts =
+    let a = 3 unless not (eqb (t .kind) broken || (eqb (t .kind) quote && eqb (length (t .names)) 0)) in
+    let b = namesRefusal (t .names) in
+    rw (lower-none-right (tokensRefusal ts), lower-none-right 0, lower-none-right b) (sym (lower-assoc a b (tokensRefusal ts)))
+
+-- a malformed token
+pub refusal-broken : (t : Token) (ts : List Token) → t .kind ≡ broken → tokensRefusal (t ∷ ts) ≡ 3
+unfolding tokensRefusal namesRefusal lowest
+refusal-broken t ts e =
+    rw e
+    (three-left (lower (namesRefusal (t .names)) (lower (tokensRefusal ts) 0))
+    (late-lower (namesRefusal (t .names)) (lower (tokensRefusal ts) 0) (late-lowest (map nameRefusal (t .names)) (late-names (t .names)))
+    (late-lower (tokensRefusal ts) 0 (late-tokens ts) (inl refl))))
+
+-- 3 is the lowest that tokens give
+pub three-first : (ts : List Token) → lower 3 (tokensRefusal ts) ≡ 3
+three-first ts = three-left (tokensRefusal ts) (late-tokens ts)
+
+-- a malformed token further on
+pub refusal-later : (t : Token) (ts : List Token) → tokensRefusal ts ≡ 3 → tokensRefusal (t ∷ ts) ≡ 3
+refusal-later t ts e = tokensRefusal-cons t ts ∙ rw e (three-right (tokensRefusal (t ∷ [])) (late-tokens (t ∷ [])))
+
+pub refusal-name : (n : List ℕ) → tokensRefusal (token name [] (n ∷ []) ∷ []) ≡ nameRefusal n
+unfolding tokensRefusal namesRefusal lowest
+refusal-name n = rw (lower-none-right 0, lower-none-right (nameRefusal n), lower-none-right (nameRefusal n)) (lower-none-left (nameRefusal n))
+
+-- quotes with no name in them are malformed
+pub refusal-empty : (ns : List (List ℕ)) → length ns ≡ 0 → tokensRefusal (token quote [] ns ∷ []) ≡ 3
+unfolding tokensRefusal namesRefusal lowest lower
+refusal-empty [] h = refl
+refusal-empty (n ∷ ns) h = absurd (omega arith)
+
+pub refusal-quote : (ns : List (List ℕ)) → (length ns ≡ 0 → ⊥) → tokensRefusal (token quote [] ns ∷ []) ≡ namesRefusal ns
+unfolding tokensRefusal lowest
+refusal-quote ns h = simp (ne-eqb (length ns) 0 h, lower-none-right) (lower-none-left (namesRefusal ns))
+
+-- one name more
+pub namesRefusal-snoc : (ns : List (List ℕ)) (n : List ℕ) → namesRefusal (ns ++ n ∷ []) ≡ lower (namesRefusal ns) (nameRefusal n)
+unfolding namesRefusal lowest
+namesRefusal-snoc [] n = lower-none-right (nameRefusal n) ∙ sym (lower-none-left (nameRefusal n))
+namesRefusal-snoc (m ∷ ns) n =
+    ap (λ (r : ℕ). lower (nameRefusal m) r) (namesRefusal-snoc ns n) ∙ sym (lower-assoc (nameRefusal m) (namesRefusal ns) (nameRefusal n))
+
+-- ## The lower of two, by its tests
+
+module _ {a b : ℕ} where
+  pub lower-first-none : a ≡ 0 → b ≡ lower a b
+  unfolding lower
+  lower-first-none e = rw e
+
+  pub lower-second-none : (a ≡ 0 → ⊥) → b ≡ 0 → a ≡ lower a b
+  unfolding lower
+  lower-second-none h e = rw e (simp (ne-eqb a 0 h))
+
+  pub lower-first : (a ≡ 0 → ⊥) → (b ≡ 0 → ⊥) → a < b → a ≡ lower a b
+  unfolding lower
+  lower-first h k l = simp (ne-eqb a 0 h, ne-eqb b 0 k, lt-ltb a b l)
+
+  pub lower-second : (a ≡ 0 → ⊥) → (b ≡ 0 → ⊥) → b ≤ a → b ≡ lower a b
+  unfolding lower
+  lower-second h k l = simp (ne-eqb a 0 h, ne-eqb b 0 k, le-ltb a b l)
