@@ -20,6 +20,7 @@ use charmap_entry::Parts;
 use charmap_entry::entry_at;
 use charmap_numbers::any_given;
 use charmap_numbers::give_range;
+use text_lines::OUTSIDE;
 use text_lines::Signs;
 use text_lines::Spot;
 use text_lines::Step;
@@ -277,7 +278,7 @@ pub fn plain_line(src: &[u8], g: Signs, at: usize) -> PlainLine
 {
     let p = Spot {
         at: at,
-        mode: 0,
+        mode: OUTSIDE,
         fresh: true,
     };
     let e = line_at(src, g, at);

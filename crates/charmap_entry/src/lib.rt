@@ -9,6 +9,8 @@ ghost use Rattle.base_lists.proofs.Runs.{run};
 ghost use Rattle.rules.specs.Lines.{outside};
 ghost use Rattle.text_names.specs.Named.{nameLeft};
 ghost use Rattle.charmap_entry.specs.Entered.{hexOf, TailIs, DigitsAre, EscapedIs, GapIs, NamedIs, DottedIs, HeadsAre, feedsIn, Whole, PartsAre, EntryIs};
+use text_lines::COMMENT;
+use text_lines::OUTSIDE;
 use text_lines::Signs;
 use text_lines::Spot;
 use text_lines::Step;
@@ -356,7 +358,7 @@ fn parts_of(src: &[u8], g: Signs, at: usize, h: Head, v: u8, i: usize) -> Parts
 {
     let y = Spot {
         at: i,
-        mode: 4,
+        mode: COMMENT,
         fresh: false,
     };
     let c = line_end(src, g, y);
@@ -384,7 +386,7 @@ pub fn entry_at(src: &[u8], g: Signs, at: usize) -> Entry
 {
     let p = Spot {
         at: at,
-        mode: 0,
+        mode: OUTSIDE,
         fresh: true,
     };
     let q = skip_gaps(src, g, p);

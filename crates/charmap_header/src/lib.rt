@@ -14,6 +14,7 @@ ghost use Rattle.charmap_header.specs.Head.{signsOf, HeadingIs, isOpenin
 use text_as_is::Found;
 use text_as_is::Keyword;
 use text_as_is::after_blanks;
+use text_lines::OUTSIDE;
 use text_lines::Signs;
 use text_lines::Spot;
 use text_lines::Step;
@@ -53,7 +54,7 @@ fn start_of(at: usize) -> Spot
 {
     Spot {
         at: at,
-        mode: 0,
+        mode: OUTSIDE,
         fresh: true,
     }
 }
@@ -167,7 +168,7 @@ fn byte_line(src: &[u8], h: Chars, at: usize, x: Spot, comment: bool) -> Heading
             let d = line_end(src, signs_of(h), x);
             let rest = Spot {
                 at: i + 1,
-                mode: 0,
+                mode: OUTSIDE,
                 fresh: false,
             };
             return set_line(src, h, at, comment, b, a.feeds - d.feeds, rest);

@@ -6,8 +6,10 @@ ghost use Rattle.locale_category.specs.Category.{firstSheet, strayRefusa
 use locale_chains::Read;
 use locale_chains::block;
 use locale_opening::refusal_with;
+use locale_sheet::BEFORE_ORDER;
 use locale_sheet::Block;
 use locale_sheet::Sheet;
+use text_lines::OUTSIDE;
 use text_lines::Signs;
 use text_lines::Spot;
 use text_lines::line_end;
@@ -25,7 +27,7 @@ fn first_sheet() -> Sheet
     ensures { λ r. ⌜ r ≡ firstSheet ⌝ }
 {
     Sheet {
-        phase: 3,
+        phase: BEFORE_ORDER,
         toggles: 0,
         rules: 0,
         levels: 0,
@@ -49,7 +51,7 @@ fn stray_refusal(src: &[u8], g: Signs, at: usize) -> u8
 {
     let p = Spot {
         at: at,
-        mode: 0,
+        mode: OUTSIDE,
         fresh: true,
     };
     let e = line_end(src, g, p);

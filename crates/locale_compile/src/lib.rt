@@ -21,6 +21,7 @@ use table_items::measure_lines;
 use table_whole::build_table;
 use table_whole::table_size;
 use text_lines::Signs;
+use work_order::PLACE_NUMBER;
 use work_order::give_ranks;
 use work_rows::told;
 use work_store::clear;
@@ -59,7 +60,7 @@ fn is_supplied(work: &[u32], len: usize) -> bool
     requires { ⌜ (len ≤ 1048576) × (len + 64 ≤ length (now work)) ⌝ }
     ensures { λ r. ⌜ r ≡ eqb (cell (now (work .entry)) (undefinedMark len) placeNumber) 0 ⌝ }
 {
-    let place = told(work, 16 * (len / 8 + 1), 2);
+    let place = told(work, 16 * (len / 8 + 1), PLACE_NUMBER);
     place == 0
 }
 

@@ -17,6 +17,9 @@ use locale_elements::element_line;
 use locale_levels::Levels;
 use locale_levels::levels_of;
 use locale_opening::refusal_with;
+use locale_sheet::AFTER_ORDER;
+use locale_sheet::BEFORE_ORDER;
+use locale_sheet::IN_ORDER;
 use locale_sheet::Sheet;
 use locale_sheet::Step;
 use locale_symbols::Symbol;
@@ -36,14 +39,14 @@ pub fn order_start_line(src: &[u8], g: Signs, sh: Sheet, at: usize, p: Spot, e: 
 {
     let order = sh.order;
     let block = sh.block;
-    if sh.phase == 3 { // once
+    if sh.phase == BEFORE_ORDER { // once
         let l = levels_of(src, g, p);
         match l {
             Levels::Refused(r) => return Step::Refused(refusal_with(e.text, r)),
             Levels::Some(n) => {
                 if e.text {
                     let next = Sheet {
-                        phase: 4,
+                        phase: IN_ORDER,
                         toggles: sh.toggles,
                         rules: p.at,
                         levels: n,
@@ -66,11 +69,11 @@ pub fn order_end_line(src: &[u8], g: Signs, sh: Sheet, at: usize, p: Spot, e: Li
 {
     let order = sh.order;
     let block = sh.block;
-    if sh.phase == 4 {
+    if sh.phase == IN_ORDER {
         if no_operand(src, g, p) {
             if e.text {
                 let next = Sheet {
-                    phase: 5,
+                    phase: AFTER_ORDER,
                     toggles: sh.toggles,
                     rules: sh.rules,
                     levels: sh.levels,
@@ -111,7 +114,7 @@ pub fn end_line(
     requires { ⌜ Opened g (now src) at p e "END" ⌝ }
     ensures { λ r. ⌜ StillAt g (now (src .entry)) sh at depth r ⌝ }
 {
-    if sh.phase == 5 {
+    if sh.phase == AFTER_ORDER {
         if depth == 0 {
             if collate_alone(src, g, p) {
                 if e.text {
@@ -130,10 +133,10 @@ pub fn end_line(
 fn may_declare(phase: u8) -> bool
     ensures { λ r. ⌜ r ≡ (eqb phase beforeOrder || eqb phase afterOrder) ⌝ }
 {
-    if phase == 3 {
+    if phase == BEFORE_ORDER {
         return true;
     }
-    if phase == 5 {
+    if phase == AFTER_ORDER {
         return true;
     }
     false

@@ -27,10 +27,12 @@ use text_operands::next_operand;
 use text_operands::none_left;
 use text_operands::operands_refusal;
 use text_tokens::Closing;
+use text_tokens::QUOTE;
 use text_tokens::end_of_name;
 use text_tokens::end_of_word;
 use text_tokens::lower_of;
 use text_tokens::word_is;
+use work_order::CHARS_NUMBER;
 use work_rows::tell;
 use work_store::Found;
 use work_store::declare;
@@ -58,7 +60,7 @@ fn quotes_alone(src: &[u8], g: Signs, x: Spot) -> Tail
         Operand::End => return Tail::Other,
         Operand::Broken => return Tail::Other,
         Operand::Token(_, t) => {
-            if t.kind == 6 {
+            if t.kind == QUOTE {
                 let s = t.inside;
                 let e = t.next;
                 if none_left(src, g, e, true) {
@@ -192,7 +194,7 @@ fn declare_both(src: &[u8], g: Signs, work: &mut [u32], v: usize, q: usize)
 {
     declare(src, g, work, v);
     declare(src, g, work, q);
-    tell(work, v, 0, q as u32);
+    tell(work, v, CHARS_NUMBER, q as u32);
 }
 
 // A line `collating-element <name> from "<U..><U..>"`, from the spot after its first word on.

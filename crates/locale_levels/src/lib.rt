@@ -22,7 +22,11 @@ use text_operands::after_first;
 use text_operands::next_operand;
 use text_operands::none_left;
 use text_operands::refusal_left;
+use text_tokens::COMMA;
+use text_tokens::QUOTE;
+use text_tokens::SEMI;
 use text_tokens::Tok;
+use text_tokens::WORD;
 use text_tokens::lower_of;
 use text_tokens::word_is;
 
@@ -51,10 +55,10 @@ fn symbol_at(src: &[u8], g: Signs, q: Spot, t: Tok) -> u8
     requires { ⌜ (q .at ≤ length (now src)) × TokenIs g (now src) q t ⌝ }
     ensures { λ r. ⌜ r ≡ symbolOf (tokenThere g (now (src .entry)) q) ⌝ }
 {
-    if t.kind == 2 {
+    if t.kind == COMMA {
         return 3;
     }
-    if t.kind != 4 {
+    if t.kind != WORD {
         return 0;
     }
     if word_is(src, g, q, b"forward") {
@@ -132,7 +136,7 @@ fn code_of(s: u8) -> u8
 fn well_placed(held: bool, kind: u8) -> bool
     ensures { λ r. ⌜ r ≡ (not (held && leb 3 kind) && not (eqb kind 6)) ⌝ }
 {
-    if kind == 6 {
+    if kind == QUOTE {
         return false;
     }
     if held {
@@ -153,7 +157,7 @@ fn rule_at(src: &[u8], g: Signs, p: Spot) -> RuleStep
         let o = next_operand(src, g, q, held);
         match o {
             Operand::Token(r, t) => {
-                if t.kind == 1 {
+                if t.kind == SEMI {
                     let next = t.next;
                     return RuleStep::More(code_of(s), next);
                 }

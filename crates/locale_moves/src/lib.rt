@@ -13,7 +13,9 @@ ghost use Rattle.work_subjects.specs.Keys.{subjectLeft};
 ghost use Rattle.locale_declarations.specs.Worded.{Opened, Still, Writes};
 ghost use Rattle.locale_moves.specs.Named.{Holding, LineOf, NamedIs, namedWith};
 use locale_opening::refusal_with;
+use locale_sheet::AFTER_ORDER;
 use locale_sheet::Block;
+use locale_sheet::IN_BLOCK;
 use locale_sheet::Sheet;
 use locale_sheet::Step;
 use locale_symbols::Head;
@@ -25,6 +27,7 @@ use text_operands::no_operand;
 use text_operands::none_left;
 use text_operands::operands_refusal;
 use text_tokens::lower_of;
+use work_order::PLACE_NUMBER;
 use work_rows::told;
 use work_store::Found;
 use work_store::find;
@@ -44,7 +47,7 @@ fn line_of(src: &[u8], g: Signs, work: &[u32], i: Spot) -> Found
     let f = find(src, g, work, 2 * i.at);
     match f {
         Found::At(v) => {
-            if told(work, v, 2) == 0 {
+            if told(work, v, PLACE_NUMBER) == 0 {
                 return Found::Nothing; // declared, with no order line
             }
             return Found::At(v);
@@ -92,10 +95,10 @@ fn named_line(src: &[u8], g: Signs, work: &[u32], p: Spot) -> Named
 fn may_open(phase: u8) -> bool
     ensures { λ r. ⌜ r ≡ (eqb phase afterOrder || eqb phase inBlock) ⌝ }
 {
-    if phase == 5 {
+    if phase == AFTER_ORDER {
         return true;
     }
-    if phase == 6 {
+    if phase == IN_BLOCK {
         return true;
     }
     false
@@ -128,7 +131,7 @@ pub fn reorder_after_line(
                         from: e.next,
                     };
                     let next = Sheet {
-                        phase: 6,
+                        phase: IN_BLOCK,
                         toggles: sh.toggles,
                         rules: sh.rules,
                         levels: sh.levels,
@@ -151,11 +154,11 @@ pub fn reorder_end_line(src: &[u8], g: Signs, sh: Sheet, at: usize, p: Spot, e: 
 {
     let order = sh.order;
     let block = sh.block;
-    if sh.phase == 6 {
+    if sh.phase == IN_BLOCK {
         if no_operand(src, g, p) {
             if e.text {
                 let next = Sheet {
-                    phase: 5,
+                    phase: AFTER_ORDER,
                     toggles: sh.toggles,
                     rules: sh.rules,
                     levels: sh.levels,

@@ -5,11 +5,14 @@ ghost use lib.ListN.{length};
 ghost use Rattle.rules.specs.Text.{_unless_, lower};
 ghost use Rattle.locale_opening.specs.Begun.{OpeningIs};
 use text_lines::LineEnd;
+use text_lines::OUTSIDE;
 use text_lines::Signs;
 use text_lines::Spot;
 use text_lines::line_end;
+use text_tokens::NAME;
 use text_tokens::Next;
 use text_tokens::Tok;
+use text_tokens::WORD;
 use text_tokens::lower_of;
 use text_tokens::next_token;
 use text_tokens::skip_gaps;
@@ -43,7 +46,7 @@ pub fn open_line(src: &[u8], g: Signs, at: usize) -> Opening
 {
     let p = Spot {
         at: at,
-        mode: 0,
+        mode: OUTSIDE,
         fresh: true,
     };
     let e = line_end(src, g, p);
@@ -53,10 +56,10 @@ pub fn open_line(src: &[u8], g: Signs, at: usize) -> Opening
         Next::End => return Opening::Blank(e),
         Next::Broken => return Opening::Foul(e),
         Next::Token(t) => {
-            if t.kind == 4 {
+            if t.kind == WORD {
                 return Opening::Word(q, t, e);
             }
-            if t.kind == 5 {
+            if t.kind == NAME {
                 return Opening::Name(q, t, e);
             }
             return Opening::Foul(e);

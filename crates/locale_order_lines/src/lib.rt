@@ -23,6 +23,8 @@ ghost use Rattle.locale_order_lines.specs.Lines.{Reads};
 use base_units::is_character;
 use locale_opening::refusal_with;
 use locale_sheet::Block;
+use locale_sheet::IN_BLOCK;
+use locale_sheet::IN_ORDER;
 use locale_sheet::Sheet;
 use locale_sheet::Step;
 use locale_standing::weights_refusal;
@@ -34,7 +36,9 @@ use text_names::name_char;
 use text_operands::no_operand;
 use text_tokens::Tok;
 use text_tokens::lower_of;
+use work_order::CHARS_NUMBER;
 use work_order::Order;
+use work_order::PLACE_NUMBER;
 use work_order::add_line;
 use work_order::put_after;
 use work_order::take_out;
@@ -57,7 +61,7 @@ fn is_bare(work: &[u32], f: Found) -> bool
 {
     match f {
         Found::At(v) => {
-            if told(work, v, 0) == 0 {
+            if told(work, v, CHARS_NUMBER) == 0 {
                 return true;
             }
             return false;
@@ -73,7 +77,7 @@ fn is_listed(work: &[u32], f: Found) -> bool
 {
     match f {
         Found::At(v) => {
-            if told(work, v, 2) == 0 {
+            if told(work, v, PLACE_NUMBER) == 0 {
                 return false;
             }
             return true;
@@ -92,7 +96,7 @@ fn is_own(work: &[u32], b: Block, f: Found) -> bool
             if v == b.named {
                 return true;
             }
-            let place = told(work, v, 2) as usize;
+            let place = told(work, v, PLACE_NUMBER) as usize;
             if b.from <= place {
                 return true;
             }
@@ -107,7 +111,7 @@ fn is_again(work: &[u32], sh: Sheet, f: Found) -> bool
     requires { ⌜ Rowed (now work) f ⌝ }
     ensures { λ r. ⌜ r ≡ isAgain (now (work .entry)) sh f ⌝ }
 {
-    if sh.phase == 6 {
+    if sh.phase == IN_BLOCK {
         let b = sh.block;
         return is_own(work, b, f);
     }
@@ -155,10 +159,10 @@ fn name_facts(src: &[u8], g: Signs, work: &[u32], p: Spot, f: Found, c: Code) ->
 fn takes_lines(phase: u8) -> bool
     ensures { λ r. ⌜ r ≡ (eqb phase inOrder || eqb phase inBlock) ⌝ }
 {
-    if phase == 4 {
+    if phase == IN_ORDER {
         return true;
     }
-    phase == 6
+    phase == IN_BLOCK
 }
 
 // Whether a line stands in the order or in a block, and has no operands if it is that of a symbol.
@@ -314,7 +318,7 @@ fn list_line(work: &mut [u32], sh: Sheet, m: usize, number: usize, place: usize,
     requires { ⌜ Ready (now work) sh m number place ⌝ }
     ensures { λ r. ⌜ Lists (now (work .entry)) sh m number place e (now (work .exit)) r ⌝ }
 {
-    if sh.phase == 6 {
+    if sh.phase == IN_BLOCK {
         let moved = is_listed(work, Found::At(m));
         if moved {
             return list_moved(work, sh, m, number, place, e);

@@ -12,6 +12,7 @@ ghost use Rattle.locale_outside.specs.Outside.{isCategory, capitalsIn, R
 use text_as_is::Sign;
 use text_as_is::sign_line;
 use text_lines::LineEnd;
+use text_lines::OUTSIDE;
 use text_lines::Signs;
 use text_lines::Spot;
 use text_lines::Step;
@@ -168,7 +169,7 @@ fn plain_line(src: &[u8], h: Chars, collated: bool, at: usize) -> Outer
     };
     let p = Spot {
         at: at,
-        mode: 0,
+        mode: OUTSIDE,
         fresh: true,
     };
     let e = line_end(src, g, p);

@@ -1,6 +1,18 @@
 // What is known between two lines in LC_COLLATE beside the work area, and what a line may do to it.
 use work_order::Order;
 
+// LC_COLLATE before its order.
+pub const BEFORE_ORDER: u8 = 3;
+
+// In the order.
+pub const IN_ORDER: u8 = 4;
+
+// After the order.
+pub const AFTER_ORDER: u8 = 5;
+
+// In a block of moved lines.
+pub const IN_BLOCK: u8 = 6;
+
 // The open block: the mark of its named line, the mark of the line after which the next one comes to stand, and the place from which on its own lines are
 // written. Outside a block the three say nothing.
 pub struct Block {
@@ -9,7 +21,7 @@ pub struct Block {
     pub from: usize,
 }
 
-// Where the next line stands (3 before, 4 in, 5 after the order, 6 in a block; 1 after END LC_COLLATE); how many toggles are named; the place after the
+// Where the next line stands (one of the phases above; 1 after END LC_COLLATE); how many toggles are named; the place after the
 // word order_start, and how many levels there are; the order lines; the open block.
 pub struct Sheet {
     pub phase: u8,

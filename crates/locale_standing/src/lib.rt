@@ -27,7 +27,10 @@ use text_operands::After;
 use text_operands::after_first;
 use text_operands::none_left;
 use text_tokens::Closing;
+use text_tokens::NAME;
+use text_tokens::QUOTE;
 use text_tokens::Tok;
+use text_tokens::WORD;
 use text_tokens::end_of_name;
 use text_tokens::lower_of;
 use text_tokens::word_is;
@@ -101,10 +104,10 @@ pub fn names_stand(src: &[u8], g: Signs, work: &[u32], t: Tok) -> bool
     ensures { λ r. ⌜ AllStand g (now (src .entry)) (now (work .entry)) (namesOf g (now (src .entry)) t) r ⌝ }
 {
     let p = t.inside;
-    if t.kind == 5 {
+    if t.kind == NAME {
         return stands_at(src, g, work, p);
     }
-    if t.kind == 6 {
+    if t.kind == QUOTE {
         return quoted_stand(src, g, work, p);
     }
     true
@@ -116,7 +119,7 @@ pub fn weight_refusal(src: &[u8], g: Signs, work: &[u32], q: Spot, t: Tok) -> u8
     requires { ⌜ Sound (keyAt g (now src)) (length (now src)) (now work) ⌝ }
     ensures { λ r. ⌜ WeightRefused g (now (src .entry)) (now (work .entry)) (tokenThere g (now (src .entry)) q) r ⌝ }
 {
-    if t.kind == 4 {
+    if t.kind == WORD {
         if word_is(src, g, q, b"IGNORE") {
             return 0;
         }

@@ -21,6 +21,7 @@ use text_operands::after_first;
 use text_operands::next_operand;
 use text_operands::none_left;
 use text_operands::operands_refusal;
+use text_tokens::NAME;
 use text_tokens::lower_of;
 use work_store::Found;
 use work_store::declare;
@@ -48,7 +49,7 @@ fn name_next(src: &[u8], g: Signs, x: Spot) -> Head
         Operand::End => return Head::Other,
         Operand::Broken => return Head::Other,
         Operand::Token(_, t) => {
-            if t.kind == 5 {
+            if t.kind == NAME {
                 let i = t.inside;
                 let e = t.next;
                 return Head::Name(i, e);

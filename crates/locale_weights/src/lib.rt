@@ -4,11 +4,14 @@ ghost use Prim.Native.Nat.{_≤_};
 ghost use lib.ListN.{length};
 ghost use Rattle.rules.specs.Lines.{outside};
 ghost use Rattle.locale_weights.specs.Weights.{TailIs, WeightIs};
+use text_lines::IN_NAME;
+use text_lines::OUTSIDE;
 use text_lines::Signs;
 use text_lines::Spot;
 use text_operands::Operand;
 use text_operands::next_operand;
 use text_tokens::Closing;
+use text_tokens::SEMI;
 use text_tokens::Tok;
 use text_tokens::end_of_name;
 use text_tokens::named;
@@ -40,7 +43,7 @@ fn after_token(src: &[u8], g: Signs, p: Spot, glued: bool) -> Tail
         Operand::Broken => return Tail::Bad,
         Operand::Token(_, t) => {
             let e = t.next;
-            if t.kind == 1 {
+            if t.kind == SEMI {
                 return Tail::More(e);
             }
             return Tail::Bad;
@@ -58,7 +61,7 @@ pub fn next_weight(src: &[u8], g: Signs, p: Spot) -> Weight
     if plain_at(src, g, at) == 60 {
         let q = Spot {
             at: at + 1,
-            mode: 1,
+            mode: IN_NAME,
             fresh: false,
         };
         let c = end_of_name(src, g, q);
@@ -78,7 +81,7 @@ pub fn next_weight(src: &[u8], g: Signs, p: Spot) -> Weight
                             true,
                             Spot {
                                 at: e + 1,
-                                mode: 0,
+                                mode: OUTSIDE,
                                 fresh: false,
                             },
                         );
@@ -102,7 +105,7 @@ fn any_weight(src: &[u8], g: Signs, p: Spot) -> Weight
         Operand::Broken => return Weight::Bad,
         Operand::Token(q, t) => {
             let e = t.next;
-            if t.kind == 1 {
+            if t.kind == SEMI {
                 return Weight::Empty(true, e);
             }
             let u = after_token(src, g, e, t.kind >= 3);

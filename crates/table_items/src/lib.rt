@@ -12,6 +12,9 @@ ghost use Rattle.table_items.specs.Filling.{Fillable, Filled};
 use table_records::write_item;
 use table_weights::measure_item;
 use text_lines::Signs;
+use work_order::CHARS_NUMBER;
+use work_order::LINE_NUMBER;
+use work_order::NEXT_NUMBER;
 use work_order::Order;
 use work_rows::told;
 
@@ -36,7 +39,7 @@ pub fn is_item(src: &[u8], work: &[u32], mark: usize) -> bool
     if mark >= 16 * (src.len() / 8 + 1) {
         return true;
     }
-    if told(work, mark, 0) == 0 {
+    if told(work, mark, CHARS_NUMBER) == 0 {
         return false; // a symbol's
     }
     true
@@ -75,7 +78,7 @@ fn least_line(work: &[u32], mark: usize, ranked: bool, line: usize) -> usize
     if ranked {
         return line;
     }
-    lower_line(line, wide(told(work, mark, 1)))
+    lower_line(line, wide(told(work, mark, LINE_NUMBER)))
 }
 
 // The items and weights of all order lines, once each has its rank. The lines stand in the order of their ranks, so all are passed to find the
@@ -98,7 +101,7 @@ pub fn measure_lines(src: &[u8], g: Signs, work: &[u32], o: Order, levels: usize
             items += 1;
             weights += m.weights;
         }
-        v = wide(told(work, v, 3));
+        v = wide(told(work, v, NEXT_NUMBER));
         left -= 1;
     }
     if whole {
@@ -134,7 +137,7 @@ pub fn write_items(
             slot += levels;
             place += 4;
         }
-        v = wide(told(work, v, 3));
+        v = wide(told(work, v, NEXT_NUMBER));
         left -= 1;
     }
 }

@@ -18,8 +18,12 @@ use table_weights::first_part;
 use table_weights::next_part;
 use table_weights::next_rank;
 use table_weights::rank_at;
+use text_lines::QUOTED;
 use text_lines::Signs;
 use text_lines::Spot;
+use work_order::CHARS_NUMBER;
+use work_order::PLACE_NUMBER;
+use work_order::RANK_NUMBER;
 use work_rows::told;
 use work_subjects::NextChar;
 use work_subjects::next_char;
@@ -221,7 +225,7 @@ pub fn write_chars(src: &[u8], g: Signs, work: &[u32], mark: usize, area: &mut [
         put_four(area, at, none, none, none, none);
         return;
     }
-    let x = told(work, mark, 0);
+    let x = told(work, mark, CHARS_NUMBER);
     if x % 2 == 0 {
         let c = code_told(x);
         put_four(area, at, c, none, none, none);
@@ -229,7 +233,7 @@ pub fn write_chars(src: &[u8], g: Signs, work: &[u32], mark: usize, area: &mut [
     }
     let p = Spot {
         at: wide(x) / 2,
-        mode: 2,
+        mode: QUOTED,
         fresh: false,
     };
     write_quoted(src, g, p, area, at);
@@ -254,8 +258,8 @@ pub fn write_item(
     requires { ⌜ ItemRoom g (now src) (now work) mark levels (now area) slots from base at ⌝ }
     ensures { λ r. ⌜ ItemPut g (now (src .entry)) (now (work .entry)) mark levels (now (area .entry)) slots from base at (now (area .exit)) r ⌝ }
 {
-    let place = wide(told(work, mark, 2));
-    let own = Rank(told(work, mark, 4));
+    let place = wide(told(work, mark, PLACE_NUMBER));
+    let own = Rank(told(work, mark, RANK_NUMBER));
     write_chars(src, g, work, mark, area, from);
     write_line(src, g, work, place, levels, own, area, slots, base, at)
 }

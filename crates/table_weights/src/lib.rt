@@ -12,13 +12,18 @@ ghost use Rattle.table_weights.specs.Reading.{NextIs, InQuotes, Measures
 use base_units::Rank;
 use locale_weights::Weight;
 use locale_weights::next_weight;
+use text_lines::OUTSIDE;
 use text_lines::Signs;
 use text_lines::Spot;
 use text_names::Named;
 use text_names::next_name;
 use text_operands::After;
 use text_operands::after_first;
+use text_tokens::NAME;
+use text_tokens::QUOTE;
 use text_tokens::Tok;
+use work_order::PLACE_NUMBER;
+use work_order::RANK_NUMBER;
 use work_rows::told;
 use work_store::Found;
 use work_store::find;
@@ -65,7 +70,7 @@ pub fn rank_at(src: &[u8], g: Signs, work: &[u32], p: Spot) -> Rank
 {
     let f = find(src, g, work, 2 * p.at);
     match f {
-        Found::At(v) => return Rank(told(work, v, 4)),
+        Found::At(v) => return Rank(told(work, v, RANK_NUMBER)),
         Found::Nothing => return Rank(0),
     }
 }
@@ -129,10 +134,10 @@ fn part_of(t: Tok) -> Part
     ensures { λ r. ⌜ r ≡ partOf t ⌝ }
 {
     let inside = t.inside;
-    if t.kind == 5 {
+    if t.kind == NAME {
         return Part::One(inside);
     }
-    if t.kind == 6 {
+    if t.kind == QUOTE {
         return Part::Quotes(inside);
     }
     Part::None
@@ -188,7 +193,7 @@ pub fn first_part(src: &[u8], g: Signs, place: usize) -> Cursor
 {
     let p = Spot {
         at: place,
-        mode: 0,
+        mode: OUTSIDE,
         fresh: false,
     };
     let a = after_first(src, g, p);
@@ -281,7 +286,7 @@ pub fn measure_item(src: &[u8], g: Signs, work: &[u32], mark: usize, levels: usi
     requires { ⌜ Sound (keyAt g (now src)) (length (now src)) (now work) ⌝ }
     ensures { λ r. ⌜ MeasuresItem g (now (src .entry)) (now (work .entry)) mark levels r ⌝ }
 {
-    let place = wide(told(work, mark, 2));
-    let own = Rank(told(work, mark, 4));
+    let place = wide(told(work, mark, PLACE_NUMBER));
+    let own = Rank(told(work, mark, RANK_NUMBER));
     measure_line(src, g, work, place, levels, own)
 }

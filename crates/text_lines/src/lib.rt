@@ -10,14 +10,28 @@ ghost use Rattle.rules.specs.Lines.{after};
 ghost use Rattle.text_lines.specs.Stream.{ItemIs, EscapeAt, StepIs, LineIs};
 ghost use Rattle.text_lines.specs.Stretches.{FeedIs, NoFeed, Ordinary, Stretch, Block, DullTo};
 
+// Plain: outside names, quotes and comments.
+pub const OUTSIDE: u8 = 0;
+
+// In a name.
+pub const IN_NAME: u8 = 1;
+
+// In quotes.
+pub const QUOTED: u8 = 2;
+
+// In a name in quotes.
+pub const QUOTED_NAME: u8 = 3;
+
+// In a comment.
+pub const COMMENT: u8 = 4;
+
 // The comment and the escape character in force.
 pub struct Signs {
     pub comment: u8,
     pub escape: u8,
 }
 
-// A place in the middle of a line: between two marks, in a mode (0 plain, 1 in a name, 2 in quotes, 3 in a name in quotes, 4 in a comment),
-// at the line's first byte or after a blank.
+// A place in the middle of a line: between two marks, in one of the modes above, at the line's first byte or after a blank.
 pub struct Spot {
     pub at: usize,
     pub mode: u8,
@@ -58,7 +72,7 @@ pub fn is_blank(b: u8) -> bool
 pub fn mode_after(mode: u8, b: u8) -> u8
     ensures { λ r. ⌜ r ≡ after mode b ⌝ }
 {
-    if mode == 0 {
+    if mode == OUTSIDE {
         if b == 60 {
             return 1;
         }
@@ -67,13 +81,13 @@ pub fn mode_after(mode: u8, b: u8) -> u8
         }
         return 0;
     }
-    if mode == 1 {
+    if mode == IN_NAME {
         if b == 62 {
             return 0;
         }
         return 1;
     }
-    if mode == 2 {
+    if mode == QUOTED {
         if b == 60 {
             return 3;
         }
@@ -82,7 +96,7 @@ pub fn mode_after(mode: u8, b: u8) -> u8
         }
         return 2;
     }
-    if mode == 3 {
+    if mode == QUOTED_NAME {
         if b == 62 {
             return 2;
         }
@@ -95,7 +109,7 @@ pub fn mode_after(mode: u8, b: u8) -> u8
 fn opens(mode: u8, fresh: bool, b: u8, comment: u8) -> bool
     ensures { λ r. ⌜ r ≡ (eqb mode 0 && fresh && eqb b comment) ⌝ }
 {
-    if mode == 0 {
+    if mode == OUTSIDE {
         if fresh {
             return b == comment;
         }
@@ -149,12 +163,12 @@ fn escaped(src: &[u8], g: Signs, p: Spot) -> Item
         });
     }
     let m = wide(b);
-    if mode == 0 {
+    if mode == OUTSIDE {
         return Item::Mark(
             512 + m,
             Spot {
                 at: at + 2,
-                mode: 0,
+                mode: OUTSIDE,
                 fresh: false,
             },
         );
@@ -184,10 +198,10 @@ pub fn next_item(src: &[u8], g: Signs, p: Spot) -> Item
     if b == 10 {
         return Item::End(at + 1, 1);
     }
-    if mode == 4 {
+    if mode == COMMENT {
         return Item::Hidden(Spot {
             at: at + 1,
-            mode: 4,
+            mode: COMMENT,
             fresh: fresh,
         });
     }
@@ -199,7 +213,7 @@ pub fn next_item(src: &[u8], g: Signs, p: Spot) -> Item
     if opens(mode, fresh, b, c) {
         return Item::Hidden(Spot {
             at: at + 1,
-            mode: 4,
+            mode: COMMENT,
             fresh: fresh,
         });
     }
@@ -329,7 +343,7 @@ fn dull_to(src: &[u8], escape: u8, at: usize, mode: u8, fresh: bool) -> usize
     requires { ⌜ at ≤ length (now src) ⌝ }
     ensures { λ r. ⌜ DullTo escape (now (src .entry)) at mode fresh r ⌝ }
 {
-    if mode == 4 {
+    if mode == COMMENT {
         return feed_from(src, at);
     }
     if fresh {

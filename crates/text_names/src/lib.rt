@@ -9,6 +9,8 @@ ghost use Rattle.text_names.specs.Named.{nameLeft, hexOf, MadeIs, Digits
 ghost use Rattle.text_names.specs.Shape.{standsIn, standsAt, isApart, shortOf, shapeOf};
 ghost use Rattle.text_names.specs.Packed.{PackedIs, Begun, PutIs, PackedOn};
 use base_units::CodePoint;
+use text_lines::IN_NAME;
+use text_lines::QUOTED_NAME;
 use text_lines::Signs;
 use text_lines::Spot;
 use text_lines::Step;
@@ -66,7 +68,7 @@ pub fn name_is(src: &[u8], g: Signs, p: Spot, w: &[u8]) -> bool
 fn is_inside(mode: u8) -> bool
     ensures { λ r. ⌜ r ≡ isInside mode ⌝ }
 {
-    mode == 1 || mode == 3
+    mode == IN_NAME || mode == QUOTED_NAME
 }
 
 // Whether a byte of a name is meant as it stands: it is visible, and no escape.

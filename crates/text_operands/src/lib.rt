@@ -13,8 +13,10 @@ use text_lines::Signs;
 use text_lines::Spot;
 use text_lines::Step;
 use text_lines::next_mark;
+use text_tokens::BROKEN;
 use text_tokens::Next;
 use text_tokens::Tok;
+use text_tokens::WORD;
 use text_tokens::lower_of;
 use text_tokens::next_token;
 use text_tokens::plain_at;
@@ -84,7 +86,7 @@ pub fn next_operand(src: &[u8], g: Signs, p: Spot, glued: bool) -> Operand
         Next::End => return Operand::End,
         Next::Broken => return Operand::Broken,
         Next::Token(t) => {
-            if t.kind == 3 {
+            if t.kind == BROKEN {
                 return Operand::Broken;
             }
             if t.kind < 3 {
@@ -197,7 +199,7 @@ fn word_left(src: &[u8], g: Signs, p: Spot) -> One
     let o = next_operand(src, g, p, false);
     match o {
         Operand::Token(q, t) => {
-            if t.kind == 4 {
+            if t.kind == WORD {
                 if none_left(src, g, t.next, true) {
                     return One::Word(q);
                 }

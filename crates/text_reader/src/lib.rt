@@ -6,6 +6,7 @@ ghost use lib.ListN.{length};
 ghost use lib.Dec.{leb};
 ghost use Rattle.text_lines.specs.Stream.{lineStart, LineIs};
 use text_lines::LineEnd;
+use text_lines::OUTSIDE;
 use text_lines::Signs;
 use text_lines::Spot;
 use text_lines::line_end;
@@ -31,7 +32,7 @@ fn line_from(src: &[u8], g: Signs, at: usize) -> LineEnd
 {
     let p = Spot {
         at: at,
-        mode: 0,
+        mode: OUTSIDE,
         fresh: true,
     };
     line_end(src, g, p)

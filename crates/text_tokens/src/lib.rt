@@ -10,10 +10,33 @@ ghost use Rattle.rules.specs.Tokens.{inWord};
 ghost use Rattle.rules.specs.Lines.{outside, quoted};
 ghost use Rattle.text_lines.specs.Stream.{marksLeft};
 ghost use Rattle.text_tokens.specs.Left.{wordIn, isInside, isPlain, PlainTo, PlainAt, WordStepIs, WordEnds, NameStepIs, ClosingAfter, ClosingIs, QuotesIs, bareAt, namedAt, NextIs, Skips};
+use text_lines::IN_NAME;
+use text_lines::OUTSIDE;
 use text_lines::Signs;
 use text_lines::Spot;
 use text_lines::Step;
 use text_lines::next_mark;
+
+// A token of blanks.
+pub const GAP: u8 = 0;
+
+// `;`.
+pub const SEMI: u8 = 1;
+
+// `,`.
+pub const COMMA: u8 = 2;
+
+// What is malformed.
+pub const BROKEN: u8 = 3;
+
+// A word.
+pub const WORD: u8 = 4;
+
+// A name.
+pub const NAME: u8 = 5;
+
+// Quotes.
+pub const QUOTE: u8 = 6;
 
 // The next byte of a word, with the spot after it.
 pub enum WordStep {
@@ -345,7 +368,7 @@ pub fn named(refusal: u8, inside: Spot, next: Spot) -> Tok
     ensures { λ r. ⌜ r ≡ namedAt refusal inside next ⌝ }
 {
     Tok {
-        kind: 5,
+        kind: NAME,
         next: next,
         inside: inside,
         names: 1,
@@ -384,7 +407,7 @@ pub fn next_token(src: &[u8], g: Signs, p: Spot) -> Next
     if b == 60 {
         let q = Spot {
             at: at + 1,
-            mode: 1,
+            mode: IN_NAME,
             fresh: false,
         };
         let c = end_of_name(src, g, q);
@@ -395,10 +418,10 @@ pub fn next_token(src: &[u8], g: Signs, p: Spot) -> Next
     }
     if b == 59 {
         return Next::Token(bare(
-            1,
+            SEMI,
             Spot {
                 at: at + 1,
-                mode: 0,
+                mode: OUTSIDE,
                 fresh: false,
             },
         ));
@@ -430,7 +453,7 @@ fn any_token(src: &[u8], g: Signs, p: Spot) -> Next
                             return Next::Broken;
                         }
                         return Next::Token(Tok {
-                            kind: 6,
+                            kind: QUOTE,
                             next: r,
                             inside: q,
                             names: n,
@@ -443,7 +466,7 @@ fn any_token(src: &[u8], g: Signs, p: Spot) -> Next
             }
             if m >= 256 {
                 return Next::Token(Tok {
-                    kind: 3,
+                    kind: BROKEN,
                     next: q,
                     inside: q,
                     names: 0,
@@ -452,18 +475,18 @@ fn any_token(src: &[u8], g: Signs, p: Spot) -> Next
                 });
             }
             if m == 59 {
-                return Next::Token(bare(1, q));
+                return Next::Token(bare(SEMI, q));
             }
             if m == 44 {
-                return Next::Token(bare(2, q));
+                return Next::Token(bare(COMMA, q));
             }
             if m == 32 {
-                return Next::Token(bare(0, q));
+                return Next::Token(bare(GAP, q));
             }
             if m == 9 {
-                return Next::Token(bare(0, q));
+                return Next::Token(bare(GAP, q));
             }
-            return Next::Token(bare(4, end_of_word(src, g, q)));
+            return Next::Token(bare(WORD, end_of_word(src, g, q)));
         }
     }
 }
@@ -482,7 +505,7 @@ pub fn skip_gaps(src: &[u8], g: Signs, p: Spot) -> Spot
         if plain_at(src, g, at + 1) > 32 {
             return Spot {
                 at: at + 1,
-                mode: 0,
+                mode: OUTSIDE,
                 fresh: true,
             };
         }

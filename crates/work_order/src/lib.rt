@@ -8,6 +8,24 @@ ghost use Rattle.work_order.specs.Listed.{Row, Reached, SomeLines, linke
 use work_rows::tell;
 use work_rows::told;
 
+// Which of the five numbers of a row tells the mark of an element's characters, or a character's code.
+pub const CHARS_NUMBER: usize = 0;
+
+// The number of the order line's first physical line.
+pub const LINE_NUMBER: usize = 1;
+
+// The place after its subject.
+pub const PLACE_NUMBER: usize = 2;
+
+// The mark of the next order line.
+pub const NEXT_NUMBER: usize = 3;
+
+// Its rank, once it is given.
+pub const RANK_NUMBER: usize = 4;
+
+// Until then the mark of the order line before it.
+pub const BACK_NUMBER: usize = 4;
+
 // The marks of the first and the last line, 0 for none, and how many there are.
 pub struct Order {
     pub first: usize,
@@ -31,8 +49,8 @@ fn give_numbers(work: &mut [u32], v: usize, number: usize, place: usize)
     requires { ⌜ Row (now work) v × (number < 4294967296) × (place < 4294967296) ⌝ }
     ensures { λ _. ⌜ now (work .exit) ≡ numbered (now (work .entry)) v number place ⌝ }
 {
-    tell(work, v, 1, number as u32);
-    tell(work, v, 2, place as u32);
+    tell(work, v, LINE_NUMBER, number as u32);
+    tell(work, v, PLACE_NUMBER, place as u32);
 }
 
 // a where n is 0, else b.
@@ -51,8 +69,8 @@ pub fn add_line(work: &mut [u32], o: Order, v: usize, number: usize, place: usiz
     requires { ⌜ (v < 4294967296) × (number < 4294967296) × (place < 4294967296) × (o .count < 4294967296) × (o .last < 4294967296) ⌝ }
     ensures { λ r. ⌜ (r ≡ longer o v) × (now (work .exit) ≡ withLine (now (work .entry)) o v number place) ⌝ }
 {
-    link(work, o.last, 3, v);
-    tell(work, v, 4, o.last as u32);
+    link(work, o.last, NEXT_NUMBER, v);
+    tell(work, v, BACK_NUMBER, o.last as u32);
     give_numbers(work, v, number, place);
     let first = where_none(o.first, v, o.first);
     let count = o.count + 1;
@@ -68,10 +86,10 @@ pub fn take_out(work: &mut [u32], o: Order, v: usize) -> Order
     requires { ⌜ Among (now work) o v ⌝ }
     ensures { λ r. ⌜ (r ≡ shorter (now (work .entry)) o v) × (now (work .exit) ≡ unlinked (now (work .entry)) v) ⌝ }
 {
-    let next = told(work, v, 3) as usize;
-    let back = told(work, v, 4) as usize;
-    link(work, back, 3, next);
-    link(work, next, 4, back);
+    let next = told(work, v, NEXT_NUMBER) as usize;
+    let back = told(work, v, BACK_NUMBER) as usize;
+    link(work, back, NEXT_NUMBER, next);
+    link(work, next, BACK_NUMBER, back);
     let first = where_none(back, next, o.first);
     let last = where_none(next, back, o.last);
     let count = o.count - 1;
@@ -88,10 +106,10 @@ fn link_between(work: &mut [u32], a: usize, v: usize, next: usize)
     requires { ⌜ (a < 4294967296) × (v < 4294967296) × (next < 4294967296) ⌝ }
     ensures { λ _. ⌜ now (work .exit) ≡ linkedBetween (now (work .entry)) a v next ⌝ }
 {
-    link(work, next, 4, v);
-    tell(work, a, 3, v as u32);
-    tell(work, v, 3, next as u32);
-    tell(work, v, 4, a as u32);
+    link(work, next, BACK_NUMBER, v);
+    tell(work, a, NEXT_NUMBER, v as u32);
+    tell(work, v, NEXT_NUMBER, next as u32);
+    tell(work, v, BACK_NUMBER, a as u32);
 }
 
 // A line, of the thing at the mark v, comes to stand directly after that of the mark a.
@@ -107,7 +125,7 @@ pub fn put_after(
     requires { ⌜ (a < 4294967296) × (v < 4294967296) × (number < 4294967296) × (place < 4294967296) × (o .count < 4294967296) ⌝ }
     ensures { λ r. ⌜ (r ≡ longerAfter (now (work .entry)) o a v) × (now (work .exit) ≡ withLineAfter (now (work .entry)) a v number place) ⌝ }
 {
-    let next = told(work, a, 3) as usize;
+    let next = told(work, a, NEXT_NUMBER) as usize;
     link_between(work, a, v, next);
     give_numbers(work, v, number, place);
     let last = where_none(next, v, o.last);
@@ -128,7 +146,7 @@ pub fn give_ranks(work: &mut [u32], o: Order)
     let mut rank: usize = 0;
     while rank < o.count {
         rank += 1;
-        tell(work, v, 4, rank as u32);
-        v = told(work, v, 3) as usize;
+        tell(work, v, RANK_NUMBER, rank as u32);
+        v = told(work, v, NEXT_NUMBER) as usize;
     }
 }

@@ -11,6 +11,8 @@ ghost use Rattle.work_subjects.specs.Keys.{keyAt};
 ghost use Rattle.work_subjects.specs.Numbers.{widthOf};
 ghost use Rattle.work_store.specs.Store.{headsOf, sideOf, pointed, pointing, tagIn, tagOf, keeps, RunIs, Roomy, Sound, Finds, SomeSought, FindsAny, WayEnds, Written, Kept, Declares};
 use text_lines::Signs;
+use work_subjects::CHARACTER;
+use work_subjects::NAMED;
 use work_subjects::key_numbers;
 
 // The mark of what is found.
@@ -125,14 +127,14 @@ fn same_kept(work: &[u32], kind: u32, row: usize, key: &[u32]) -> bool
     requires { ⌜ (row ≤ 1048576) × (8 * row + 10 ≤ length (now work)) × (length (now key) ≡ 8) ⌝ }
     ensures { λ r. ⌜ r ≡ keeps (now (work .entry)) kind row (now (key .entry)) (widthOf kind) ⌝ }
 {
-    if kind == 1 {
+    if kind == NAMED {
         let before = 8 * row_before(row);
         if work[before] == key[0] {
             return same_run(work, before + 1, key, 1, 7);
         }
         return false;
     }
-    if kind == 0 {
+    if kind == CHARACTER {
         return same_run(work, 8 * row + 3, key, 0, 1);
     }
     same_run(work, 8 * row + 3, key, 0, 4)
@@ -246,11 +248,11 @@ fn keep_key(work: &mut [u32], kind: u32, row: usize, key: &[u32])
     requires { ⌜ (row ≤ 1048576) × (8 * row + 10 ≤ length (now work)) × (length (now key) ≡ 8) ⌝ }
     ensures { λ _. ⌜ Kept (now (work .entry)) kind row (now (key .entry)) (now (work .exit)) ⌝ }
 {
-    if kind == 1 {
+    if kind == NAMED {
         let before = 8 * row_before(row);
         put_run(work, before + 1, key, 1, 7);
         work[before] = key[0];
-    } else if kind == 0 {
+    } else if kind == CHARACTER {
         put_run(work, 8 * row + 3, key, 0, 1);
     } else {
         put_run(work, 8 * row + 3, key, 0, 4);

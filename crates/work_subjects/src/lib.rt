@@ -10,6 +10,8 @@ ghost use Rattle.text_names.specs.Named.{nameLeft};
 ghost use Rattle.work_subjects.specs.Keys.{nameSpot, quoteSpot, charOf, charsLeft, subjectLeft, item, chars, AfterName, NextIs, keyAt};
 ghost use Rattle.work_subjects.specs.Numbers.{narrow, squeezed, NumbersAre, CodePut};
 use base_units::CodePoint;
+use text_lines::IN_NAME;
+use text_lines::QUOTED;
 use text_lines::Signs;
 use text_lines::Spot;
 use text_names::Code;
@@ -19,6 +21,15 @@ use text_names::next_name;
 use text_names::pack_name;
 use text_tokens::Closing;
 use text_tokens::end_of_name;
+
+// A key that is a character.
+pub const CHARACTER: u32 = 0;
+
+// A key that is a name.
+pub const NAMED: u32 = 1;
+
+// A key that is the characters of quotes.
+pub const CHARS: u32 = 2;
 
 // The next character in quotes, with the spot after its name.
 pub enum NextChar {
@@ -39,7 +50,7 @@ fn name_spot(v: usize) -> Spot
 {
     Spot {
         at: v / 2,
-        mode: 1,
+        mode: IN_NAME,
         fresh: false,
     }
 }
@@ -50,7 +61,7 @@ fn quote_spot(v: usize) -> Spot
 {
     Spot {
         at: v / 2,
-        mode: 2,
+        mode: QUOTED,
         fresh: false,
     }
 }
@@ -84,7 +95,7 @@ pub fn after_name(src: &[u8], g: Signs, p: Spot) -> Spot
         Closing::Open => {
             return Spot {
                 at: src.len(),
-                mode: 2,
+                mode: QUOTED,
                 fresh: false,
             };
         }
@@ -142,7 +153,7 @@ fn chars_numbers(src: &[u8], g: Signs, p: Spot, key: &mut [u32]) -> Told
             NextChar::End => {
                 return Told {
                     hash: h,
-                    kind: 2,
+                    kind: CHARS,
                     plain: n <= 4,
                 };
             }
@@ -182,13 +193,13 @@ fn code_numbers(x: CodePoint, key: &mut [u32]) -> Told
         key[0] = 2 * x.0 + 2;
         return Told {
             hash: hash,
-            kind: 0,
+            kind: CHARACTER,
             plain: true,
         };
     }
     Told {
         hash: hash,
-        kind: 0,
+        kind: CHARACTER,
         plain: false,
     }
 }
@@ -206,7 +217,7 @@ fn subject_numbers(src: &[u8], g: Signs, p: Spot, key: &mut [u32]) -> Told
             squeeze(key);
             return Told {
                 hash: k.hash,
-                kind: 1,
+                kind: NAMED,
                 plain: k.plain,
             };
         }
