@@ -1,6 +1,7 @@
 // The units of the product: what must not be mixed up, and what answers are made of. A number of the paper for each is in specs/.
 ghost use mathlib.Core.Path.{_≡_};
 ghost use mathlib.Core.Bool.{cond};
+ghost use Prim.Native.Nat.{_<_};
 ghost use Rattle.rules.specs.Names.{isCharacter};
 ghost use Rattle.rules.specs.Order.{goodString};
 ghost use Rattle.base_units.specs.Numbers.{numberOf};
@@ -120,4 +121,19 @@ pub fn number_of(r: Refusal) -> u32
         Refusal::NotPlain => 16,
         Refusal::BadPart => 17,
     }
+}
+
+// A number of an area as a place.
+pub fn wide(x: u32) -> usize
+    ensures { λ r. ⌜ r ≡ x ⌝ }
+{
+    x as usize
+}
+
+// A place as a number of an area.
+pub fn narrow(n: usize) -> u32
+    requires { ⌜ n < 4294967296 ⌝ }
+    ensures { λ r. ⌜ r ≡ n ⌝ }
+{
+    n as u32
 }

@@ -149,7 +149,7 @@ fn before_codes(text: bool, names: u8) -> u8
 
 // What an entry gives: `first` and `last` are the spots of its names, `refusal` is that of the two, and `text` tells whether each of the
 // line's bytes is text.
-pub fn entry_outcome(
+fn entry_outcome(
     src: &[u8],
     g: Signs,
     first: Spot,

@@ -75,7 +75,7 @@ pub fn block(
 }
 
 // The end of the present branch of a chain: a used one is read, another one passed over.
-pub fn branch_end(
+fn branch_end(
     src: &[u8],
     g: Signs,
     work: &mut [u32],

@@ -70,7 +70,7 @@ pub fn stands_at(src: &[u8], g: Signs, work: &[u32], p: Spot) -> bool
 }
 
 // Whether all names in quotes stand, from a spot in them outside names.
-pub fn quoted_stand(src: &[u8], g: Signs, work: &[u32], p: Spot) -> bool
+fn quoted_stand(src: &[u8], g: Signs, work: &[u32], p: Spot) -> bool
     requires { ⌜ (p .at ≤ length (now src)) × (p .mode ≡ quoted) ⌝ }
     requires { ⌜ Sound (keyAt g (now src)) (length (now src)) (now work) ⌝ }
     ensures { λ r. ⌜ AllStand g (now (src .entry)) (now (work .entry)) (namesIn (marksLeft g (now (src .entry)) p)) r ⌝ }
@@ -98,7 +98,7 @@ pub fn quoted_stand(src: &[u8], g: Signs, work: &[u32], p: Spot) -> bool
 }
 
 // Whether all names of a token stand.
-pub fn names_stand(src: &[u8], g: Signs, work: &[u32], t: Tok) -> bool
+fn names_stand(src: &[u8], g: Signs, work: &[u32], t: Tok) -> bool
     requires { ⌜ Inside (length (now src)) t ⌝ }
     requires { ⌜ Sound (keyAt g (now src)) (length (now src)) (now work) ⌝ }
     ensures { λ r. ⌜ AllStand g (now (src .entry)) (now (work .entry)) (namesOf g (now (src .entry)) t) r ⌝ }
@@ -114,7 +114,7 @@ pub fn names_stand(src: &[u8], g: Signs, work: &[u32], t: Tok) -> bool
 }
 
 // The refusal of an operand that is one token: it is a name, quotes of at most 8 names, or the word IGNORE, and its names stand.
-pub fn weight_refusal(src: &[u8], g: Signs, work: &[u32], q: Spot, t: Tok) -> u8
+fn weight_refusal(src: &[u8], g: Signs, work: &[u32], q: Spot, t: Tok) -> u8
     requires { ⌜ (q .at ≤ length (now src)) × TokenIs g (now src) q t ⌝ }
     requires { ⌜ Sound (keyAt g (now src)) (length (now src)) (now work) ⌝ }
     ensures { λ r. ⌜ WeightRefused g (now (src .entry)) (now (work .entry)) (tokenThere g (now (src .entry)) q) r ⌝ }
@@ -177,7 +177,7 @@ fn next_refusal(src: &[u8], g: Signs, work: &[u32], p: Spot) -> Turn
 }
 
 // The lowest refusal of the operands still to come, at least one, and how many there are.
-pub fn weights_left(src: &[u8], g: Signs, work: &[u32], p: Spot) -> Counted
+fn weights_left(src: &[u8], g: Signs, work: &[u32], p: Spot) -> Counted
     requires { ⌜ (p .at ≤ length (now src)) × (p .mode ≡ outside) ⌝ }
     requires { ⌜ Sound (keyAt g (now src)) (length (now src)) (now work) ⌝ }
     ensures { λ r. ⌜ Counts g (now (src .entry)) (now (work .entry)) (operandsLeft g (now (src .entry)) false p) (splitAt [] (operandsLeft g (now (src .entry)) false p)) r ⌝ }

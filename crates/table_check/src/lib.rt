@@ -14,6 +14,7 @@ ghost use Rattle.table_check.specs.Checks.{fault, Apart, headPasses, end
 ghost use Rattle.table_check.specs.Walk.{toldWith, Bucket, Next};
 ghost use Rattle.table_check.specs.Answers.{checkedAs};
 use base_units::Refusal;
+use base_units::wide;
 
 // How large an accepted table is.
 pub struct Shape {
@@ -223,13 +224,6 @@ fn bucket_at(t: &[u32], items: u32, buckets: u32, chars: usize, p: usize) -> u32
     ensures { λ r. ⌜ Bucket items (drop chars (now (t .entry))) p r ⌝ }
 {
     table_layout::bucket_of(items, buckets, t[chars + 4 * (p - 1)])
-}
-
-// A number of the table as a place.
-fn wide(x: u32) -> usize
-    ensures { λ r. ⌜ r ≡ x ⌝ }
-{
-    x as usize
 }
 
 // How many starts are told once the item at p is listed, as number k, after the one at `last`, with which `told` are told. 0 if it may not follow

@@ -9,6 +9,7 @@ ghost use Rattle.work_order.specs.Listed.{lineNumber};
 ghost use Rattle.table_records.specs.Writing.{CharsReady};
 ghost use Rattle.table_items.specs.Items.{isItem, LinesReady, SumsAre};
 ghost use Rattle.table_items.specs.Filling.{Fillable, Filled};
+use base_units::wide;
 use table_records::write_item;
 use table_weights::measure_item;
 use text_lines::Signs;
@@ -25,14 +26,8 @@ pub enum Sums {
     Unranked(usize),
 }
 
-fn wide(x: u32) -> usize
-    ensures { λ r. ⌜ r ≡ x ⌝ }
-{
-    x as usize
-}
-
 // Whether the order line of a mark gives an item: a symbol's, whose row tells neither characters nor a code, gives none.
-pub fn is_item(src: &[u8], work: &[u32], mark: usize) -> bool
+fn is_item(src: &[u8], work: &[u32], mark: usize) -> bool
     requires { ⌜ CharsReady (length (now src)) (now work) mark ⌝ }
     ensures { λ r. ⌜ r ≡ isItem (length (now (src .entry))) (now (work .entry)) mark ⌝ }
 {

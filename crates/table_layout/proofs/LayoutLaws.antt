@@ -11,9 +11,6 @@ pub endsAt-is : (l k : ℕ) → endsAt l k ≡ 16 + k * l
 unfolding endsAt
 endsAt-is l k = refl
 
-pub endsAt-suc : (l k : ℕ) → endsAt l (suc k) ≡ endsAt l k + l
-endsAt-suc l k = omega (arith, endsAt-is l k, endsAt-is l (suc k), suc-mul k l)
-
 pub endsAt-bound : (l n : ℕ) → l ≤ 8 → n ≤ 32768 → endsAt l n ≤ 262160
 endsAt-bound l n h k =
     let m : n * l ≤ 262144 = mul-le-mul {n₁ = n} {m₁ = l} {n₂ = 32768} {m₂ = 8} k h in

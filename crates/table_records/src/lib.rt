@@ -12,6 +12,8 @@ ghost use Rattle.table_weights.specs.Reading.{quoteRanks, InQuotes, partRanks, 
 ghost use Rattle.table_records.specs.Writing.{Puts, RanksPut, quoteSize, partSize, LevelPut, LineRoom, LinePut, CodeIs, itemChars, CharsReady, HasChars, ItemRoom, ItemPut};
 use base_units::CodePoint;
 use base_units::Rank;
+use base_units::narrow;
+use base_units::wide;
 use table_weights::NextRank;
 use table_weights::Part;
 use table_weights::first_part;
@@ -90,13 +92,6 @@ fn write_part(
     }
 }
 
-fn narrow(n: usize) -> u32
-    requires { ⌜ n < 4294967296 ⌝ }
-    ensures { λ r. ⌜ r ≡ n ⌝ }
-{
-    n as u32
-}
-
 // The weights of one operand, and where they end, counted from base, at a place of its own; the place behind the weights.
 fn write_level(
     src: &[u8],
@@ -122,7 +117,7 @@ fn write_level(
 
 // The weights of an order line, from the place after its subject on, with their ends, counted from base, at places of their own, level by level;
 // own is the line's own rank. The place behind the weights.
-pub fn write_line(
+fn write_line(
     src: &[u8],
     g: Signs,
     work: &[u32],
@@ -200,12 +195,6 @@ fn write_quoted(src: &[u8], g: Signs, p: Spot, area: &mut [u32], at: usize)
     put_four(area, at, a.code, b.code, c.code, d.code);
 }
 
-fn wide(x: u32) -> usize
-    ensures { λ r. ⌜ r ≡ x ⌝ }
-{
-    x as usize
-}
-
 // The code that an even number of a row tells: it is twice the code and 2.
 fn code_told(x: u32) -> CodePoint
     requires { ⌜ (1 ≤ x) × (x % 2 ≡ 0) ⌝ }
@@ -215,7 +204,7 @@ fn code_told(x: u32) -> CodePoint
 }
 
 // The four numbers of an item's characters, of the order line of a mark: its row tells a character's code, or where an element's quotes stand.
-pub fn write_chars(src: &[u8], g: Signs, work: &[u32], mark: usize, area: &mut [u32], at: usize)
+fn write_chars(src: &[u8], g: Signs, work: &[u32], mark: usize, area: &mut [u32], at: usize)
     requires { ⌜ CharsReady (length (now src)) (now work) mark × HasChars (length (now src)) (now work) mark ⌝ }
     requires { ⌜ at + 4 ≤ length (now area) ⌝ }
     ensures { λ _. ⌜ now (area .exit) ≡ sets (now (area .entry)) at (padded (itemChars g (now (src .entry)) (now (work .entry)) mark) []) ⌝ }

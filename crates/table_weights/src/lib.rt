@@ -10,6 +10,7 @@ ghost use Rattle.work_store.specs.Store.{Sound};
 ghost use Rattle.table_weights.specs.Ranks.{RankIs};
 ghost use Rattle.table_weights.specs.Reading.{NextIs, InQuotes, Measures, quoteRanks, partOf, partRanks, PartFits, Ahead, TurnIs, Weighed, lineOperands, Starts, Readable, MeasuresLine, RowReady, MeasuresItem};
 use base_units::Rank;
+use base_units::wide;
 use locale_weights::Weight;
 use locale_weights::next_weight;
 use text_lines::OUTSIDE;
@@ -242,7 +243,7 @@ fn measure_part(src: &[u8], g: Signs, work: &[u32], part: Part, own: Rank) -> Me
 }
 
 // The weights of an order line, from the place after its subject on: own is its own rank.
-pub fn measure_line(
+fn measure_line(
     src: &[u8],
     g: Signs,
     work: &[u32],
@@ -272,12 +273,6 @@ pub fn measure_line(
         weights: weights,
         ranked: ranked,
     }
-}
-
-fn wide(x: u32) -> usize
-    ensures { λ r. ⌜ r ≡ x ⌝ }
-{
-    x as usize
 }
 
 // The weights of the order line of a mark, from the numbers of its row on.

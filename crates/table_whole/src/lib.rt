@@ -9,6 +9,7 @@ ghost use Rattle.table_layout.specs.Parts.{endsAt, rulesPart};
 ghost use Rattle.locale_sheet.specs.Sheets.{rulesAt};
 ghost use Rattle.table_whole.specs.Building.{allItems, allWeights, tableSize, frontNumbers, suppliedEnds, withSupplied, HeadFits, Suppliable, Buildable, Tabled, Built};
 use base_units::Rank;
+use base_units::narrow;
 use locale_levels::write_rules;
 use locale_sheet::Sheet;
 use table_items::write_items;
@@ -21,13 +22,6 @@ use table_records::put_rank;
 use text_lines::OUTSIDE;
 use text_lines::Signs;
 use text_lines::Spot;
-
-fn narrow(n: usize) -> u32
-    requires { ⌜ n < 4294967296 ⌝ }
-    ensures { λ r. ⌜ r ≡ n ⌝ }
-{
-    n as u32
-}
 
 // How many items there are, with UNDEFINED where it is supplied.
 fn all_items(items: usize, supplied: bool) -> usize

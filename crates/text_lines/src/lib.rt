@@ -69,7 +69,7 @@ pub fn is_blank(b: u8) -> bool
 }
 
 // The mode after a byte that stands.
-pub fn mode_after(mode: u8, b: u8) -> u8
+fn mode_after(mode: u8, b: u8) -> u8
     ensures { λ r. ⌜ r ≡ after mode b ⌝ }
 {
     if mode == OUTSIDE {
@@ -184,7 +184,7 @@ fn escaped(src: &[u8], g: Signs, p: Spot) -> Item
 }
 
 // What stands next in a line.
-pub fn next_item(src: &[u8], g: Signs, p: Spot) -> Item
+fn next_item(src: &[u8], g: Signs, p: Spot) -> Item
     requires { ⌜ p .at ≤ length (now src) ⌝ }
     ensures { λ r. ⌜ ItemIs g (now (src .entry)) p r ⌝ }
 {

@@ -13,7 +13,8 @@ pub struct Chars {
     pub escaped: bool,
 }
 
-fn between(low: u8, high: u8, c: u8) -> bool
+// Whether a byte lies between two others, or is one of them.
+pub fn between(low: u8, high: u8, c: u8) -> bool
     ensures { λ r. ⌜ r ≡ within low high c ⌝ }
 {
     if low <= c {
@@ -71,7 +72,7 @@ fn is_free(c: u8) -> bool
 }
 
 // Whether a byte may be one of the two characters.
-pub fn is_sign(c: u8) -> bool
+fn is_sign(c: u8) -> bool
     ensures { λ r. ⌜ r ≡ isSign c ⌝ }
 {
     if between(33, 126, c) {

@@ -18,7 +18,7 @@ use text_lines::Step;
 use text_lines::next_mark;
 
 // A token of blanks.
-pub const GAP: u8 = 0;
+const GAP: u8 = 0;
 
 // `;`.
 pub const SEMI: u8 = 1;
@@ -81,7 +81,7 @@ pub enum Next {
 }
 
 // Whether a word goes on with a mark.
-pub fn in_word(m: u16) -> bool
+fn in_word(m: u16) -> bool
     ensures { λ r. ⌜ r ≡ inWord m ⌝ }
 {
     if m >= 256 {

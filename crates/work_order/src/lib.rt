@@ -24,7 +24,7 @@ pub const NEXT_NUMBER: usize = 3;
 pub const RANK_NUMBER: usize = 4;
 
 // Until then the mark of the order line before it.
-pub const BACK_NUMBER: usize = 4;
+const BACK_NUMBER: usize = 4;
 
 // The marks of the first and the last line, 0 for none, and how many there are.
 pub struct Order {

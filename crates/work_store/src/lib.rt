@@ -10,6 +10,7 @@ ghost use lib.Dec.{eqb};
 ghost use Rattle.work_subjects.specs.Keys.{keyAt};
 ghost use Rattle.work_subjects.specs.Numbers.{widthOf};
 ghost use Rattle.work_store.specs.Store.{headsOf, sideOf, pointed, pointing, tagIn, tagOf, keeps, RunIs, Roomy, Sound, Finds, SomeSought, FindsAny, WayEnds, Written, Kept, Declares};
+use base_units::wide;
 use text_lines::Signs;
 use work_subjects::CHARACTER;
 use work_subjects::NAMED;
@@ -32,12 +33,6 @@ pub fn clear(work: &mut [u32])
     }
 }
 
-fn index_of(x: u32) -> usize
-    ensures { λ r. ⌜ r ≡ x ⌝ }
-{
-    x as usize
-}
-
 // The chain of a hash.
 fn chain(hash: usize, len: usize) -> usize
     ensures { λ r. ⌜ (r ≡ hash % headsOf len) × (8 * r ≤ len) ⌝ }
@@ -50,7 +45,7 @@ fn linked(work: &[u32], slot: usize) -> usize
     requires { ⌜ slot < length (now work) ⌝ }
     ensures { λ r. ⌜ r ≡ pointed (now (work .entry)) slot ⌝ }
 {
-    let x = index_of(work[slot]);
+    let x = wide(work[slot]);
     if slot % 8 == 2 {
         return x / 64;
     }
@@ -78,7 +73,7 @@ fn mark_of(row: usize, tag: u32) -> usize
     requires { ⌜ row ≤ 1048576 ⌝ }
     ensures { λ r. ⌜ r ≡ 16 * row + tag % 16 ⌝ }
 {
-    16 * row + index_of(tag % 16)
+    16 * row + wide(tag % 16)
 }
 
 // The side on which the way of a key of these numbers goes on at a depth.

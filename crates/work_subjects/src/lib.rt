@@ -29,7 +29,7 @@ pub const CHARACTER: u32 = 0;
 pub const NAMED: u32 = 1;
 
 // A key that is the characters of quotes.
-pub const CHARS: u32 = 2;
+const CHARS: u32 = 2;
 
 // The next character in quotes, with the spot after its name.
 pub enum NextChar {
@@ -73,7 +73,7 @@ fn wide(c: CodePoint) -> usize
 }
 
 // The code of a name in quotes, 0 for one that is not shaped as a character.
-pub fn char_at(src: &[u8], g: Signs, p: Spot) -> CodePoint
+fn char_at(src: &[u8], g: Signs, p: Spot) -> CodePoint
     requires { ⌜ p .at ≤ length (now src) ⌝ }
     ensures { λ r. ⌜ r .0 ≡ charOf (nameLeft g (now (src .entry)) p) ⌝ }
 {

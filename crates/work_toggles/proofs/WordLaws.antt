@@ -6,7 +6,7 @@ use Prim.Native.Nat.{ℕ, suc, _+_, _-_, _≤_, _<_}
 use native.Mathlib.Omega.{arith}
 use lib.ListN.{length}
 use lib.Dec.{eqb, leb}
-use borrow.Author.Tests.{eq-eqb, ne-eqb, le-leb, lt-leb}
+use borrow.Author.Tests.{eq-eqb, ne-eqb}
 use Rattle.rules.specs.Text.{within, every, same}
 use Rattle.rules.specs.Conditionals.{isToggleByte}
 use Rattle.text_lines.specs.declared.Signs.{Signs}
@@ -72,12 +72,6 @@ module _ {g : Signs} {src : List ℕ} {p q i j : Spot} (v : Agree g src p q i j)
       agree-more h = record { rest = v .rest ∙ rw (one .bytes, two .bytes) (simp (eq-eqb a b h)); first = one .to; second = two .to }
 
 -- ## The bytes of a toggle's word
-
-pub between-low : (a b c : ℕ) (t : Bool) → a ≤ c → t ≡ leb c b → t ≡ within a b c
-between-low a b c t h e = rw (le-leb a c h) e
-
-pub between-not : (a b c : ℕ) → c < a → false ≡ within a b c
-between-not a b c h = rw (lt-leb a c h)
 
 module _ (b : ℕ) {t : Bool} (e : t ≡ within 48 57 b) where
   pub byte-figure : t ≡ true → true ≡ isToggleByte b

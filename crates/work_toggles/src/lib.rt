@@ -14,6 +14,7 @@ ghost use Rattle.work_toggles.specs.Kept.{wordLeft, toggleAt, togglesIn,
 use text_lines::OUTSIDE;
 use text_lines::Signs;
 use text_lines::Spot;
+use text_specials::between;
 use text_tokens::WordStep;
 use text_tokens::word_byte;
 
@@ -48,7 +49,7 @@ fn word_ends(src: &[u8], g: Signs, p: Spot) -> bool
 }
 
 // Whether the words at two spots have the same bytes.
-pub fn same_word(src: &[u8], g: Signs, p: Spot, q: Spot) -> bool
+fn same_word(src: &[u8], g: Signs, p: Spot, q: Spot) -> bool
     requires { ⌜ (p .at ≤ length (now src)) × (q .at ≤ length (now src)) ⌝ }
     ensures { λ r. ⌜ r ≡ same (wordLeft g (now (src .entry)) p) (wordLeft g (now (src .entry)) q) ⌝ }
 {
@@ -185,7 +186,7 @@ fn candidate_of(src: &[u8], g: Signs, work: &[u32], from: usize, n: usize, q: Sp
 }
 
 // The toggle whose word stands at a spot: its candidate, or none.
-pub fn find_toggle(src: &[u8], g: Signs, work: &[u32], base: usize, n: usize, q: Spot) -> Place
+fn find_toggle(src: &[u8], g: Signs, work: &[u32], base: usize, n: usize, q: Spot) -> Place
     requires { ⌜ Kept g (now src) (now work) base n × (q .at ≤ length (now src)) ⌝ }
     ensures { λ r. ⌜ PlaceIs (wordLeft g (now (src .entry)) q) (togglesIn g (now (src .entry)) (now (work .entry)) base n) r ⌝ }
 {
@@ -319,15 +320,6 @@ pub fn turn(
     n + 1
 }
 
-fn between(low: u8, high: u8, b: u8) -> bool
-    ensures { λ r. ⌜ r ≡ within low high b ⌝ }
-{
-    if low <= b {
-        return b <= high;
-    }
-    false
-}
-
 // Whether a byte may stand in a toggle's word.
 fn is_toggle_byte(b: u8) -> bool
     ensures { λ r. ⌜ r ≡ isToggleByte b ⌝ }
@@ -345,7 +337,7 @@ fn is_toggle_byte(b: u8) -> bool
 }
 
 // What the word at a spot is like, as a toggle's.
-pub fn word_of_toggle(src: &[u8], g: Signs, p: Spot) -> Shape
+fn word_of_toggle(src: &[u8], g: Signs, p: Spot) -> Shape
     requires { ⌜ p .at ≤ length (now src) ⌝ }
     ensures { λ r. ⌜ ShapeIs (wordLeft g (now (src .entry)) p) r ⌝ }
 {
