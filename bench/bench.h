@@ -68,6 +68,7 @@ struct source alike_elements_source(size_t size, enum kind kind);
 struct source joined_element_source(size_t size, enum kind kind);
 struct source deepest_source(size_t size, enum kind kind);
 struct source way_source(size_t size, enum kind kind);
+struct source short_way_source(size_t size, enum kind kind);
 struct source joined_symbol_source(size_t size, enum kind kind);
 struct source joined_character_source(size_t size, enum kind kind);
 struct source chained_source(size_t size, enum kind kind);

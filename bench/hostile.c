@@ -147,36 +147,159 @@ struct source deepest_source(size_t size, enum kind kind)
     return source;
 }
 
+/* ---- Ways ---- */
+
+/* There are as many chains as a source has eights of bytes, and one more, so the sources of this part have exactly the size that they are made for. */
+static uint32_t chains_of(size_t size)
+{
+    return (uint32_t)(size / 8 + 1);
+}
+
+static void fill_up(struct text *text, size_t size)
+{
+    while (text->count < size)
+        put(text, "\n");
+}
+
+/* A number below another, the same in every run. */
+static uint32_t draw(uint32_t below)
+{
+    static uint64_t state = 1;
+    state = state * 6364136223846793005u + 1442695040888963407u;
+    return (uint32_t)((state >> 33) % below);
+}
+
+static char draw_letter(void)
+{
+    return (char)('A' + draw(LETTERS));
+}
+
 static const char aim[MOST_NAME + 1] = "ThisNameIsTheOneThatAllWeightsDo";
 
-/* The name that shares so many bits with the one aimed at and differs in the next, each byte from its lowest bit on, and has its number:
- * whether there is one. */
-static int name_on_the_way(char *name, int bits, enum kind kind)
+enum { SIX = 24, LOW = 8 };
+
+/* Whether a byte shares so many of its lowest bits, seven at most, with that of the name aimed at. */
+static int shares(char letter, int at, int bits)
 {
-    int at = bits / 8, mask = (2 << bits % 8) - 1, letter = 'A';
-    while (letter <= 'z' && ((letter ^ aim[at]) & mask) != 1 << bits % 8)
-        letter++;
-    if (letter > 'z')
-        return 0;
-    memcpy(name, aim, sizeof aim);
-    name[at] = (char)letter;
-    if (kind == HOSTILE)
-        end_name(name, MOST_NAME, number_of(aim, MOST_NAME));
+    int mask = bits <= 0 ? 0 : bits >= 7 ? 127 : (1 << bits) - 1;
+    return ((letter ^ aim[at]) & mask) == 0;
+}
+
+/* The names that are found, the one aimed at first. */
+static char on_the_way[8 * MOST_NAME][MOST_NAME + 1];
+
+static int is_new(const char *name, int count)
+{
+    for (int i = 0; i < count; i++)
+        if (strcmp(on_the_way[i], name) == 0)
+            return 0;
     return 1;
 }
 
-/* Names on the way to the one that all weights have, in a tree of one chain that goes by the bits of names. */
+/* Finds one name more, in the chain of the one aimed at, that goes its way for as many bits as there are names before it: whether there is one. The first six
+ * of a name's numbers hold its first 24 bytes and, but for the four highest bits of the last one, its last four; so only the seventh tells these names apart. */
+static int find_on_the_way(int count, uint32_t chains)
+{
+    char *name = on_the_way[count];
+    uint32_t chain = number_of(aim, MOST_NAME) % chains;
+    int bits = count - 1;
+    memcpy(name, aim, sizeof aim);
+    for (int tries = 0; tries < 300000; tries++) {
+        for (int i = 0; i < 4; i++)
+            do
+                name[SIX + i] = draw_letter();
+            while (!shares(name[SIX + i], SIX + i, bits - 8 * SIX - 7 * i));
+        uint32_t before = number_of(name, MOST_NAME - 1);
+        for (char last = 'A'; last <= 'z'; last++)
+            if ((last ^ aim[MOST_NAME - 1]) % LOW == 0 && number_on(before, (uint32_t)last) % chains == chain) {
+                name[MOST_NAME - 1] = last;
+                if (is_new(name, count))
+                    return 1;
+            }
+    }
+    return 0;
+}
+
+static void turn_round(char *name, int count)
+{
+    for (int i = 0; i < count / 2; i++) {
+        char letter = name[i];
+        name[i] = name[count - 1 - i];
+        name[count - 1 - i] = letter;
+    }
+}
+
+/* Names that stand one deeper each on the way to the one that all weights have, so many as can be found. */
 struct source way_source(size_t size, enum kind kind)
 {
     struct source source = {.name = "way"};
-    char name[MOST_NAME + 1];
+    memcpy(on_the_way[0], aim, sizeof aim);
     put(&source.text, source_head);
-    for (int bits = 0; bits < 8 * (MOST_NAME - PIECE - 1); bits++)
-        if (name_on_the_way(name, bits, kind))
-            put_symbol(&source.text, name);
+    for (int count = 1; count < 8 * MOST_NAME && find_on_the_way(count, chains_of(size)); count++) {
+        char name[MOST_NAME + 1];
+        memcpy(name, on_the_way[count], sizeof name);
+        if (kind == HONEST)
+            turn_round(name, MOST_NAME);
+        put_symbol(&source.text, name);
+    }
     put_symbol(&source.text, aim);
     put(&source.text, "%s<%s>\n", order_start, aim);
     put_weights(&source.text, size, aim);
+    fill_up(&source.text, size);
+    return source;
+}
+
+static int is_character(uint32_t c)
+{
+    return 0 < c && c <= 0x10FFFF && (c < 0xD800 || 0xDFFF < c);
+}
+
+/* How many names, and then elements, can stand on the way of a name of one byte: names begin with it and `@`, whose lowest six bits are 0; elements begin with
+ * the character whose number is the byte, and the lowest bits of the number of the next are 0. */
+enum { NAMES_ON_SHORT = 14, ON_SHORT = 53 };
+
+/* A name of eight bytes in the chain of the byte. */
+static void put_beginning_with(struct text *text, char byte, uint32_t chains, enum kind kind)
+{
+    char name[9] = {byte, '@'};
+    do
+        for (int i = 2; i < 8; i++)
+            name[i] = draw_letter();
+    while (number_of(name, 8) % chains != (uint32_t)byte % chains);
+    if (kind == HONEST)
+        turn_round(name, 8);
+    put_symbol(text, name);
+}
+
+/* An element in the chain of the byte; the number of its second character has so many lowest bits that are 0. In the twin the first is another one. */
+static void put_element_on(struct text *text, int k, char byte, int bits, uint32_t chains, enum kind kind)
+{
+    uint32_t first = (uint32_t)byte - 1, second, third, last;
+    do {
+        second = (1 + draw(0x10FFFFu >> bits)) << bits;
+        second--;
+        third = 0xE000 + draw(0x100000);
+        uint32_t before = number_on(number_on(number_on(number_on(0, first), second), third), 0);
+        uint32_t wanted = draw(0x1000000 / chains) * chains + (uint32_t)byte % chains;
+        last = (wanted - before) & 0xFFFFFF;
+    } while (!is_character(second) || !is_character(last));
+    put(text, "collating-element <e%d> from \"<U%08X><U%08X><U%08X><U%08X>\"\n", k, kind == HONEST ? first + 1 + (uint32_t)k : first, second, third, last);
+}
+
+/* The deepest way of a name of one byte, and as many weights that name it as there can be. */
+struct source short_way_source(size_t size, enum kind kind)
+{
+    struct source source = {.name = "short_way"};
+    static const char name[] = "U";
+    put(&source.text, source_head);
+    for (int k = 0; k < NAMES_ON_SHORT; k++)
+        put_beginning_with(&source.text, name[0], chains_of(size), kind);
+    for (int k = NAMES_ON_SHORT; k < ON_SHORT; k++)
+        put_element_on(&source.text, k, name[0], k < 32 ? 0 : k - 32, chains_of(size), kind);
+    put_symbol(&source.text, name);
+    put(&source.text, "%s<%s>\n", order_start, name);
+    put_weights(&source.text, size, name);
+    fill_up(&source.text, size);
     return source;
 }
 

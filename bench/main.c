@@ -619,6 +619,7 @@ static const struct hostile hostile_sources[] = {
     {"the same, the first joined over one half", joined_element_source, 0},
     {"names with one hash, weights that name the first", deepest_source, 1},
     {"names on the way to the one that all weights name", way_source, 1},
+    {"names and elements on the way to one of a single byte, named 64 times a line", short_way_source, 1},
     {"a symbol joined over one half, weights that name it", joined_symbol_source, 0},
     {"a character joined over one half, weights that name it", joined_character_source, 0},
     {"characters in as few chains as they allow", chained_source, 1},

@@ -12,7 +12,7 @@ use Rattle.rules.specs.Names.{isBlank}
 use Rattle.rules.specs.Tokens.{isText, gap, broken, word, Token, token, tokenAt, single, noPart, tokensFrom, tokensOf, withoutGaps, withoutOpeningGaps, operands, tokensRefusal, isEntry}
 use Rattle.rules.specs.Charmap.{Mapping, MapOutcome, leaves, bodyLine}
 use Rattle.rules.proofs.TextLaws.{same-true}
-use Rattle.rules.specs.Lines.{outside, after}
+use Rattle.rules.specs.Lines.{inPlain, after}
 use Rattle.text_lines.proofs.SignLaws.{after-blank}
 use Rattle.text_lines.specs.declared.Signs.{Signs}
 use Rattle.text_lines.specs.declared.Spot.{Spot}
@@ -171,13 +171,13 @@ module _ (g : Signs) (src : List ℕ) (q : Spot) {s : Step} {m : ℕ} {r : Spot}
   pub mark-to : r .at ≤ length src
   mark-to = let k : MarkIs g src q m r = subst (StepIs g src q) e w in k .to
 
-  blank-plain : q .mode ≡ outside → isBlank m ≡ true → r .mode ≡ outside
+  blank-plain : q .mode ≡ inPlain → isBlank m ≡ true → r .mode ≡ inPlain
   blank-plain h b = let k : MarkIs g src q m r = subst (StepIs g src q) e w in k .step .mode ∙ ap (λ (x : ℕ). after x m) h ∙ after-blank m b
 
-  pub space-plain : q .mode ≡ outside → m ≡ 32 → r .mode ≡ outside
+  pub space-plain : q .mode ≡ inPlain → m ≡ 32 → r .mode ≡ inPlain
   space-plain h i = blank-plain h (rw i)
 
-  pub tab-plain : q .mode ≡ outside → m ≡ 9 → r .mode ≡ outside
+  pub tab-plain : q .mode ≡ inPlain → m ≡ 9 → r .mode ≡ inPlain
   tab-plain h i = blank-plain h (rw i)
 
 module _ (g : Signs) (src : List ℕ) (p : Spot) {t : Bool} (e : t ≡ same (wordIn (marksLeft g src p)) end) where

@@ -4,7 +4,7 @@ ghost use mathlib.Core.Bool.{false, _&&_};
 ghost use Prim.Native.Nat.{_≤_, _<_};
 ghost use lib.ListN.{length};
 ghost use lib.Dec.{eqb, ltb};
-ghost use Rattle.rules.specs.Lines.{outside};
+ghost use Rattle.rules.specs.Lines.{inPlain};
 ghost use Rattle.rules.specs.Tokens.{withoutGaps, tokensOf, isEntry};
 ghost use Rattle.text_lines.specs.Stream.{marksLeft, lineStart};
 ghost use Rattle.text_tokens.specs.Left.{tokensLeft};
@@ -20,7 +20,7 @@ use charmap_entry::Parts;
 use charmap_entry::entry_at;
 use charmap_numbers::any_given;
 use charmap_numbers::give_range;
-use text_lines::OUTSIDE;
+use text_lines::IN_PLAIN;
 use text_lines::Signs;
 use text_lines::Spot;
 use text_lines::Step;
@@ -207,7 +207,7 @@ pub fn enter(
 
 // Whether no token is left.
 fn no_tokens(src: &[u8], g: Signs, p: Spot) -> bool
-    requires { ⌜ (p .at ≤ length (now src)) × (p .mode ≡ outside) ⌝ }
+    requires { ⌜ (p .at ≤ length (now src)) × (p .mode ≡ inPlain) ⌝ }
     ensures { λ r. ⌜ r ≡ eqb (length (tokensLeft g (now (src .entry)) p)) 0 ⌝ }
 {
     let s = next_token(src, g, p);
@@ -220,7 +220,7 @@ fn no_tokens(src: &[u8], g: Signs, p: Spot) -> bool
 
 // Whether a word w, of a byte or more, is all that is left but for blanks.
 fn only_word(src: &[u8], g: Signs, p: Spot, w: &[u8]) -> bool
-    requires { ⌜ (p .at ≤ length (now src)) × (p .mode ≡ outside) × (0 < length (now w)) ⌝ }
+    requires { ⌜ (p .at ≤ length (now src)) × (p .mode ≡ inPlain) × (0 < length (now w)) ⌝ }
     ensures { λ r. ⌜ r ≡ soleWord (withoutGaps false (tokensLeft g (now (src .entry)) p)) (now (w .entry)) ⌝ }
 {
     let q = skip_gaps(src, g, p);
@@ -234,7 +234,7 @@ fn only_word(src: &[u8], g: Signs, p: Spot, w: &[u8]) -> bool
 
 // Whether the tokens from a spot on are END CHARMAP.
 fn is_end(src: &[u8], g: Signs, p: Spot) -> bool
-    requires { ⌜ (p .at ≤ length (now src)) × (p .mode ≡ outside) ⌝ }
+    requires { ⌜ (p .at ≤ length (now src)) × (p .mode ≡ inPlain) ⌝ }
     ensures { λ r. ⌜ r ≡ isEndLine (tokensLeft g (now (src .entry)) p) ⌝ }
 {
     if word_is(src, g, p, b"END") {
@@ -258,7 +258,7 @@ fn is_end(src: &[u8], g: Signs, p: Spot) -> bool
 
 // What a line is that is no entry, from its first spot on.
 fn line_kind(src: &[u8], g: Signs, p: Spot) -> Kind
-    requires { ⌜ (p .at ≤ length (now src)) × (p .mode ≡ outside) ⌝ }
+    requires { ⌜ (p .at ≤ length (now src)) × (p .mode ≡ inPlain) ⌝ }
     ensures { λ r. ⌜ KindIs (tokensOf (marksLeft g (now (src .entry)) p)) r ⌝ }
 {
     let q = skip_gaps(src, g, p);
@@ -278,7 +278,7 @@ pub fn plain_line(src: &[u8], g: Signs, at: usize) -> PlainLine
 {
     let p = Spot {
         at: at,
-        mode: OUTSIDE,
+        mode: IN_PLAIN,
         fresh: true,
     };
     let e = line_at(src, g, at);

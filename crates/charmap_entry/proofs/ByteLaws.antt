@@ -10,7 +10,7 @@ use Rattle.base_lists.proofs.Bools.{by, and-intro}
 use Rattle.rules.specs.Text.{every}
 use Rattle.rules.specs.Names.{isBlank, isAnyHex, hexValue}
 use Rattle.rules.specs.Tokens.{gap, broken, Token, token, tokenAt, noPart, tokensFrom, withoutBlanks, withoutOpeningGaps}
-use Rattle.rules.specs.Lines.{outside, after}
+use Rattle.rules.specs.Lines.{inPlain, after}
 use Rattle.text_lines.specs.declared.Signs.{Signs}
 use Rattle.text_lines.specs.declared.Spot.{Spot}
 use Rattle.text_lines.specs.declared.Step.{Step}
@@ -42,11 +42,11 @@ none-at g src p v e = subst (StepIs g src p) e v
 -- ## Two hex digits
 
 -- a hex digit leaves plain mode as it is
-hex-plain : (m : ℕ) → isAnyHex m ≡ true → (after outside m ≡ outside) × (isBlank m ≡ false)
+hex-plain : (m : ℕ) → isAnyHex m ≡ true → (after inPlain m ≡ inPlain) × (isBlank m ≡ false)
 unfolding after
 hex-plain m h = let w = in-word m (hex-word m h) in (rw (w .name, w .quote), w .blank)
 
-module _ (g : Signs) (src : List ℕ) (p : Spot) (o : p .mode ≡ outside) {s : Step} (v : StepIs g src p s) where
+module _ (g : Signs) (src : List ℕ) (p : Spot) (o : p .mode ≡ inPlain) {s : Step} (v : StepIs g src p s) where
   pub digits-end : s ≡ step.End → startsHex (marksLeft g src p) ≡ false
   digits-end e = rw (none-at g src p v e)
 
@@ -99,7 +99,7 @@ module _ (g : Signs) (src : List ℕ) (p : Spot) (o : p .mode ≡ outside) {s : 
 
 -- ## Escape and `x`
 
-module _ (g : Signs) (src : List ℕ) (p : Spot) (o : p .mode ≡ outside) {s : Step} (v : StepIs g src p s) where
+module _ (g : Signs) (src : List ℕ) (p : Spot) (o : p .mode ≡ inPlain) {s : Step} (v : StepIs g src p s) where
   pub pair-end : s ≡ step.End → opensPair (tokensLeft g src p) ≡ false
   unfolding tokensLeft
   pair-end e = rw (none-at g src p v e, tokensFrom-none) (no-escape [] none-escape)
@@ -113,7 +113,7 @@ module _ (g : Signs) (src : List ℕ) (p : Spot) (o : p .mode ≡ outside) {s : 
     pair-other n = rw (escape .marks) (no-escape (tokensFrom (noPart []) (m ∷ marksLeft g src q)) (first-no-escape m (marksLeft g src q) n))
 
     module _ (h : m ≡ 632) where
-      pub pair-plain : (q .at ≤ length src) × (q .mode ≡ outside)
+      pub pair-plain : (q .at ≤ length src) × (q .mode ≡ inPlain)
       unfolding after
       pair-plain = (escape .to, escape .step .mode ∙ rw (o, h))
 
@@ -196,7 +196,7 @@ after-gap : (p : List Token → Bool) (ts : List Token) → byteBy p (token gap 
 unfolding byteBy withoutOpeningGaps
 after-gap p ts = refl
 
-module _ (g : Signs) (src : List ℕ) (p : Spot) (o : p .mode ≡ outside) {s : Step} (v : StepIs g src p s) where
+module _ (g : Signs) (src : List ℕ) (p : Spot) (o : p .mode ≡ inPlain) {s : Step} (v : StepIs g src p s) where
   pub gap-end : s ≡ step.End → byteBy opensPair (tokensLeft g src p) ≡ false
   unfolding tokensLeft
   gap-end e = rw (none-at g src p v e, tokensFrom-none) (none-gap opensPair)
@@ -211,13 +211,13 @@ module _ (g : Signs) (src : List ℕ) (p : Spot) (o : p .mode ≡ outside) {s : 
         rw (blank .marks)
         (no-gap opensPair (tokensFrom (noPart []) (m ∷ marksLeft g src q)) (first-solid m (marksLeft g src q) (simp (ne-eqb m 32 n, ne-eqb m 9 k))))
 
-    gap-plain : isBlank m ≡ true → (q .at ≤ length src) × (q .mode ≡ outside)
+    gap-plain : isBlank m ≡ true → (q .at ≤ length src) × (q .mode ≡ inPlain)
     gap-plain b = (blank .to, blank .step .mode ∙ rw o (after-blank m b))
 
-    pub gap-space : m ≡ 32 → (q .at ≤ length src) × (q .mode ≡ outside)
+    pub gap-space : m ≡ 32 → (q .at ≤ length src) × (q .mode ≡ inPlain)
     gap-space h = gap-plain (rw h)
 
-    pub gap-tab : m ≡ 9 → (q .at ≤ length src) × (q .mode ≡ outside)
+    pub gap-tab : m ≡ 9 → (q .at ≤ length src) × (q .mode ≡ inPlain)
     gap-tab h = gap-plain (rw h)
 
     gap-byte : isBlank m ≡ true → {r : Spot} → Skips g src q r → (b : Byte) → EscapedIs g src r b → GapIs g src p b

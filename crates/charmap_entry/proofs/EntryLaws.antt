@@ -14,7 +14,7 @@ use Rattle.rules.specs.Text.{every, same}
 use Rattle.rules.specs.Names.{isBlank, namesRefusal, isAnyHex, hexValue}
 use Rattle.rules.specs.Tokens.{isText, gap, broken, word, name, Token, token, noToken, noPart, tokensFrom, withoutBlanks, tokensOf, isEntry}
 use Rattle.rules.specs.Charmap.{lastToken}
-use Rattle.rules.specs.Lines.{outside, comment, Scan, lineFrom, lineOf}
+use Rattle.rules.specs.Lines.{inPlain, inComment, Scan, lineFrom, lineOf}
 use Rattle.rules.proofs.TextLaws.{every-head, every-tail, every-append, every-mono}
 use Rattle.text_lines.specs.declared.Signs.{Signs}
 use Rattle.text_lines.specs.declared.Spot.{Spot}
@@ -168,7 +168,7 @@ marks-text cs more bs d e a b h k =
 -- ## The line
 
 -- the state behind the digits
-state-behind : (q : Spot) (ms : List ℕ) (f z : ℕ) → q .mode ≡ outside → q .fresh ≡ false → stateAt q ms (0 + f) (0 + z) ≡ stateIn outside false ms f z
+state-behind : (q : Spot) (ms : List ℕ) (f z : ℕ) → q .mode ≡ inPlain → q .fresh ≡ false → stateAt q ms (0 + f) (0 + z) ≡ stateIn inPlain false ms f z
 state-behind q ms f z m e = rw (m, e, zero-add f, zero-add z)
 
 module _ {g : Signs} {src : List ℕ} {at : ℕ} {h : Head} {v i : ℕ} (w : Whole g src at h v i) where
@@ -222,8 +222,8 @@ module _ {g : Signs} {src : List ℕ} {at : ℕ} {h : Head} {v i : ℕ} (w : Who
   line =
       let z = w .byte .pair in
       let q = z .stop in
-      let e : bodyLine g src at ≡ lineFrom (bodySigns g) (stateIn outside false marks before size) (drop i src) =
-      run .goes (bodySigns g) (record { comment = refl; escape = refl }) [] 0 0 (quiet-entry g outside true [] marks (told .entry))
+      let e : bodyLine g src at ≡ lineFrom (bodySigns g) (stateIn inPlain false marks before size) (drop i src) =
+      run .goes (bodySigns g) (record { comment = refl; escape = refl }) [] 0 0 (quiet-entry g inPlain true [] marks (told .entry))
       ∙ ap (λ (x : Scan). lineFrom (bodySigns g) x (drop (q .at) src)) (state-behind q marks feeds (run .bytes) (z .mode) (z .fresh))
       ∙ z .closing .passed .goes marks feeds (run .bytes) in
       subst (λ (l : Scan). Closes l marks before size (lineLeft g src (hiddenAt i))) (sym e) (closes g marks before size (told .entry) (drop i src) (z .closing .stop))
@@ -294,7 +294,7 @@ module _ (g : Signs) (src : List ℕ) (at : ℕ) {q : Spot} (v : Skips g src (li
         none = by (isEntry (tokensOf ms)) (λ t. clash (entry-opens (tokensOf ms) t) k) (λ t. t);
       }
 
-  pub entry-plain : (q .at ≤ length src) × (q .mode ≡ outside)
+  pub entry-plain : (q .at ≤ length src) × (q .mode ≡ inPlain)
   entry-plain = (v .to, v .mode)
 
   module _ {n : Heads} (w : HeadsAre g src q n) where
@@ -305,7 +305,7 @@ module _ (g : Signs) (src : List ℕ) (at : ℕ) {q : Spot} (v : Skips g src (li
       head : HeadIs g src q h
       head = subst (HeadsAre g src q) e w
 
-      pub entry-next : (h .next .at ≤ length src) × (h .next .mode ≡ outside)
+      pub entry-next : (h .next .at ≤ length src) × (h .next .mode ≡ inPlain)
       entry-next = (head .to, head .mode)
 
       module _ {b : Byte} (k : GapIs g src (h .next) b) where

@@ -12,7 +12,7 @@ use Rattle.base_lists.proofs.Runs.{run, run-whole, run-none, run-cons}
 use Rattle.rules.specs.Text.{if_then_else_}
 use Rattle.rules.specs.Names.{isBlank}
 use Rattle.rules.specs.Lines as paper
-use Rattle.rules.specs.Lines.{outside, comment, after, Scan, scanStart, dropped, fed, marked, takesAsIs, opensComment, endsEntry, scanEscaped, scan, lineFrom, lineOf}
+use Rattle.rules.specs.Lines.{inPlain, inComment, after, Scan, scanStart, dropped, fed, marked, takesAsIs, opensComment, endsEntry, scanEscaped, scan, lineFrom, lineOf}
 use Rattle.charmap_entry.specs.Entered.{feedsIn}
 
 -- ## Among a line's bytes
@@ -40,12 +40,12 @@ module _ (x : Scan) where
         (λ t. rw t (cond-both (Adds x 1) (x .escaped) (adds-fed false) (adds-fed true)))
         (λ t. rw t
         (cond-both (Adds x 0) (x .escaped)
-        (cond-both (Adds x 0) (eqb (x .mode) outside) (adds-marked outside false (512 + b)) (adds-marked (x .mode) false (256 + b)))
-        (cond-both (Adds x 0) (eqb (x .mode) comment) (adds-dropped comment false)
-        (cond-both (Adds x 0) (takesAsIs s x b) (adds-marked outside false (256 + b))
+        (cond-both (Adds x 0) (eqb (x .mode) inPlain) (adds-marked inPlain false (512 + b)) (adds-marked (x .mode) false (256 + b)))
+        (cond-both (Adds x 0) (eqb (x .mode) inComment) (adds-dropped inComment false)
+        (cond-both (Adds x 0) (takesAsIs s x b) (adds-marked inPlain false (256 + b))
         (cond-both (Adds x 0) (eqb b (s .escape)) (adds-dropped (x .mode) true)
-        (cond-both (Adds x 0) (opensComment s x b) (adds-dropped comment false)
-        (cond-both (Adds x 0) (endsEntry s x b) (adds-dropped comment false) (adds-marked (after (x .mode) b) (isBlank b) b))))))))
+        (cond-both (Adds x 0) (opensComment s x b) (adds-dropped inComment false)
+        (cond-both (Adds x 0) (endsEntry s x b) (adds-dropped inComment false) (adds-marked (after (x .mode) b) (isBlank b) b))))))))
 
 -- From x to r a line has read the first of these bytes.
 record Reads (x : Scan) (bs : List ℕ) (r : Scan) : Type 0 where

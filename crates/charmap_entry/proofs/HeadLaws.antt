@@ -12,7 +12,7 @@ use Rattle.rules.specs.Text.{every, oneOf, same, is, bytes, lower, lowest}
 use Rattle.rules.specs.Names.{nameRefusal, namesRefusal}
 use Rattle.rules.specs.Tokens.{isText, word, name, Token, token, tokenAt, noPart, inWord, tokensFrom, isRange}
 use Rattle.rules.proofs.TextLaws.{every-append}
-use Rattle.rules.specs.Lines.{outside, after}
+use Rattle.rules.specs.Lines.{inPlain, after}
 use Rattle.text_lines.specs.declared.Signs.{Signs}
 use Rattle.text_lines.specs.declared.Spot.{Spot}
 use Rattle.text_lines.specs.declared.Step.{Step}
@@ -81,7 +81,7 @@ name-texts (m ∷ ms) h =
 
 -- ## A name
 
-module _ (g : Signs) (src : List ℕ) (p : Spot) (o : p .mode ≡ outside) {s : Step} (v : StepIs g src p s) where
+module _ (g : Signs) (src : List ℕ) (p : Spot) (o : p .mode ≡ inPlain) {s : Step} (v : StepIs g src p s) where
   pub name-end : s ≡ step.End → eqb (tokenAt (tokensLeft g src p) 0 .kind) name ≡ false
   unfolding tokensLeft
   name-end e = rw (none-at g src p v e, tokensFrom-none)
@@ -177,7 +177,7 @@ dots-no-name n (m ∷ ms) h =
     (λ t. let e : tokensFrom (noPart []) (46 ∷ 46 ∷ m ∷ ms) ≡ token word (46 ∷ 46 ∷ []) [] ∷ tokensFrom (noPart []) (m ∷ ms) = two-dots (m ∷ ms) ∙ rw t in
     rw e (no-range n (token word (46 ∷ 46 ∷ []) []) (tokensFrom (noPart []) (m ∷ ms)) refl (not-name n (token word (46 ∷ 46 ∷ []) []) (tokensFrom (noPart []) (m ∷ ms)) h)))
 
-module _ (g : Signs) (src : List ℕ) (p : Spot) (o : p .mode ≡ outside) {s : Step} (v : StepIs g src p s) where
+module _ (g : Signs) (src : List ℕ) (p : Spot) (o : p .mode ≡ inPlain) {s : Step} (v : StepIs g src p s) where
   pub dot-end : s ≡ step.End → (n : Token) → opensEntry (n ∷ tokensFrom (noPart []) (46 ∷ marksLeft g src p)) ≡ false
   unfolding wordIn same
   dot-end e n = one-dot n (marksLeft g src p) (rw (none-at g src p v e))
@@ -193,7 +193,7 @@ module _ (g : Signs) (src : List ℕ) (p : Spot) (o : p .mode ≡ outside) {s : 
         (rw (dot .marks) (by (inWord m) (λ t. rw t (simp (ne-eqb m 46 h))) (λ t. rw t)))
 
     module _ (h : m ≡ 46) where
-      pub dot-plain : (q .at ≤ length src) × (q .mode ≡ outside)
+      pub dot-plain : (q .at ≤ length src) × (q .mode ≡ inPlain)
       unfolding after
       dot-plain = (dot .to, dot .step .mode ∙ rw (o, h))
 
@@ -297,7 +297,7 @@ module _ (g : Signs) (src : List ℕ) (p : Spot) {n : Name} (v : NamedIs g src p
         head-other k = single (rw (next .marks) (first-no-dots m (marksLeft g src x) k))
 
         module _ (k : m ≡ 46) where
-          pub head-dot : (x .at ≤ length src) × (x .mode ≡ outside)
+          pub head-dot : (x .at ≤ length src) × (x .mode ≡ inPlain)
           unfolding after
           head-dot = (next .to, next .step .mode ∙ rw (called .mode, k))
 

@@ -12,7 +12,7 @@ use lib.Dec.{eqb}
 use borrow.Author.Tests.{eq-eqb, ne-eqb}
 use Rattle.rules.specs.Names.{isBlank}
 use Rattle.rules.specs.Lines as paper
-use Rattle.rules.specs.Lines.{outside, after, Scan, dropped, takesAsIs, opensComment, endsEntry, scanEscaped, scan, lineFrom}
+use Rattle.rules.specs.Lines.{inPlain, after, Scan, dropped, takesAsIs, opensComment, endsEntry, scanEscaped, scan, lineFrom}
 use Rattle.text_lines.specs.declared.Signs.{Signs}
 use Rattle.text_lines.specs.Stream.{plainSigns, stateIn, lineLeft, marksLeft}
 use Rattle.text_lines.proofs.LineLaws.{onto, lineFrom-onto, lineFrom-rest, plain-as-is, line-step, blank-escaped}
@@ -22,49 +22,49 @@ use Rattle.charmap_entry.proofs.BodyLaws.{body-as-is}
 -- ## What a line reads in plain mode right after a mark that is no blank
 
 -- a join
-join-step : (s : paper.Signs) (done : List ℕ) (f z b : ℕ) (bs : List ℕ) → takesAsIs s (stateIn outside false done f z) b ≡ false
+join-step : (s : paper.Signs) (done : List ℕ) (f z b : ℕ) (bs : List ℕ) → takesAsIs s (stateIn inPlain false done f z) b ≡ false
     → eqb b (s .escape) ≡ true → (b ≡ 10 → ⊥)
-    → lineFrom s (stateIn outside false done f z) (b ∷ 10 ∷ bs) ≡ lineFrom s (stateIn outside false done (suc f) (suc (suc z))) bs
+    → lineFrom s (stateIn inPlain false done f z) (b ∷ 10 ∷ bs) ≡ lineFrom s (stateIn inPlain false done (suc f) (suc (suc z))) bs
 unfolding scan scanEscaped
 join-step s done f z b bs t e n =
-    let x = stateIn outside false done f z in
-    line-step s x b (10 ∷ bs) {n = dropped x outside true} (rw (t, e, ne-eqb b 10 n)) refl ∙ line-step s (dropped x outside true) 10 bs refl refl
+    let x = stateIn inPlain false done f z in
+    line-step s x b (10 ∷ bs) {n = dropped x inPlain true} (rw (t, e, ne-eqb b 10 n)) refl ∙ line-step s (dropped x inPlain true) 10 bs refl refl
 
 module _ (g : Signs) where
   -- a byte that stands
   reads-byte : (b : ℕ) (bs : List ℕ) → (b ≡ 10 → ⊥) → (b ≡ g .escape → ⊥)
-      → lineFrom (plainSigns g) (stateIn outside false [] 0 0) (b ∷ bs) .marks ≡ b ∷ lineFrom (plainSigns g) (stateIn (after outside b) (isBlank b) [] 0 0) bs .marks
+      → lineFrom (plainSigns g) (stateIn inPlain false [] 0 0) (b ∷ bs) .marks ≡ b ∷ lineFrom (plainSigns g) (stateIn (after inPlain b) (isBlank b) [] 0 0) bs .marks
   unfolding scan opensComment endsEntry
   reads-byte b bs n e =
-      let x = stateIn outside false [] 0 0 in
-      let m = stateIn (after outside b) (isBlank b) (b ∷ []) 0 1 in
+      let x = stateIn inPlain false [] 0 0 in
+      let m = stateIn (after inPlain b) (isBlank b) (b ∷ []) 0 1 in
       ap (λ (s : Scan). s .marks)
       (line-step (plainSigns g) x b bs {n = m} (rw (plain-as-is g x b, ne-eqb b 10 n, ne-eqb b (g .escape) e)) refl ∙ lineFrom-rest g m bs refl refl)
 
   -- an escape that ends the source
-  reads-last : (b : ℕ) → b ≡ g .escape → (b ≡ 10 → ⊥) → lineFrom (plainSigns g) (stateIn outside false [] 0 0) (b ∷ []) .marks ≡ (512 + b) ∷ []
+  reads-last : (b : ℕ) → b ≡ g .escape → (b ≡ 10 → ⊥) → lineFrom (plainSigns g) (stateIn inPlain false [] 0 0) (b ∷ []) .marks ≡ (512 + b) ∷ []
   unfolding scan lineFrom
-  reads-last b e n = rw (plain-as-is g (stateIn outside false [] 0 0) b, ne-eqb b 10 n, eq-eqb b (g .escape) e) (rw e refl)
+  reads-last b e n = rw (plain-as-is g (stateIn inPlain false [] 0 0) b, ne-eqb b 10 n, eq-eqb b (g .escape) e) (rw e refl)
 
   -- an escape before another byte
   reads-pair : (b c : ℕ) (bs : List ℕ) → b ≡ g .escape → (b ≡ 10 → ⊥) → (c ≡ 10 → ⊥)
-      → lineFrom (plainSigns g) (stateIn outside false [] 0 0) (b ∷ c ∷ bs) .marks ≡ (512 + c) ∷ lineFrom (plainSigns g) (stateIn outside false [] 0 0) bs .marks
+      → lineFrom (plainSigns g) (stateIn inPlain false [] 0 0) (b ∷ c ∷ bs) .marks ≡ (512 + c) ∷ lineFrom (plainSigns g) (stateIn inPlain false [] 0 0) bs .marks
   unfolding scan scanEscaped
   reads-pair b c bs e n k =
-      let x = stateIn outside false [] 0 0 in
-      let m = stateIn outside false ((512 + c) ∷ []) 0 2 in
+      let x = stateIn inPlain false [] 0 0 in
+      let m = stateIn inPlain false ((512 + c) ∷ []) 0 2 in
       ap (λ (s : Scan). s .marks)
-      (line-step (plainSigns g) x b (c ∷ bs) {n = dropped x outside true} (rw (plain-as-is g x b, ne-eqb b 10 n, eq-eqb b (g .escape) e)) refl
-      ∙ line-step (plainSigns g) (dropped x outside true) c bs {n = m} (rw (ne-eqb c 10 k)) refl
+      (line-step (plainSigns g) x b (c ∷ bs) {n = dropped x inPlain true} (rw (plain-as-is g x b, ne-eqb b 10 n, eq-eqb b (g .escape) e)) refl
+      ∙ line-step (plainSigns g) (dropped x inPlain true) c bs {n = m} (rw (ne-eqb c 10 k)) refl
       ∙ lineFrom-rest g m bs refl refl)
 
 -- the marks from a place on
-marks-at : (g : Signs) (src : List ℕ) (i : ℕ) {bs : List ℕ} → drop i src ≡ bs → marksLeft g src (plainAt i) ≡ lineFrom (plainSigns g) (stateIn outside false [] 0 0) bs .marks
+marks-at : (g : Signs) (src : List ℕ) (i : ℕ) {bs : List ℕ} → drop i src ≡ bs → marksLeft g src (plainAt i) ≡ lineFrom (plainSigns g) (stateIn inPlain false [] 0 0) bs .marks
 unfolding lineLeft
-marks-at g src i e = ap (λ (x : List ℕ). lineFrom (plainSigns g) (stateIn outside false [] 0 0) x .marks) e
+marks-at g src i e = ap (λ (x : List ℕ). lineFrom (plainSigns g) (stateIn inPlain false [] 0 0) x .marks) e
 
 -- a state with the same LFs and bytes
-same-state : {done : List ℕ} {f f′ z z′ : ℕ} → f ≡ f′ → z ≡ z′ → stateIn outside false done f z ≡ stateIn outside false done f′ z′
+same-state : {done : List ℕ} {f f′ z z′ : ℕ} → f ≡ f′ → z ≡ z′ → stateIn inPlain false done f z ≡ stateIn inPlain false done f′ z′
 same-state e h = rw (e, h)
 
 -- ## The loop
@@ -102,7 +102,7 @@ module _ {g : Signs} {src : List ℕ} {at i : ℕ} (v : Passed g src at i) where
             let b = getD src i 0 in
             record {
               mark = b;
-              rest = lineFrom (plainSigns g) (stateIn (after outside b) (isBlank b) [] 0 0) (drop (i + 1) src) .marks;
+              rest = lineFrom (plainSigns g) (stateIn (after inPlain b) (isBlank b) [] 0 0) (drop (i + 1) src) .marks;
               is = v .same ∙ marks-at g src i byte-here ∙ reads-byte g b (drop (i + 1) src) f n;
               solid = sym e ∙ y;
             }
@@ -131,7 +131,7 @@ module _ {g : Signs} {src : List ℕ} {at i : ℕ} (v : Passed g src at i) where
               let c = getD src (i + 1) 0 in
               record {
                 mark = 512 + c;
-                rest = lineFrom (plainSigns g) (stateIn outside false [] 0 0) (drop (i + 2) src) .marks;
+                rest = lineFrom (plainSigns g) (stateIn inPlain false [] 0 0) (drop (i + 2) src) .marks;
                 is = v .same ∙ marks-at g src i (byte-here ∙ ap (λ (x : List ℕ). b ∷ x) second) ∙ reads-pair g b c (drop (i + 2) src) n f k;
                 solid = blank-escaped (512 + c) (omega arith);
               }
@@ -143,8 +143,8 @@ module _ {g : Signs} {src : List ℕ} {at i : ℕ} (v : Passed g src at i) where
               let rest = drop (i + 2) src in
               let e : eqb b (g .escape) ≡ true = eq-eqb b (g .escape) n in
               let here : drop i src ≡ b ∷ 10 ∷ rest = byte-here ∙ ap (λ (x : List ℕ). b ∷ x) (second ∙ ap (λ (c : ℕ). c ∷ rest) k) in
-              let left : lineFrom (plainSigns g) (stateIn outside false [] 0 0) (drop i src) ≡ onto [] 1 2 (lineFrom (plainSigns g) (stateIn outside false [] 0 0) rest) =
-              rw here (join-step (plainSigns g) [] 0 0 b rest (plain-as-is g (stateIn outside false [] 0 0) b) e f ∙ lineFrom-onto g [] 1 2 (stateIn outside false [] 0 0) rest) in
+              let left : lineFrom (plainSigns g) (stateIn inPlain false [] 0 0) (drop i src) ≡ onto [] 1 2 (lineFrom (plainSigns g) (stateIn inPlain false [] 0 0) rest) =
+              rw here (join-step (plainSigns g) [] 0 0 b rest (plain-as-is g (stateIn inPlain false [] 0 0) b) e f ∙ lineFrom-onto g [] 1 2 (stateIn inPlain false [] 0 0) rest) in
               record {
                 feeds = v .feeds + 1;
                 bytes = v .bytes + 2;
@@ -153,7 +153,7 @@ module _ {g : Signs} {src : List ℕ} {at i : ℕ} (v : Passed g src at i) where
                 to = omega arith;
                 same = v .same ∙ ap (λ (s : Scan). s .marks) left;
                 goes = λ done f′ z. v .goes done f′ z
-                    ∙ ap (lineFrom (bodySigns g) (stateIn outside false done (f′ + v .feeds) (z + v .bytes))) here
-                    ∙ join-step (bodySigns g) done (f′ + v .feeds) (z + v .bytes) b rest (body-as-is g (stateIn outside false done (f′ + v .feeds) (z + v .bytes)) b) e f
+                    ∙ ap (lineFrom (bodySigns g) (stateIn inPlain false done (f′ + v .feeds) (z + v .bytes))) here
+                    ∙ join-step (bodySigns g) done (f′ + v .feeds) (z + v .bytes) b rest (body-as-is g (stateIn inPlain false done (f′ + v .feeds) (z + v .bytes)) b) e f
                     ∙ ap (λ (s : Scan). lineFrom (bodySigns g) s rest) (same-state {done = done} (omega arith) (omega arith));
               }

@@ -10,7 +10,7 @@ use Rattle.rules.specs.Names.{isBlank, nameRefusal, namesRefusal, isAnyHex, dig
 use Rattle.rules.specs.Tokens.{isText, gap, broken, word, name, Token, token, tokenAt, theName, noPart, tokensFrom, tokensOf, withoutOpeningGaps, isRange, isEntry}
 use Rattle.rules.specs.Charmap.{lastToken}
 use Rattle.rules.specs.Lines as paper
-use Rattle.rules.specs.Lines.{outside, comment, Scan, lineFrom, lineOf}
+use Rattle.rules.specs.Lines.{inPlain, inComment, Scan, lineFrom, lineOf}
 use Rattle.text_lines.specs.declared.Signs.{Signs}
 use Rattle.text_lines.specs.declared.Spot.{Spot}
 use Rattle.text_lines.specs.Stream.{stateIn, lineLeft, marksLeft, lineStart, Run}
@@ -39,11 +39,11 @@ bodySigns g = record { comment = g .comment; escape = g .escape; outside = false
 
 -- a spot in plain mode right after a mark that is no blank
 abbrev pub plainAt : ℕ → Spot
-plainAt at = record { at = at; mode = outside; fresh = false }
+plainAt at = record { at = at; mode = inPlain; fresh = false }
 
 -- a spot in a comment
 abbrev pub hiddenAt : ℕ → Spot
-hiddenAt at = record { at = at; mode = comment; fresh = false }
+hiddenAt at = record { at = at; mode = inComment; fresh = false }
 
 -- the line ends here, or a blank stands here
 abbrev pub stops : ℕ → List ℕ → Bool
@@ -59,8 +59,8 @@ pub record Passed (g : Signs) (src : List ℕ) (at i : ℕ) : Type 0 where
   pub to : i ≤ length src
   pub same : marksLeft g src (plainAt at) ≡ marksLeft g src (plainAt i)
   pub goes : (done : List ℕ) (f z : ℕ)
-      → lineFrom (bodySigns g) (stateIn outside false done f z) (drop at src)
-      ≡ lineFrom (bodySigns g) (stateIn outside false done (f + feeds) (z + bytes)) (drop i src)
+      → lineFrom (bodySigns g) (stateIn inPlain false done f z) (drop at src)
+      ≡ lineFrom (bodySigns g) (stateIn inPlain false done (f + feeds) (z + bytes)) (drop i src)
 
 -- The marks of an entry end at a place behind joins.
 pub record Closing (g : Signs) (src : List ℕ) (at i : ℕ) : Type 0 where
@@ -123,7 +123,7 @@ pub record TwoDigits (g : Signs) (src : List ℕ) (p : Spot) (v : ℕ) (q : Spot
   pub value : hexValue 0 (first ∷ second ∷ []) ≡ v
   pub feeds : ℕ
   pub run : Run g src (first ∷ second ∷ []) feeds p q
-  pub mode : q .mode ≡ outside
+  pub mode : q .mode ≡ inPlain
   pub fresh : q .fresh ≡ false
   pub on : p .at < q .at
   pub to : q .at ≤ length src
@@ -142,7 +142,7 @@ pub record PairIs (g : Signs) (src : List ℕ) (p : Spot) (v i : ℕ) : Type 0 w
   pub stop : Spot
   pub feeds : ℕ
   pub run : Run g src (632 ∷ first ∷ second ∷ []) feeds p stop
-  pub mode : stop .mode ≡ outside
+  pub mode : stop .mode ≡ inPlain
   pub fresh : stop .fresh ≡ false
   pub on : p .at < stop .at
   pub closing : Closing g src (stop .at) i
@@ -177,7 +177,7 @@ pub record NameIs (g : Signs) (src : List ℕ) (p : Spot) (f : ℕ) (q r : Spot)
   pub tokens : (ms : List ℕ) → tokensFrom (noPart []) (60 ∷ (more ++ ms)) ≡ token name [] (nameLeft g src q ∷ []) ∷ tokensFrom (noPart []) ms
   pub refusal : nameRefusal (nameLeft g src q) ≡ f
   pub text : every isText more ≡ every isText (nameLeft g src q)
-  pub mode : r .mode ≡ outside
+  pub mode : r .mode ≡ inPlain
   pub inside : q .at ≤ length src
   pub on : p .at < r .at
   pub to : r .at ≤ length src
@@ -216,7 +216,7 @@ pub record HeadIs (g : Signs) (src : List ℕ) (p : Spot) (h : Head) : Type 0 wh
   pub refusal : namesRefusal (nameLeft g src (h .first) ∷ nameLeft g src (h .last) ∷ []) ≡ h .refusal
   pub text : every isText more ≡ (every isText (nameLeft g src (h .first)) && every isText (nameLeft g src (h .last)))
   pub opens : opensEntry (tokensLeft g src p) ≡ byteBy opensPair (tokensLeft g src (h .next))
-  pub mode : h .next .mode ≡ outside
+  pub mode : h .next .mode ≡ inPlain
   pub first-to : h .first .at ≤ length src
   pub last-to : h .last .at ≤ length src
   pub on : p .at < h .next .at

@@ -6,11 +6,11 @@ ghost use Rattle.rules.specs.Tokens.{isText};
 ghost use Prim.Native.Nat.{_≤_};
 ghost use lib.ListN.{length};
 ghost use Rattle.base_lists.proofs.Runs.{run};
-ghost use Rattle.rules.specs.Lines.{outside};
+ghost use Rattle.rules.specs.Lines.{inPlain};
 ghost use Rattle.text_names.specs.Named.{nameLeft};
 ghost use Rattle.charmap_entry.specs.Entered.{hexOf, TailIs, DigitsAre, EscapedIs, GapIs, NamedIs, DottedIs, HeadsAre, feedsIn, Whole, PartsAre, EntryIs};
-use text_lines::COMMENT;
-use text_lines::OUTSIDE;
+use text_lines::IN_COMMENT;
+use text_lines::IN_PLAIN;
 use text_lines::Signs;
 use text_lines::Spot;
 use text_lines::Step;
@@ -142,7 +142,7 @@ fn tail_at(src: &[u8], g: Signs, at: usize) -> Tail
 
 // The two hex digits at a spot.
 fn two_digits(src: &[u8], g: Signs, p: Spot) -> Two
-    requires { ⌜ (p .at ≤ length (now src)) × (p .mode ≡ outside) ⌝ }
+    requires { ⌜ (p .at ≤ length (now src)) × (p .mode ≡ inPlain) ⌝ }
     ensures { λ r. ⌜ DigitsAre g (now (src .entry)) p r ⌝ }
 {
     let s = next_mark(src, g, p);
@@ -170,7 +170,7 @@ fn two_digits(src: &[u8], g: Signs, p: Spot) -> Two
 
 // Escape `x` and two hex digits at a spot, with nothing behind them but a blank.
 fn escaped_byte(src: &[u8], g: Signs, p: Spot) -> Byte
-    requires { ⌜ (p .at ≤ length (now src)) × (p .mode ≡ outside) ⌝ }
+    requires { ⌜ (p .at ≤ length (now src)) × (p .mode ≡ inPlain) ⌝ }
     ensures { λ r. ⌜ EscapedIs g (now (src .entry)) p r ⌝ }
 {
     let s = next_mark(src, g, p);
@@ -197,7 +197,7 @@ fn escaped_byte(src: &[u8], g: Signs, p: Spot) -> Byte
 
 // The byte behind the names of an entry: blanks stand before it.
 fn byte_at(src: &[u8], g: Signs, p: Spot) -> Byte
-    requires { ⌜ (p .at ≤ length (now src)) × (p .mode ≡ outside) ⌝ }
+    requires { ⌜ (p .at ≤ length (now src)) × (p .mode ≡ inPlain) ⌝ }
     ensures { λ r. ⌜ GapIs g (now (src .entry)) p r ⌝ }
 {
     let s = next_mark(src, g, p);
@@ -217,7 +217,7 @@ fn byte_at(src: &[u8], g: Signs, p: Spot) -> Byte
 
 // The name at a spot.
 fn name_at(src: &[u8], g: Signs, p: Spot) -> Name
-    requires { ⌜ (p .at ≤ length (now src)) × (p .mode ≡ outside) ⌝ }
+    requires { ⌜ (p .at ≤ length (now src)) × (p .mode ≡ inPlain) ⌝ }
     ensures { λ r. ⌜ NamedIs g (now (src .entry)) p r ⌝ }
 {
     let s = next_mark(src, g, p);
@@ -238,7 +238,7 @@ fn name_at(src: &[u8], g: Signs, p: Spot) -> Name
 
 // The last name of a range, from the spot behind its first dot on.
 fn second_name(src: &[u8], g: Signs, p: Spot) -> Name
-    requires { ⌜ (p .at ≤ length (now src)) × (p .mode ≡ outside) ⌝ }
+    requires { ⌜ (p .at ≤ length (now src)) × (p .mode ≡ inPlain) ⌝ }
     ensures { λ r. ⌜ DottedIs g (now (src .entry)) p r ⌝ }
 {
     let s = next_mark(src, g, p);
@@ -255,7 +255,7 @@ fn second_name(src: &[u8], g: Signs, p: Spot) -> Name
 
 // The name or the range at a spot.
 fn names_at(src: &[u8], g: Signs, p: Spot) -> Heads
-    requires { ⌜ (p .at ≤ length (now src)) × (p .mode ≡ outside) ⌝ }
+    requires { ⌜ (p .at ≤ length (now src)) × (p .mode ≡ inPlain) ⌝ }
     ensures { λ r. ⌜ HeadsAre g (now (src .entry)) p r ⌝ }
 {
     let n = name_at(src, g, p);
@@ -358,7 +358,7 @@ fn parts_of(src: &[u8], g: Signs, at: usize, h: Head, v: u8, i: usize) -> Parts
 {
     let y = Spot {
         at: i,
-        mode: COMMENT,
+        mode: IN_COMMENT,
         fresh: false,
     };
     let c = line_end(src, g, y);
@@ -386,7 +386,7 @@ pub fn entry_at(src: &[u8], g: Signs, at: usize) -> Entry
 {
     let p = Spot {
         at: at,
-        mode: OUTSIDE,
+        mode: IN_PLAIN,
         fresh: true,
     };
     let q = skip_gaps(src, g, p);

@@ -12,7 +12,7 @@ use Rattle.rules.specs.Text.{if_then_else_, bytes, every, oneOf, is, same, begi
 use Rattle.rules.specs.Names.{isBlank}
 use Rattle.rules.specs.Tokens as kind
 use Rattle.rules.specs.Tokens.{isText, gap, broken, Token, token, theName, lexed, noPart, lex, tokensFrom, withoutBlanks, tokensOf, withoutGaps}
-use Rattle.rules.specs.Lines.{outside, after, isSignHeader, takesAsIs}
+use Rattle.rules.specs.Lines.{inPlain, after, isSignHeader, takesAsIs}
 use Rattle.rules.specs.Charmap.{isHeader, headerLine}
 use Rattle.rules.proofs.TextLaws.{every-head, every-tail, every-both, every-mono, every-cons}
 use Rattle.text_lines.specs.declared.Signs.{Signs}
@@ -61,7 +61,7 @@ skips-as {src} {f} {g} {o} {p} {q} a b w = subst (λ (x : Spot). Skips f src x q
 pub head-start : (src : List ℕ) {at : ℕ} {p : Spot} → at < length src → p ≡ lineStart at → p .at ≤ length src
 head-start src i e = rw e (omega arith)
 
-pub head-mode : {at : ℕ} {p : Spot} → p ≡ lineStart at → p .mode ≡ outside
+pub head-mode : {at : ℕ} {p : Spot} → p ≡ lineStart at → p .mode ≡ inPlain
 head-mode e = rw e
 
 -- ## Lines that are plain
@@ -350,7 +350,7 @@ module _ {src : List ℕ} {h : Chars} {at : ℕ} {x : Spot} {comment : Bool} (v 
         kind = header-kind g;
         feeds = v .feeds;
         run = v .run;
-        quiet = never-quiet (header-kind g) (v .marks) (sign-never g (v .marks) (rw t (opens-alone (token kind.name [] (keyword comment ∷ []))))) outside [] (v .marks) (v .last) refl refl;
+        quiet = never-quiet (header-kind g) (v .marks) (sign-never g (v .marks) (rw t (opens-alone (token kind.name [] (keyword comment ∷ []))))) inPlain [] (v .marks) (v .last) refl refl;
         mode = v .mode;
         fresh = v .fresh;
       }
@@ -384,7 +384,7 @@ module _ {src : List ℕ} {h : Chars} {at : ℕ} {x : Spot} {comment : Bool} (v 
       named-here : isSignHeader ((v .marks ++ v .last ∷ []) ++ there .before .blanks) ≡ true
       named-here = signed-line comment (v .marks) (v .last) (there .before .blanks) (v .named) are
 
-      takes : (f z : ℕ) → takesAsIs (headerSigns (signsOf h)) (stateIn outside true ((v .marks ++ v .last ∷ []) ++ there .before .blanks) f z) b ≡ true
+      takes : (f z : ℕ) → takesAsIs (headerSigns (signsOf h)) (stateIn inPlain true ((v .marks ++ v .last ∷ []) ++ there .before .blanks) f z) b ≡ true
       unfolding takesAsIs
       takes f z = rw (there .solid, named-here)
 

@@ -13,7 +13,7 @@ use Rattle.rules.specs.Names.{isBlank}
 use Rattle.rules.specs.Tokens as kind
 use Rattle.rules.specs.Tokens.{gap, broken, quote, quotedPart, Token, token, tokenAt, theName, Lexed, lexed, noPart, lexNone, lex, lexEnd, tokensFrom, withoutBlanks, tokensOf, withoutGaps}
 use Rattle.rules.specs.Lines as paper
-use Rattle.rules.specs.Lines.{outside, Scan, isSignHeader, takesAsIs, lineOf}
+use Rattle.rules.specs.Lines.{inPlain, Scan, isSignHeader, takesAsIs, lineOf}
 use Rattle.text_lines.specs.declared.Signs.{Signs}
 use Rattle.text_lines.specs.Stream.{plainSigns, freshThrough}
 use Rattle.base_lists.proofs.Lists.{length-zero}
@@ -146,7 +146,7 @@ header-kind g = record { like = record { comment = refl; escape = refl }; free =
 
 takes-not : (g : Signs) (x : Scan) (b : ℕ) → isSignHeader (x .marks) ≡ false → takesAsIs (headerSigns g) x b ≡ false
 unfolding takesAsIs
-takes-not g x b e = rw e (and-false (eqb (x .mode) outside && x .fresh && not (isBlank b)))
+takes-not g x b e = rw e (and-false (eqb (x .mode) inPlain && x .fresh && not (isBlank b)))
 
 pub sign-past : (g : Signs) (ms : List ℕ) (m : ℕ) → isSignHeader ms ≡ true → isBlank m ≡ false → Past (headerSigns g) (ms ++ m ∷ [])
 unfolding Past

@@ -7,7 +7,7 @@ use lib.ListN.{length, drop}
 use Rattle.rules.specs.Text.{every, is, _unless_, lower}
 use Rattle.rules.specs.Names.{isBlank}
 use Rattle.rules.specs.Tokens.{isText, name, Token, token, tokenAt, noPart, tokensFrom, tokensOf, operands}
-use Rattle.rules.specs.Lines.{outside, Scan, lineOf}
+use Rattle.rules.specs.Lines.{inPlain, Scan, lineOf}
 use Rattle.rules.specs.Charmap.{Mapping, MapOutcome, leaves, isHeader, isWord, headerLine, mapSigns}
 use Rattle.text_lines.specs.declared.Signs.{Signs}
 use Rattle.text_lines.specs.declared.Spot.{Spot}
@@ -114,7 +114,7 @@ pub record SignNamed (src : List ℕ) (h : Chars) (at : ℕ) (p : Spot) (comment
   pub named : Named comment marks
   pub feeds : ℕ
   pub run : Run (signsOf h) src marks feeds (lineStart at) p
-  pub mode : p .mode ≡ outside
+  pub mode : p .mode ≡ inPlain
   pub to : p .at ≤ length src
 
 -- A blank stands after it; the spot after that.
@@ -127,7 +127,7 @@ pub record SignOpened (src : List ℕ) (h : Chars) (at : ℕ) (x : Spot) (commen
   pub blank : isBlank last ≡ true
   pub feeds : ℕ
   pub run : Run (signsOf h) src (marks ++ last ∷ []) feeds (lineStart at) x
-  pub mode : x .mode ≡ outside
+  pub mode : x .mode ≡ inPlain
   pub fresh : x .fresh ≡ true
   pub to : x .at ≤ length src
 

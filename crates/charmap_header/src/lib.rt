@@ -5,7 +5,7 @@ ghost use Prim.Native.Nat.{_+_, _≤_, _<_};
 ghost use lib.ListN.{length};
 ghost use lib.Dec.{eqb};
 ghost use Rattle.rules.specs.Tokens.{isText, withoutOpeningGaps};
-ghost use Rattle.rules.specs.Lines.{outside};
+ghost use Rattle.rules.specs.Lines.{inPlain};
 ghost use Rattle.text_lines.specs.Stream.{lineStart};
 ghost use Rattle.text_tokens.specs.Left.{tokensLeft};
 ghost use Rattle.text_names.specs.Named.{nameLeft};
@@ -14,7 +14,7 @@ ghost use Rattle.charmap_header.specs.Head.{signsOf, HeadingIs, isOpenin
 use text_as_is::Found;
 use text_as_is::Keyword;
 use text_as_is::after_blanks;
-use text_lines::OUTSIDE;
+use text_lines::IN_PLAIN;
 use text_lines::Signs;
 use text_lines::Spot;
 use text_lines::Step;
@@ -54,7 +54,7 @@ fn start_of(at: usize) -> Spot
 {
     Spot {
         at: at,
-        mode: OUTSIDE,
+        mode: IN_PLAIN,
         fresh: true,
     }
 }
@@ -68,7 +68,7 @@ fn wide(b: u8) -> u16
 
 // Whether no token but blanks is still to come.
 fn ends(src: &[u8], g: Signs, p: Spot) -> bool
-    requires { ⌜ (p .at ≤ length (now src)) × (p .mode ≡ outside) ⌝ }
+    requires { ⌜ (p .at ≤ length (now src)) × (p .mode ≡ inPlain) ⌝ }
     ensures { λ r. ⌜ r ≡ eqb (length (withoutOpeningGaps (tokensLeft g (now (src .entry)) p))) 0 ⌝ }
 {
     let q = skip_gaps(src, g, p);
@@ -81,7 +81,7 @@ fn ends(src: &[u8], g: Signs, p: Spot) -> bool
 
 // Whether CHARMAP stands alone from a spot on.
 fn is_opening(src: &[u8], g: Signs, p: Spot) -> bool
-    requires { ⌜ (p .at ≤ length (now src)) × (p .mode ≡ outside) ⌝ }
+    requires { ⌜ (p .at ≤ length (now src)) × (p .mode ≡ inPlain) ⌝ }
     ensures { λ r. ⌜ r ≡ isOpening (tokensLeft g (now (src .entry)) p) ⌝ }
 {
     if word_is(src, g, p, b"CHARMAP") {
@@ -168,7 +168,7 @@ fn byte_line(src: &[u8], h: Chars, at: usize, x: Spot, comment: bool) -> Heading
             let d = line_end(src, signs_of(h), x);
             let rest = Spot {
                 at: i + 1,
-                mode: OUTSIDE,
+                mode: IN_PLAIN,
                 fresh: false,
             };
             return set_line(src, h, at, comment, b, a.feeds - d.feeds, rest);

@@ -9,7 +9,7 @@ use locale_opening::refusal_with;
 use locale_sheet::BEFORE_ORDER;
 use locale_sheet::Block;
 use locale_sheet::Sheet;
-use text_lines::OUTSIDE;
+use text_lines::IN_PLAIN;
 use text_lines::Signs;
 use text_lines::Spot;
 use text_lines::line_end;
@@ -51,7 +51,7 @@ fn stray_refusal(src: &[u8], g: Signs, at: usize) -> u8
 {
     let p = Spot {
         at: at,
-        mode: OUTSIDE,
+        mode: IN_PLAIN,
         fresh: true,
     };
     let e = line_end(src, g, p);

@@ -5,7 +5,7 @@ ghost use mathlib.Core.Bool.{_||_};
 ghost use Prim.Native.Nat.{_≤_};
 ghost use lib.ListN.{length};
 ghost use lib.Dec.{eqb};
-ghost use Rattle.rules.specs.Lines.{outside};
+ghost use Rattle.rules.specs.Lines.{inPlain};
 ghost use Rattle.rules.specs.Tokens.{operands};
 ghost use Rattle.rules.specs.State.{beforeOrder, afterOrder};
 ghost use Rattle.text_tokens.specs.Left.{tokensLeft};
@@ -91,7 +91,7 @@ pub fn order_end_line(src: &[u8], g: Signs, sh: Sheet, at: usize, p: Spot, e: Li
 
 // Whether a line's operands are the word LC_COLLATE, from the spot after its first token on.
 fn collate_alone(src: &[u8], g: Signs, p: Spot) -> bool
-    requires { ⌜ (p .at ≤ length (now src)) × (p .mode ≡ outside) ⌝ }
+    requires { ⌜ (p .at ≤ length (now src)) × (p .mode ≡ inPlain) ⌝ }
     ensures { λ r. ⌜ CollateIs (operands (tokensLeft g (now (src .entry)) p)) r ⌝ }
 {
     let o = single_word(src, g, p);

@@ -12,7 +12,7 @@ use Rattle.base_lists.proofs.Bools.{by, clash, and-left, and-right}
 use Rattle.base_lists.proofs.Lists.{length-zero}
 use Rattle.rules.specs.Text.{bytes, every, is}
 use Rattle.rules.specs.Names.{isBlank}
-use Rattle.rules.specs.Lines.{outside, quoted}
+use Rattle.rules.specs.Lines.{inPlain, quoted}
 use Rattle.rules.specs.Tokens.{word, quote, Token, token, tokenAt, single, noPart, inWord, tokensFrom, withoutGaps}
 use Rattle.rules.proofs.TextLaws.{same-true, every-head}
 use Rattle.text_lines.specs.declared.Signs.{Signs}
@@ -59,7 +59,7 @@ quotes-marks (p ∷ []) rest e h =
     (λ u. absurd (let z = after-quoted {mode = 2} {b = p} refl (eqb-false p 60 u) (eqb-false p 34 t) in omega (arith, e, z))))
 quotes-marks (p ∷ q ∷ ps) rest e h = omega arith
 
-quotes-long : {g : Signs} {src : List ℕ} {s e : Spot} → Walk g src s e → s .mode ≡ quoted → e .mode ≡ outside
+quotes-long : {g : Signs} {src : List ℕ} {s e : Spot} → Walk g src s e → s .mode ≡ quoted → e .mode ≡ inPlain
     → 1 ≤ length (namesIn (marksLeft g src s)) → s .at + 2 ≤ e .at
 quotes-long {g} {src} {s} {e} w h k n =
     let l = quotes-marks (w .passed) (marksLeft g src e) (sym k ∙ w .run .mode ∙ ap (λ (m : ℕ). modeThrough m (w .passed)) h) (rw (run-marks g src s (w .run)) at n) in
@@ -82,7 +82,7 @@ module _ (g : Signs) (src : List ℕ) (x : Spot) {o : Operand} (v : OperandIs g 
     pub alone-to : t .next .at ≤ length src
     alone-to = at .token .to
 
-    pub alone-plain : t .next .mode ≡ outside
+    pub alone-plain : t .next .mode ≡ inPlain
     alone-plain = at .token .plain
 
     pub alone-other : (t .kind ≡ 6 → ⊥) → Unfit (operandsLeft g src true x) (single quote (operandsLeft g src true x))
@@ -218,7 +218,7 @@ module _ (g : Signs) (src : List ℕ) (x : Spot) {o : Operand} (v : OperandIs g 
     pub from-to : q .at ≤ length src
     from-to = here .to
 
-    pub from-mode : q .mode ≡ outside
+    pub from-mode : q .mode ≡ inPlain
     from-mode = here .mode
 
     module _ {b : Bool} (f : b ≡ is (wordIn (marksLeft g src q)) "from") where

@@ -5,7 +5,7 @@ ghost use Prim.Native.Nat.{_+_, _/_, _≤_};
 ghost use lib.ListN.{length};
 ghost use Rattle.rules.specs.Text.{every};
 ghost use Rattle.rules.specs.Names.{isCharName};
-ghost use Rattle.rules.specs.Lines.{outside, quoted};
+ghost use Rattle.rules.specs.Lines.{inPlain, quoted};
 ghost use Rattle.text_lines.specs.Stream.{marksLeft};
 ghost use Rattle.text_tokens.specs.Left.{namesIn, isInside};
 ghost use Rattle.text_names.specs.Named.{nameLeft};
@@ -52,7 +52,7 @@ pub enum Element {
 
 // Whether quotes are the one operand still to come after another.
 fn quotes_alone(src: &[u8], g: Signs, x: Spot) -> Tail
-    requires { ⌜ (x .at ≤ length (now src)) × (x .mode ≡ outside) ⌝ }
+    requires { ⌜ (x .at ≤ length (now src)) × (x .mode ≡ inPlain) ⌝ }
     ensures { λ r. ⌜ AloneIs g (now (src .entry)) x r ⌝ }
 {
     let o = next_operand(src, g, x, true);
@@ -75,7 +75,7 @@ fn quotes_alone(src: &[u8], g: Signs, x: Spot) -> Tail
 
 // Whether `from` and quotes are the operands still to come after a name.
 fn quotes_after_from(src: &[u8], g: Signs, x: Spot) -> Tail
-    requires { ⌜ (x .at ≤ length (now src)) × (x .mode ≡ outside) ⌝ }
+    requires { ⌜ (x .at ≤ length (now src)) × (x .mode ≡ inPlain) ⌝ }
     ensures { λ r. ⌜ FromIs g (now (src .entry)) x r ⌝ }
 {
     let o = next_operand(src, g, x, true);
@@ -162,7 +162,7 @@ fn element_fault(src: &[u8], g: Signs, work: &[u32], i: Spot, s: Spot, n: usize)
 
 // The marks that the line is to declare, or its refusal.
 fn check_element(src: &[u8], g: Signs, work: &[u32], p: Spot) -> Element
-    requires { ⌜ (p .at ≤ length (now src)) × (p .mode ≡ outside) ⌝ }
+    requires { ⌜ (p .at ≤ length (now src)) × (p .mode ≡ inPlain) ⌝ }
     requires { ⌜ Sound (keyAt g (now src)) (length (now src)) (now work) ⌝ }
     ensures { λ r. ⌜ ElementChecked g (now (src .entry)) p (now (work .entry)) r ⌝ }
 {
@@ -199,7 +199,7 @@ fn declare_both(src: &[u8], g: Signs, work: &mut [u32], v: usize, q: usize)
 
 // A line `collating-element <name> from "<U..><U..>"`, from the spot after its first word on.
 pub fn element_line(src: &[u8], g: Signs, work: &mut [u32], p: Spot) -> Element
-    requires { ⌜ (p .at ≤ length (now src)) × (p .mode ≡ outside) ⌝ }
+    requires { ⌜ (p .at ≤ length (now src)) × (p .mode ≡ inPlain) ⌝ }
     requires { ⌜ Sound (keyAt g (now src)) (length (now src)) (now work) ⌝ }
     ensures { λ r. ⌜ ElementIs g (now (src .entry)) p (now (work .entry)) (now (work .exit)) r ⌝ }
 {

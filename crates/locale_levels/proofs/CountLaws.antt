@@ -9,7 +9,7 @@ use lib.Dec.{leb}
 use borrow.Author.Tests.{le-leb, lt-leb}
 use Rattle.base_lists.proofs.Bools.{by}
 use Rattle.rules.specs.Text.{every, lower}
-use Rattle.rules.specs.Lines.{outside}
+use Rattle.rules.specs.Lines.{inPlain}
 use Rattle.rules.specs.Tokens.{Token, tokensRefusal}
 use Rattle.rules.specs.OrderLines.{rulesFormed}
 use Rattle.text_lines.specs.declared.Signs.{Signs}
@@ -52,11 +52,11 @@ pub record Passed (g : Signs) (src : List ℕ) (p q : Spot) (n : ℕ) (known : B
   pub all : every (leb 1) (codesLeft g src p) ≡ (known && every (leb 1) (codesLeft g src q))
   pub formed : rulesFormed false (operandsLeft g src false p) ≡ rulesFormed false (operandsLeft g src false q)
   pub refusal : tokensRefusal (operandsLeft g src false q) ≡ 3 → tokensRefusal (operandsLeft g src false p) ≡ 3
-  pub mode : q .mode ≡ outside
+  pub mode : q .mode ≡ inPlain
   pub from : n + p .at ≤ q .at
   pub to : q .at ≤ length src
 
-pub passed-none : (g : Signs) (src : List ℕ) (p : Spot) → p .at ≤ length src → p .mode ≡ outside → Passed g src p p 0 true
+pub passed-none : (g : Signs) (src : List ℕ) (p : Spot) → p .at ≤ length src → p .mode ≡ inPlain → Passed g src p p 0 true
 passed-none g src p h m = record { many = omega arith; all = refl; formed = refl; refusal = λ e. e; mode = m; from = omega arith; to = h }
 
 module _ (g : Signs) (src : List ℕ) (p q : Spot) (n : ℕ) (known : Bool) {s : RuleStep} (v : Passed g src p q n known) (w : RuleIs g src q s) where

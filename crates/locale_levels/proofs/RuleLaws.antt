@@ -10,7 +10,7 @@ use lib.Dec.{eqb, leb}
 use borrow.Author.Tests.{ne-eqb}
 use Rattle.base_lists.proofs.Bools.{by, and-left, and-right}
 use Rattle.rules.specs.Text.{lower}
-use Rattle.rules.specs.Lines.{outside}
+use Rattle.rules.specs.Lines.{inPlain}
 use Rattle.rules.specs.Tokens.{semi, broken, quote, Token, isSolid, tokensRefusal}
 use Rattle.rules.specs.OrderLines.{splitAt, ruleCode, rulesFormed}
 use Rattle.text_lines.specs.declared.Signs.{Signs}
@@ -81,11 +81,11 @@ pub record Begun (g : Signs) (src : List ℕ) (p q : Spot) (held : Bool) (s : �
   pub split : splitAt [] (operandsLeft g src false p) ≡ splitAt part (operandsLeft g src held q)
   pub formed : rulesFormed false (operandsLeft g src false p) ≡ rulesFormed held (operandsLeft g src held q)
   pub refusal : tokensRefusal (operandsLeft g src held q) ≡ 3 → tokensRefusal (operandsLeft g src false p) ≡ 3
-  pub mode : q .mode ≡ outside
+  pub mode : q .mode ≡ inPlain
   pub from : p .at ≤ q .at
   pub to : q .at ≤ length src
 
-pub begun-none : (g : Signs) (src : List ℕ) (p : Spot) → p .at ≤ length src → p .mode ≡ outside → Begun g src p p false 0
+pub begun-none : (g : Signs) (src : List ℕ) (p : Spot) → p .at ≤ length src → p .mode ≡ inPlain → Begun g src p p false 0
 unfolding stateOf
 begun-none g src p h m = record { part = []; state = refl; split = refl; formed = refl; refusal = λ e. e; mode = m; from = omega arith; to = h }
 

@@ -10,7 +10,7 @@ use lib.Seq.{sets}
 use lib.Dec.{eqb}
 use borrow.Author.Tests.{ne-eqb, le-leb, lt-leb, eqb-true}
 use Rattle.base_lists.proofs.Lists.{length-zero}
-use Rattle.rules.specs.Lines.{outside}
+use Rattle.rules.specs.Lines.{inPlain}
 use Rattle.rules.specs.Tokens.{Token, operands}
 use Rattle.rules.specs.OrderLines.{ruleOf, ruleCodes}
 use Rattle.rules.specs.Table.{ruleNumber}
@@ -55,10 +55,10 @@ pub record Writing (g : Signs) (src : List ℕ) (p : Spot) (room : List ℕ) (at
   pub inside : i + length (codesLeft g src q) ≤ length now
   pub long : length now ≡ length room
   pub whole : malformed (operandsLeft g src false q) ≡ 3 → ⊥
-  pub mode : q .mode ≡ outside
+  pub mode : q .mode ≡ inPlain
   pub to : q .at ≤ length src
 
-pub writing-none : (g : Signs) (src : List ℕ) (p : Spot) (room : List ℕ) (at : ℕ) → p .at ≤ length src → p .mode ≡ outside → LeftFits g src p room at
+pub writing-none : (g : Signs) (src : List ℕ) (p : Spot) (room : List ℕ) (at : ℕ) → p .at ≤ length src → p .mode ≡ inPlain → LeftFits g src p room at
     → Writing g src p room at p room at
 writing-none g src p room at h m v = record { same = refl; inside = v .inside; long = refl; whole = v .whole; mode = m; to = h }
 

@@ -7,7 +7,7 @@ use Prim.Native.Nat.{ℕ, _≤_, _<_}
 use lib.ListN.{length}
 use lib.Dec.{eqb, leb}
 use Rattle.rules.specs.Text.{if_then_else_, _unless_, lower}
-use Rattle.rules.specs.Lines.{outside}
+use Rattle.rules.specs.Lines.{inPlain}
 use Rattle.rules.specs.Tokens.{comma, Token, tokensRefusal}
 use Rattle.rules.specs.OrderLines.{splitAt, ruleWord, ruleCode, rulesFormed}
 use Rattle.text_lines.specs.declared.Signs.{Signs}
@@ -51,7 +51,7 @@ pub record RuleMore (g : Signs) (src : List ℕ) (p : Spot) (code : ℕ) (next :
   pub codes : codesLeft g src p ≡ code ∷ codesLeft g src next
   pub formed : rulesFormed false (operandsLeft g src false p) ≡ rulesFormed false (operandsLeft g src false next)
   pub refusal : tokensRefusal (operandsLeft g src false next) ≡ 3 → tokensRefusal (operandsLeft g src false p) ≡ 3
-  pub mode : next .mode ≡ outside
+  pub mode : next .mode ≡ inPlain
   pub on : p .at < next .at
   pub to : next .at ≤ length src
 

@@ -5,7 +5,7 @@ ghost use Prim.Native.Nat.{_≤_};
 ghost use lib.ListN.{length};
 ghost use lib.Seq.{sets};
 ghost use lib.Dec.{leb, eqb};
-ghost use Rattle.rules.specs.Lines.{outside};
+ghost use Rattle.rules.specs.Lines.{inPlain};
 ghost use Rattle.rules.specs.Tokens.{operands};
 ghost use Rattle.rules.specs.OrderLines.{ruleOf, ruleCodes};
 ghost use Rattle.rules.specs.Table.{ruleNumber};
@@ -147,7 +147,7 @@ fn well_placed(held: bool, kind: u8) -> bool
 
 // The next rule.
 fn rule_at(src: &[u8], g: Signs, p: Spot) -> RuleStep
-    requires { ⌜ (p .at ≤ length (now src)) × (p .mode ≡ outside) ⌝ }
+    requires { ⌜ (p .at ≤ length (now src)) × (p .mode ≡ inPlain) ⌝ }
     ensures { λ r. ⌜ RuleIs g (now (src .entry)) p r ⌝ }
 {
     let mut q = p;
@@ -187,7 +187,7 @@ fn known_with(known: bool, code: u8) -> bool
 
 // The rules from a spot on, counted.
 fn rules_left(src: &[u8], g: Signs, p: Spot) -> Tally
-    requires { ⌜ (p .at ≤ length (now src)) × (p .mode ≡ outside) ⌝ }
+    requires { ⌜ (p .at ≤ length (now src)) × (p .mode ≡ inPlain) ⌝ }
     ensures { λ r. ⌜ TallyIs g (now (src .entry)) p r ⌝ }
 {
     let mut q = p;
@@ -233,7 +233,7 @@ fn judged(refusal: u8, n: usize, known: bool) -> Levels
 
 // The levels of the operands still to come.
 fn levels_left(src: &[u8], g: Signs, p: Spot) -> Levels
-    requires { ⌜ (p .at ≤ length (now src)) × (p .mode ≡ outside) ⌝ }
+    requires { ⌜ (p .at ≤ length (now src)) × (p .mode ≡ inPlain) ⌝ }
     ensures { λ r. ⌜ LevelsIs (operandsLeft g (now (src .entry)) false p) r ⌝ }
 {
     if none_left(src, g, p, false) {
@@ -248,7 +248,7 @@ fn levels_left(src: &[u8], g: Signs, p: Spot) -> Levels
 
 // The levels that the operands of `order_start` give, from the spot after that word on.
 pub fn levels_of(src: &[u8], g: Signs, p: Spot) -> Levels
-    requires { ⌜ (p .at ≤ length (now src)) × (p .mode ≡ outside) ⌝ }
+    requires { ⌜ (p .at ≤ length (now src)) × (p .mode ≡ inPlain) ⌝ }
     ensures { λ r. ⌜ LevelsIs (operands (tokensLeft g (now (src .entry)) p)) r ⌝ }
 {
     let a = after_first(src, g, p);
@@ -277,7 +277,7 @@ fn rule_number(code: u8) -> u32
 
 // The rules from a spot on, written into the area from a place on.
 fn write_left(src: &[u8], g: Signs, p: Spot, area: &mut [u32], at: usize)
-    requires { ⌜ (p .at ≤ length (now src)) × (p .mode ≡ outside) ⌝ }
+    requires { ⌜ (p .at ≤ length (now src)) × (p .mode ≡ inPlain) ⌝ }
     requires { ⌜ LeftFits g (now src) p (now area) at ⌝ }
     ensures { λ _. ⌜ now (area .exit) ≡ sets (now (area .entry)) at (ruleNumbers (codesLeft g (now (src .entry)) p)) ⌝ }
 {
@@ -302,7 +302,7 @@ fn write_left(src: &[u8], g: Signs, p: Spot, area: &mut [u32], at: usize)
 
 // The rules that the operands of `order_start` give, written into the area from a place on: they are accepted, and have room there.
 pub fn write_rules(src: &[u8], g: Signs, p: Spot, area: &mut [u32], at: usize)
-    requires { ⌜ (p .at ≤ length (now src)) × (p .mode ≡ outside) ⌝ }
+    requires { ⌜ (p .at ≤ length (now src)) × (p .mode ≡ inPlain) ⌝ }
     requires { ⌜ RulesFit (operands (tokensLeft g (now src) p)) (now area) at ⌝ }
     ensures { λ _. ⌜ now (area .exit) ≡ sets (now (area .entry)) at (ruleNumbers (ruleCodes (operands (tokensLeft g (now (src .entry)) p)))) ⌝ }
 {

@@ -5,7 +5,7 @@ ghost use mathlib.Core.Bool.{true, _||_};
 ghost use Prim.Native.Nat.{_≤_};
 ghost use lib.ListN.{length};
 ghost use lib.Dec.{eqb};
-ghost use Rattle.rules.specs.Lines.{outside};
+ghost use Rattle.rules.specs.Lines.{inPlain};
 ghost use Rattle.rules.specs.Tokens.{operands};
 ghost use Rattle.rules.specs.State.{afterOrder, inBlock};
 ghost use Rattle.text_tokens.specs.Left.{tokensLeft, isInside};
@@ -73,7 +73,7 @@ fn named_with(f: Found, r: u8) -> Named
 
 // The order line that reorder-after names, from the spot after that word on.
 fn named_line(src: &[u8], g: Signs, work: &[u32], p: Spot) -> Named
-    requires { ⌜ (p .at ≤ length (now src)) × (p .mode ≡ outside) ⌝ }
+    requires { ⌜ (p .at ≤ length (now src)) × (p .mode ≡ inPlain) ⌝ }
     requires { ⌜ Holding g (now src) (now work) ⌝ }
     ensures { λ r. ⌜ NamedIs g (now (src .entry)) (now (work .entry)) (operands (tokensLeft g (now (src .entry)) p)) r ⌝ }
 {

@@ -4,8 +4,8 @@ ghost use Prim.Native.Nat.{_≤_};
 ghost use lib.ListN.{length};
 ghost use Rattle.rules.specs.Text.{_unless_, lower};
 ghost use Rattle.locale_opening.specs.Begun.{OpeningIs};
+use text_lines::IN_PLAIN;
 use text_lines::LineEnd;
-use text_lines::OUTSIDE;
 use text_lines::Signs;
 use text_lines::Spot;
 use text_lines::line_end;
@@ -46,7 +46,7 @@ pub fn open_line(src: &[u8], g: Signs, at: usize) -> Opening
 {
     let p = Spot {
         at: at,
-        mode: OUTSIDE,
+        mode: IN_PLAIN,
         fresh: true,
     };
     let e = line_end(src, g, p);

@@ -10,7 +10,7 @@ use borrow.Author.Tests.{eqb-true}
 use Rattle.base_lists.proofs.Bools.{by, and-left, and-right, clash}
 use Rattle.rules.specs.Text.{_unless_, lower, every}
 use Rattle.rules.specs.Names.{isHex, charShaped, codeOf, isCharacter}
-use Rattle.rules.specs.Lines.{outside, inName}
+use Rattle.rules.specs.Lines.{inPlain, inName}
 use Rattle.rules.specs.Tokens.{tokensRefusal}
 use Rattle.rules.specs.State.{Declaration, character, Chain, State, gives}
 use Rattle.rules.specs.OrderLines.{subjectOf, stands, orderLine}
@@ -74,7 +74,7 @@ stands-alone w ds cs s m h e =
     (λ t. clash (known-declared w m ds cs s ∙ rw t at h) (ap isFound (rw t at e)))
 
 -- a walk into a name passes a byte
-walk-on : {g : Signs} {src : List ℕ} {p q : Spot} → Walk g src p q → p .mode ≡ outside → q .mode ≡ inName → p .at < q .at
+walk-on : {g : Signs} {src : List ℕ} {p q : Spot} → Walk g src p q → p .mode ≡ inPlain → q .mode ≡ inName → p .at < q .at
 walk-on {g} {src} {p} {q} w a b = go (w .passed) (w .run)
   where
     go : (ms : List ℕ) {k : ℕ} → Run g src ms k p q → p .at < q .at
@@ -93,7 +93,7 @@ module _ (g : Signs) (src : List ℕ) (at : ℕ) (q : Spot) (t : Tok) (e : LineE
   pub name-next : t .next .at ≤ length src
   name-next = l .token .to
 
-  pub name-plain : t .next .mode ≡ outside
+  pub name-plain : t .next .mode ≡ inPlain
   name-plain = l .token .plain
 
   name-after : at < t .inside .at

@@ -6,7 +6,7 @@ ghost use Prim.Native.Nat.{_+_, _-_, _*_, _/_, _≤_, _<_};
 ghost use lib.ListN.{length};
 ghost use lib.Dec.{eqb, leb, ltb};
 ghost use Rattle.rules.specs.Text.{if_then_else_, _unless_, bytes, lowest};
-ghost use Rattle.rules.specs.Lines.{outside};
+ghost use Rattle.rules.specs.Lines.{inPlain};
 ghost use Rattle.rules.specs.Tokens.{operands};
 ghost use Rattle.rules.specs.State.{inOrder, inBlock, undefined};
 ghost use Rattle.text_tokens.specs.Left.{tokensLeft, isInside};
@@ -167,7 +167,7 @@ fn takes_lines(phase: u8) -> bool
 
 // Whether a line stands in the order or in a block, and has no operands if it is that of a symbol.
 fn is_formed(src: &[u8], g: Signs, phase: u8, p: Spot, symbol: bool) -> bool
-    requires { ⌜ (p .at ≤ length (now src)) × (p .mode ≡ outside) ⌝ }
+    requires { ⌜ (p .at ≤ length (now src)) × (p .mode ≡ inPlain) ⌝ }
     ensures { λ r. ⌜ r ≡ ((eqb phase inOrder || eqb phase inBlock) && (eqb (length (operands (tokensLeft g (now (src .entry)) p))) 0 || not symbol)) ⌝ }
 {
     let takes = takes_lines(phase);
@@ -214,7 +214,7 @@ fn late_refusal(again: bool, stands: bool, operands: usize, levels: usize, room:
 
 // The refusal of an order line whose subject has these facts, again if it is a second one, and of its operands, which follow the spot p.
 fn own_refusal(src: &[u8], g: Signs, work: &[u32], sh: Sheet, p: Spot, k: Facts, again: bool) -> u8
-    requires { ⌜ (p .at ≤ length (now src)) × (p .mode ≡ outside) ⌝ }
+    requires { ⌜ (p .at ≤ length (now src)) × (p .mode ≡ inPlain) ⌝ }
     requires { ⌜ SomeKnown g (now src) (now work) ⌝ }
     ensures { λ r. ⌜ OwnRefused g (now (src .entry)) (now (work .entry)) sh p k again r ⌝ }
 {

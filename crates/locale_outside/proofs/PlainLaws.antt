@@ -10,7 +10,7 @@ use Rattle.base_lists.proofs.Bools.{by, and-left, and-right, and-intro}
 use Rattle.rules.specs.Text.{bytes, within, every, is, begins}
 use Rattle.rules.specs.Names.{isBlank}
 use Rattle.rules.specs.Tokens.{word, token, Token, noPart, inWord, tokensFrom, withoutBlanks, tokensOf, operands}
-use Rattle.rules.specs.Lines.{outside, Scan, lineOf}
+use Rattle.rules.specs.Lines.{inPlain, Scan, lineOf}
 use Rattle.rules.specs.State.{State, Outcome, gives}
 use Rattle.rules.specs.Source.{isCapital, tokenLine, wholeLine, lineOutcome, signs}
 use Rattle.rules.proofs.TextLaws.{every-head, every-tail, within-low, within-high}
@@ -68,7 +68,7 @@ skips-start g src at {q} v =
     let f : q .fresh ≡ true = v .walk .run .fresh ∙ blanks-fresh bs a in
     go q (v .mode) f
   where
-    go : (x : Spot) → x .mode ≡ outside → x .fresh ≡ true → x ≡ lineStart (x .at)
+    go : (x : Spot) → x .mode ≡ inPlain → x .fresh ≡ true → x ≡ lineStart (x .at)
     go x m f = rw (← m, ← f)
 
 -- ## From the readers

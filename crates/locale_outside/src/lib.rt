@@ -3,7 +3,7 @@ ghost use mathlib.Core.Path.{_≡_};
 ghost use Prim.Native.Nat.{_≤_, _<_};
 ghost use lib.ListN.{length};
 ghost use Rattle.rules.specs.Text.{begins};
-ghost use Rattle.rules.specs.Lines.{outside};
+ghost use Rattle.rules.specs.Lines.{inPlain};
 ghost use Rattle.rules.specs.Source.{isCapital};
 ghost use Rattle.text_lines.specs.Stream.{marksLeft};
 ghost use Rattle.text_tokens.specs.Left.{wordIn};
@@ -11,8 +11,8 @@ ghost use Rattle.text_as_is.specs.Signed.{Visible};
 ghost use Rattle.locale_outside.specs.Outside.{isCategory, capitalsIn, RestIs, AloneIs, signsOf, OuterIs, PlainOuter, TakenOuter, PlainAt, TakenAt, CategoryAt};
 use text_as_is::Sign;
 use text_as_is::sign_line;
+use text_lines::IN_PLAIN;
 use text_lines::LineEnd;
-use text_lines::OUTSIDE;
 use text_lines::Signs;
 use text_lines::Spot;
 use text_lines::Step;
@@ -117,7 +117,7 @@ fn is_category(src: &[u8], g: Signs, p: Spot) -> bool
 
 // Whether nothing but blanks is left.
 fn only_blanks(src: &[u8], g: Signs, p: Spot) -> bool
-    requires { ⌜ (p .at ≤ length (now src)) × (p .mode ≡ outside) ⌝ }
+    requires { ⌜ (p .at ≤ length (now src)) × (p .mode ≡ inPlain) ⌝ }
     ensures { λ r. ⌜ RestIs g (now (src .entry)) p r ⌝ }
 {
     let q = skip_gaps(src, g, p);
@@ -130,7 +130,7 @@ fn only_blanks(src: &[u8], g: Signs, p: Spot) -> bool
 
 // Whether a category's word stands at a spot, and nothing but blanks after it.
 fn category_alone(src: &[u8], g: Signs, p: Spot) -> bool
-    requires { ⌜ (p .at ≤ length (now src)) × (p .mode ≡ outside) ⌝ }
+    requires { ⌜ (p .at ≤ length (now src)) × (p .mode ≡ inPlain) ⌝ }
     ensures { λ r. ⌜ AloneIs g (now (src .entry)) p r ⌝ }
 {
     let q = end_of_word(src, g, p);
@@ -169,7 +169,7 @@ fn plain_line(src: &[u8], h: Chars, collated: bool, at: usize) -> Outer
     };
     let p = Spot {
         at: at,
-        mode: OUTSIDE,
+        mode: IN_PLAIN,
         fresh: true,
     };
     let e = line_end(src, g, p);

@@ -8,7 +8,7 @@ use lib.ListN.{length, getD}
 use lib.Dec.{eqb, ltb}
 use borrow.Author.Tests.{ne-eqb, leb-true}
 use Rattle.base_lists.proofs.Bools.{by}
-use Rattle.rules.specs.Lines.{outside}
+use Rattle.rules.specs.Lines.{inPlain}
 use Rattle.rules.specs.State.{inOtherCategory, beforeOrder, inOrder, afterOrder, Chain, State, withBlocks, inPhase, toPhase}
 use Rattle.rules.specs.Conditionals.{blocks, isUnused}
 use Rattle.rules.specs.Source.{lineOutcome, wholeLine}
@@ -49,9 +49,9 @@ rows-rise phase at next n h r =
 -- ## Spots
 
 -- the spot after a line's first token
-pub spot-behind : (p : Spot) → p .mode ≡ outside → p .fresh ≡ false → p ≡ behind (p .at)
+pub spot-behind : (p : Spot) → p .mode ≡ inPlain → p .fresh ≡ false → p ≡ behind (p .at)
 spot-behind p m f =
-    ap (λ (y : ℕ). record { at = p .at; mode = y; fresh = p .fresh }) m ∙ ap (λ (y : Bool). record { at = p .at; mode = outside; fresh = y }) f
+    ap (λ (y : ℕ). record { at = p .at; mode = y; fresh = p .fresh }) m ∙ ap (λ (y : Bool). record { at = p .at; mode = inPlain; fresh = y }) f
 
 -- ## What stays
 

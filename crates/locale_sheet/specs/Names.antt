@@ -5,7 +5,7 @@ use mathlib.Core.List.{List}
 use Prim.Native.Nat.{ℕ, _≤_, _<_}
 use lib.ListN.{length}
 use Rattle.rules.specs.Text.{_unless_, lower}
-use Rattle.rules.specs.Lines.{outside}
+use Rattle.rules.specs.Lines.{inPlain}
 use Rattle.rules.specs.Tokens.{Token, operands, tokensRefusal}
 use Rattle.rules.specs.Tokens as tokens
 use Rattle.rules.specs.State.{Subject, State, inCollate, gives}
@@ -37,7 +37,7 @@ pub record NameLine (g : Signs) (src : List ℕ) (at : ℕ) (q : Spot) (t : Tok)
   pub name : t .kind ≡ tokens.name
   pub line : LineIs g src (lineStart at) e
   pub inside : at < length src
-  pub plain : q .mode ≡ outside
+  pub plain : q .mode ≡ inPlain
   pub from : at ≤ q .at
   pub reach : t .next .at ≤ e .next
   pub far : t .next .at < length src → t .next .at < e .next

@@ -7,7 +7,7 @@ use Prim.Native.Nat.{ℕ, _+_, _≤_, _<_}
 use lib.ListN.{length}
 use lib.Dec.{eqb}
 use Rattle.rules.specs.Text.{every, is, _unless_, lower}
-use Rattle.rules.specs.Lines.{outside}
+use Rattle.rules.specs.Lines.{inPlain}
 use Rattle.rules.specs.Tokens.{isText, word, Token, tokenAt, tokensOf, operands, tokensRefusal}
 use Rattle.rules.specs.State.{State, inCollate, gives}
 use Rattle.rules.specs.Source.{collateLine, wholeLine}
@@ -25,7 +25,7 @@ pub record WordLine (g : Signs) (src : List ℕ) (at : ℕ) (p : Spot) (e : Line
       (collateLine s number w (operands (tokensLeft g src p)) .state)
   pub line : LineIs g src (lineStart at) e
   pub inside : at < length src
-  pub plain : p .mode ≡ outside
+  pub plain : p .mode ≡ inPlain
   pub edge : p .fresh ≡ false
   pub to : p .at ≤ length src
   pub long : length w + at ≤ p .at

@@ -6,7 +6,7 @@ ghost use Rattle.text_lines.specs.Stream.{lineStart};
 ghost use Rattle.text_reader.specs.Turns.{AtLine, Turns};
 ghost use Rattle.text_passed.specs.Words.{firstWord};
 ghost use Rattle.locale_skips.specs.Passing.{KindIs, Begins, TurnIs, BranchIs, BranchStands, branchReading, Named, nameAt, Copies, isEnd, Reaches, AfterIs, CategoryIs};
-use text_lines::OUTSIDE;
+use text_lines::IN_PLAIN;
 use text_lines::Signs;
 use text_lines::Spot;
 use text_passed::first_word_is;
@@ -56,7 +56,7 @@ fn line_kind(src: &[u8], g: Signs, at: usize) -> Kind
 {
     let p = Spot {
         at: at,
-        mode: OUTSIDE,
+        mode: IN_PLAIN,
         fresh: true,
     };
     if first_word_is(src, g, p, b"ifdef") {
@@ -211,7 +211,7 @@ fn is_end(src: &[u8], g: Signs, at: usize, name: &[u8]) -> bool
 {
     let p = Spot {
         at: at,
-        mode: OUTSIDE,
+        mode: IN_PLAIN,
         fresh: true,
     };
     words_are(src, g, p, b"END", name)
@@ -260,7 +260,7 @@ fn copy_word(src: &[u8], g: Signs, at: usize, room: &mut [u8]) -> usize
 {
     let mut q = Spot {
         at: at,
-        mode: OUTSIDE,
+        mode: IN_PLAIN,
         fresh: true,
     };
     let mut i = 0;

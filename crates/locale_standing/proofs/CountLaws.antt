@@ -9,7 +9,7 @@ use lib.Dec.{eqb}
 use borrow.Author.Tests.{eqb-true}
 use Rattle.base_lists.proofs.Lists.{length-zero}
 use Rattle.rules.specs.Text.{lower}
-use Rattle.rules.specs.Lines.{outside}
+use Rattle.rules.specs.Lines.{inPlain}
 use Rattle.rules.specs.Tokens.{broken, Token, token, operands, tokensRefusal}
 use Rattle.rules.specs.State.{Declaration, Subject}
 use Rattle.rules.specs.OrderLines.{splitAt, operandList, stands, weightsRefusal}
@@ -38,10 +38,10 @@ pub record Counting (g : Signs) (src w : List ℕ) (p q : Spot) (refusal n : ℕ
   pub many : manyOf (operandsLeft g src false p) ≡ n + manyOf (operandsLeft g src false q)
   pub bound : lower refusal 3 ≡ 3
   pub moved : n ≤ q .at
-  pub mode : q .mode ≡ outside
+  pub mode : q .mode ≡ inPlain
   pub to : q .at ≤ length src
 
-pub counting-none : (g : Signs) (src w : List ℕ) (p : Spot) → p .at ≤ length src → p .mode ≡ outside → Counting g src w p p 0 0
+pub counting-none : (g : Signs) (src w : List ℕ) (p : Spot) → p .at ≤ length src → p .mode ≡ inPlain → Counting g src w p p 0 0
 counting-none g src w p h m =
     record {
       rest = λ n ds k. sym (lower-none-left (refusalOf (standsIn ds) (operandsLeft g src false p)));
@@ -133,7 +133,7 @@ module _ (g : Signs) (src w : List ℕ) where
     pub counts-to : {x : Spot} → a ≡ after.Operands x → x .at ≤ length src
     counts-to e = from e .to
 
-    pub counts-mode : {x : Spot} → a ≡ after.Operands x → x .mode ≡ outside
+    pub counts-mode : {x : Spot} → a ≡ after.Operands x → x .mode ≡ inPlain
     counts-mode e = from e .mode
 
     module _ {x : Spot} (e : a ≡ after.Operands x) {b : Bool} (f : b ≡ eqb (length (operandsLeft g src false x)) 0) where

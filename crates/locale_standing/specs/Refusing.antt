@@ -5,7 +5,7 @@ use mathlib.Core.List.{List, [], _∷_}
 use Prim.Native.Nat.{ℕ, suc, _≤_, _<_}
 use lib.ListN.{length}
 use Rattle.rules.specs.Text.{lower}
-use Rattle.rules.specs.Lines.{outside}
+use Rattle.rules.specs.Lines.{inPlain}
 use Rattle.rules.specs.Tokens.{Token, tokensRefusal}
 use Rattle.rules.specs.State.{Subject}
 use Rattle.rules.specs.OrderLines.{splitAt}
@@ -48,7 +48,7 @@ pub record MoreRefusals (g : Signs) (src w : List ℕ) (p : Spot) (r : ℕ) (nex
   pub many : manyOf (operandsLeft g src false p) ≡ suc (manyOf (operandsLeft g src false next))
   pub bound : lower r 3 ≡ 3
   pub less : p .at < next .at
-  pub mode : next .mode ≡ outside
+  pub mode : next .mode ≡ inPlain
   pub to : next .at ≤ length src
 
 -- The operand at p has the refusal r, and is the last.

@@ -4,7 +4,7 @@ ghost use mathlib.Core.Bool.{true, false};
 ghost use mathlib.Core.List.{[]};
 ghost use Prim.Native.Nat.{_≤_};
 ghost use lib.ListN.{length};
-ghost use Rattle.rules.specs.Lines.{outside, quoted};
+ghost use Rattle.rules.specs.Lines.{inPlain, quoted};
 ghost use Rattle.rules.specs.Tokens.{operands};
 ghost use Rattle.rules.specs.OrderLines.{splitAt, operandList};
 ghost use Rattle.text_lines.specs.Stream.{marksLeft};
@@ -153,7 +153,7 @@ fn one_refusal(src: &[u8], g: Signs, work: &[u32], q: Spot, t: Tok) -> u8
 
 // The refusal of the next operand.
 fn next_refusal(src: &[u8], g: Signs, work: &[u32], p: Spot) -> Turn
-    requires { ⌜ (p .at ≤ length (now src)) × (p .mode ≡ outside) ⌝ }
+    requires { ⌜ (p .at ≤ length (now src)) × (p .mode ≡ inPlain) ⌝ }
     requires { ⌜ Sound (keyAt g (now src)) (length (now src)) (now work) ⌝ }
     ensures { λ r. ⌜ TurnIs g (now (src .entry)) (now (work .entry)) p r ⌝ }
 {
@@ -178,7 +178,7 @@ fn next_refusal(src: &[u8], g: Signs, work: &[u32], p: Spot) -> Turn
 
 // The lowest refusal of the operands still to come, at least one, and how many there are.
 fn weights_left(src: &[u8], g: Signs, work: &[u32], p: Spot) -> Counted
-    requires { ⌜ (p .at ≤ length (now src)) × (p .mode ≡ outside) ⌝ }
+    requires { ⌜ (p .at ≤ length (now src)) × (p .mode ≡ inPlain) ⌝ }
     requires { ⌜ Sound (keyAt g (now src)) (length (now src)) (now work) ⌝ }
     ensures { λ r. ⌜ Counts g (now (src .entry)) (now (work .entry)) (operandsLeft g (now (src .entry)) false p) (splitAt [] (operandsLeft g (now (src .entry)) false p)) r ⌝ }
 {
@@ -211,7 +211,7 @@ fn weights_left(src: &[u8], g: Signs, work: &[u32], p: Spot) -> Counted
 
 // The lowest refusal of an order line's operands and how many there are, from the spot after the line's subject on.
 pub fn weights_refusal(src: &[u8], g: Signs, work: &[u32], p: Spot) -> Counted
-    requires { ⌜ (p .at ≤ length (now src)) × (p .mode ≡ outside) ⌝ }
+    requires { ⌜ (p .at ≤ length (now src)) × (p .mode ≡ inPlain) ⌝ }
     requires { ⌜ Sound (keyAt g (now src)) (length (now src)) (now work) ⌝ }
     ensures { λ r. ⌜ Counts g (now (src .entry)) (now (work .entry)) (operands (tokensLeft g (now (src .entry)) p)) (operandList (operands (tokensLeft g (now (src .entry)) p))) r ⌝ }
 {

@@ -9,7 +9,7 @@ use lib.ListN.{length}
 use lib.Dec.{eqb}
 use borrow.Author.Tests.{eqb-false, ne-eqb}
 use Rattle.base_lists.proofs.Bools.{by}
-use Rattle.rules.specs.Lines.{outside, inName}
+use Rattle.rules.specs.Lines.{inPlain, inName}
 use Rattle.rules.specs.Tokens.{name, Token, tokenAt, operands}
 use Rattle.text_lines.specs.declared.Signs.{Signs}
 use Rattle.text_lines.specs.declared.Spot.{Spot}
@@ -51,7 +51,7 @@ name-marks (p ∷ ps) rest e =
     let r = name-marks ps rest (e ∙ ap (λ (m : ℕ). modeThrough m ps) (sym n)) in
     rw t (omega arith))
 
-pub name-long : {g : Signs} {src : List ℕ} {i e : Spot} → Walk g src i e → i .mode ≡ inName → e .mode ≡ outside
+pub name-long : {g : Signs} {src : List ℕ} {i e : Spot} → Walk g src i e → i .mode ≡ inName → e .mode ≡ inPlain
     → i .at + length (nameIn (marksLeft g src i)) < e .at
 name-long {g} {src} {i} {e} w h k =
     let l = name-marks (w .passed) (marksLeft g src e) (sym k ∙ w .run .mode ∙ ap (λ (m : ℕ). modeThrough m (w .passed)) h) in
@@ -105,7 +105,7 @@ module _ (g : Signs) (src : List ℕ) (p : Spot) {a : After} (v : AfterIs g src 
     pub first-to : x .at ≤ length src
     first-to = from .to
 
-    pub first-mode : x .mode ≡ outside
+    pub first-mode : x .mode ≡ inPlain
     first-mode = from .mode
 
     nearer : (os : List Token) (h : Head) → HeadIs g src x os h → HeadIs g src p os h

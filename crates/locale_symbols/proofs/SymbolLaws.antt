@@ -12,7 +12,7 @@ use Rattle.base_lists.proofs.Bools.{and-left}
 use Rattle.base_lists.proofs.Lists.{length-zero}
 use Rattle.rules.specs.Text.{every, _unless_, lower, lowest}
 use Rattle.rules.specs.Names.{isVisible, nameRefusal, namesRefusal}
-use Rattle.rules.specs.Lines.{outside}
+use Rattle.rules.specs.Lines.{inPlain}
 use Rattle.rules.specs.Tokens.{broken, name, quote, Token, tokenAt, theName, single, tokensRefusal}
 use Rattle.rules.specs.State.{named}
 use Rattle.rules.proofs.TextLaws.{unless-none, lower-none, lowest-none}
@@ -86,7 +86,7 @@ module _ (g : Signs) (src : List ℕ) (p : Spot) (w : List ℕ) {h : Head} (v : 
     pub head-to : e .at ≤ length src
     head-to = named-first .to
 
-    pub head-plain : e .mode ≡ outside
+    pub head-plain : e .mode ≡ inPlain
     head-plain = named-first .after
 
     -- and reading the name

@@ -9,7 +9,7 @@ use lib.ListN.{length}
 use lib.Dec.{eqb}
 use Rattle.rules.specs.Text.{oneOf, _unless_, lower, lowest}
 use Rattle.rules.specs.Names.{charShaped}
-use Rattle.rules.specs.Lines.{outside, inName}
+use Rattle.rules.specs.Lines.{inPlain, inName}
 use Rattle.rules.specs.Tokens.{name, Token, tokenAt, theName, single, operands, tokensRefusal}
 use Rattle.rules.specs.State.{Declaration, named}
 use Rattle.rules.specs.Declarations.{declares, declaresChars}
@@ -61,7 +61,7 @@ pub record NameFirst (g : Signs) (src : List ℕ) (from : Spot) (os : List Token
   pub kind : token .kind ≡ name
   pub names : token .names ≡ nameLeft g src i ∷ []
   pub mode : i .mode ≡ inName
-  pub after : e .mode ≡ outside
+  pub after : e .mode ≡ inPlain
   pub behind : from .at < i .at
   pub long : i .at + length (nameLeft g src i) < e .at
   pub end : endOf g src from ≡ endOf g src e

@@ -3,7 +3,7 @@ ghost use mathlib.Core.Path.{_≡_};
 ghost use mathlib.Core.Bool.{true, false};
 ghost use Prim.Native.Nat.{_≤_};
 ghost use lib.ListN.{length};
-ghost use Rattle.rules.specs.Lines.{outside};
+ghost use Rattle.rules.specs.Lines.{inPlain};
 ghost use Rattle.rules.specs.Tokens.{operands};
 ghost use Rattle.text_tokens.specs.Left.{tokensLeft, isInside};
 ghost use Rattle.text_operands.specs.Operand.{operandsLeft};
@@ -41,7 +41,7 @@ pub enum Symbol {
 
 // Whether the next operand is a name.
 fn name_next(src: &[u8], g: Signs, x: Spot) -> Head
-    requires { ⌜ (x .at ≤ length (now src)) × (x .mode ≡ outside) ⌝ }
+    requires { ⌜ (x .at ≤ length (now src)) × (x .mode ≡ inPlain) ⌝ }
     ensures { λ r. ⌜ HeadIs g (now (src .entry)) x (operandsLeft g (now (src .entry)) false x) r ⌝ }
 {
     let o = next_operand(src, g, x, false);
@@ -61,7 +61,7 @@ fn name_next(src: &[u8], g: Signs, x: Spot) -> Head
 
 // Whether a line's first operand is a name, from the spot after its first token on.
 pub fn name_first(src: &[u8], g: Signs, p: Spot) -> Head
-    requires { ⌜ (p .at ≤ length (now src)) × (p .mode ≡ outside) ⌝ }
+    requires { ⌜ (p .at ≤ length (now src)) × (p .mode ≡ inPlain) ⌝ }
     ensures { λ r. ⌜ HeadIs g (now (src .entry)) p (operands (tokensLeft g (now (src .entry)) p)) r ⌝ }
 {
     let a = after_first(src, g, p);
@@ -93,7 +93,7 @@ pub fn is_new(src: &[u8], g: Signs, work: &[u32], i: Spot) -> bool
 
 // The mark that the line is to declare, or its refusal.
 fn check_symbol(src: &[u8], g: Signs, work: &[u32], p: Spot) -> Symbol
-    requires { ⌜ (p .at ≤ length (now src)) × (p .mode ≡ outside) ⌝ }
+    requires { ⌜ (p .at ≤ length (now src)) × (p .mode ≡ inPlain) ⌝ }
     requires { ⌜ Sound (keyAt g (now src)) (length (now src)) (now work) ⌝ }
     ensures { λ r. ⌜ SymbolChecked g (now (src .entry)) p (now (work .entry)) r ⌝ }
 {
@@ -118,7 +118,7 @@ fn check_symbol(src: &[u8], g: Signs, work: &[u32], p: Spot) -> Symbol
 
 // A line `collating-symbol <name>`, from the spot after its first word on.
 pub fn symbol_line(src: &[u8], g: Signs, work: &mut [u32], p: Spot) -> Symbol
-    requires { ⌜ (p .at ≤ length (now src)) × (p .mode ≡ outside) ⌝ }
+    requires { ⌜ (p .at ≤ length (now src)) × (p .mode ≡ inPlain) ⌝ }
     requires { ⌜ Sound (keyAt g (now src)) (length (now src)) (now work) ⌝ }
     ensures { λ r. ⌜ SymbolIs g (now (src .entry)) p (now (work .entry)) (now (work .exit)) r ⌝ }
 {

@@ -6,7 +6,7 @@ use mathlib.Core.List.{List}
 use Prim.Native.Nat.{ℕ, _+_, _≤_, _<_}
 use lib.ListN.{length, getD}
 use Rattle.rules.specs.Text.{lower}
-use Rattle.rules.specs.Lines.{outside}
+use Rattle.rules.specs.Lines.{inPlain}
 use Rattle.rules.specs.Tokens.{Token, tokenAt, tokensRefusal}
 use Rattle.rules.specs.State.{State}
 use Rattle.rules.specs.Conditionals.{isOn, turned, toggleRefusal}
@@ -27,7 +27,7 @@ setTo set.Keep was = was
 -- The operands begin at p, after the line's first word, and toggles are kept from `base` on.
 pub record MayName (g : Signs) (src work : List ℕ) (base n : ℕ) (p : Spot) : Type 0 where
   pub kept : Kept g src work base n
-  pub mode : p .mode ≡ outside
+  pub mode : p .mode ≡ inPlain
   pub inside : p .at ≤ length src
   pub short : length src ≤ 1048576
 

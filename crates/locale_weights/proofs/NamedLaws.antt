@@ -5,7 +5,7 @@ use mathlib.Core.List.{List, []}
 use Prim.Native.Nat.{ℕ, _+_, _<_}
 use native.Mathlib.Omega.{arith}
 use lib.ListN.{length, getD}
-use Rattle.rules.specs.Lines.{outside, after}
+use Rattle.rules.specs.Lines.{inPlain, after}
 use Rattle.rules.specs.Tokens.{withoutGaps}
 use Rattle.text_lines.specs.declared.Signs.{Signs}
 use Rattle.text_lines.specs.declared.Spot.{Spot}
@@ -30,14 +30,14 @@ unfolding operandsLeft tokensLeft withoutGaps
 none-behind g src r h e = rw (ends-feed g src r h e .none, tokensFrom-none)
 
 -- a `;` right behind a token
-semi-behind : (g : Signs) (src : List ℕ) (r : Spot) → r .mode ≡ outside → {d : ℕ} → PlainAt g src (r .at) d → d ≡ 59 → MoreWeights g src true r (spot (r .at + 1) 0 false)
+semi-behind : (g : Signs) (src : List ℕ) (r : Spot) → r .mode ≡ inPlain → {d : ℕ} → PlainAt g src (r .at) d → d ≡ 59 → MoreWeights g src true r (spot (r .at + 1) 0 false)
 semi-behind g src r o w e =
     let n = spot (r .at + 1) 0 false in
     let a : OperandAt g src true r r (bareAt 1 n) =
     operand-separator g src true r refl (ahead-none g src r o w (omega arith)) {n = next.Token (bareAt 1 n)} (ahead-semi g src r o w e refl) refl (λ z. omega arith) (omega arith) in
     tail-more g src true r {o = operand.Token r (bareAt 1 n)} a refl refl
 
-module _ (g : Signs) (src : List ℕ) (p : Spot) (o : p .mode ≡ outside) {b : ℕ} (v : PlainAt g src (p .at) b) (e : b ≡ 60)
+module _ (g : Signs) (src : List ℕ) (p : Spot) (o : p .mode ≡ inPlain) {b : ℕ} (v : PlainAt g src (p .at) b) (e : b ≡ 60)
     {c : Closing} (k : ClosingIs g src (spot (p .at + 1) 1 false) c) where
   pub named-open : c ≡ closing.Open → BadWeights (operandsLeft g src false p)
   named-open i =

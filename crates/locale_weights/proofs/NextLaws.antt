@@ -8,7 +8,7 @@ use lib.ListN.{length}
 use lib.Dec.{eqb, leb}
 use borrow.Author.Tests.{ne-eqb}
 use Rattle.rules.specs.Text.{every}
-use Rattle.rules.specs.Lines.{outside}
+use Rattle.rules.specs.Lines.{inPlain}
 use Rattle.rules.specs.Tokens.{semi, broken, Token}
 use Rattle.rules.specs.OrderLines.{splitAt}
 use Rattle.rules.proofs.TextLaws.{every-head}
@@ -73,7 +73,7 @@ module _ (g : Signs) (src : List ℕ) (glued : Bool) (p : Spot) {o : Operand} (v
 -- ## The operand
 
 module _ (g : Signs) (src : List ℕ) (p : Spot) {o : Operand} (v : OperandIs g src false p o) where
-  pub weight-end : p .at ≤ length src → p .mode ≡ outside → o ≡ operand.End → EmptyWeight g src p false p
+  pub weight-end : p .at ≤ length src → p .mode ≡ inPlain → o ≡ operand.End → EmptyWeight g src p false p
   weight-end h m e =
       record {
         on = λ z. absurd (false≢true z);

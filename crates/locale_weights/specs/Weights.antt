@@ -6,7 +6,7 @@ use Prim.Native.Nat.{ℕ, _≤_, _<_}
 use lib.ListN.{length}
 use lib.Dec.{eqb, leb}
 use Rattle.rules.specs.Text.{every, is, _unless_, lower, lowest}
-use Rattle.rules.specs.Lines.{outside}
+use Rattle.rules.specs.Lines.{inPlain}
 use Rattle.rules.specs.Tokens.{semi, broken, Token, token, tokensRefusal}
 use Rattle.rules.specs.State.{Subject}
 use Rattle.rules.specs.OrderLines.{splitAt, isNames, subjectOf}
@@ -49,7 +49,7 @@ pub record EmptyWeight (g : Signs) (src : List ℕ) (p : Spot) (more : Bool) (ne
   pub last : more ≡ false → operandsLeft g src false p ≡ []
   pub split-on : more ≡ true → splitAt [] (operandsLeft g src false p) ≡ [] ∷ splitAt [] (operandsLeft g src false next)
   pub less : more ≡ true → p .at < next .at
-  pub mode : next .mode ≡ outside
+  pub mode : next .mode ≡ inPlain
   pub to : next .at ≤ length src
   pub walk : Walk g src p next
 
@@ -62,10 +62,10 @@ pub record OneWeight (g : Signs) (src : List ℕ) (p q : Spot) (t : Tok) (more :
   pub last : more ≡ false → operandsLeft g src false p ≡ tokenThere g src q ∷ []
   pub split-on : more ≡ true → splitAt [] (operandsLeft g src false p) ≡ (tokenThere g src q ∷ []) ∷ splitAt [] (operandsLeft g src false next)
   pub split-last : more ≡ false → splitAt [] (operandsLeft g src false p) ≡ (tokenThere g src q ∷ []) ∷ []
-  pub begin-mode : q .mode ≡ outside
+  pub begin-mode : q .mode ≡ inPlain
   pub begin-to : q .at ≤ length src
   pub less : p .at < next .at
-  pub mode : next .mode ≡ outside
+  pub mode : next .mode ≡ inPlain
   pub to : next .at ≤ length src
   pub walk : Walk g src p next
 
@@ -79,7 +79,7 @@ pub record BadWeights (os : List Token) : Type 0 where
 pub record MoreWeights (g : Signs) (src : List ℕ) (glued : Bool) (p next : Spot) : Type 0 where
   pub on : operandsLeft g src glued p ≡ separator ∷ operandsLeft g src false next
   pub less : p .at < next .at
-  pub mode : next .mode ≡ outside
+  pub mode : next .mode ≡ inPlain
   pub to : next .at ≤ length src
   pub walk : Walk g src p next
 

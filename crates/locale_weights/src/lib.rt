@@ -2,10 +2,10 @@
 ghost use mathlib.Core.Path.{_≡_};
 ghost use Prim.Native.Nat.{_≤_};
 ghost use lib.ListN.{length};
-ghost use Rattle.rules.specs.Lines.{outside};
+ghost use Rattle.rules.specs.Lines.{inPlain};
 ghost use Rattle.locale_weights.specs.Weights.{TailIs, WeightIs};
 use text_lines::IN_NAME;
-use text_lines::OUTSIDE;
+use text_lines::IN_PLAIN;
 use text_lines::Signs;
 use text_lines::Spot;
 use text_operands::Operand;
@@ -34,7 +34,7 @@ pub enum Tail {
 
 // What follows a token, glued: one that is no separator.
 fn after_token(src: &[u8], g: Signs, p: Spot, glued: bool) -> Tail
-    requires { ⌜ (p .at ≤ length (now src)) × (p .mode ≡ outside) ⌝ }
+    requires { ⌜ (p .at ≤ length (now src)) × (p .mode ≡ inPlain) ⌝ }
     ensures { λ r. ⌜ TailIs g (now (src .entry)) glued p r ⌝ }
 {
     let o = next_operand(src, g, p, glued);
@@ -54,7 +54,7 @@ fn after_token(src: &[u8], g: Signs, p: Spot, glued: bool) -> Tail
 // The operand that begins at a spot, up to the next `;` or the end. Most are a name with a `;` or the line's LF right behind it: those are told
 // by one byte before and one behind.
 pub fn next_weight(src: &[u8], g: Signs, p: Spot) -> Weight
-    requires { ⌜ (p .at ≤ length (now src)) × (p .mode ≡ outside) ⌝ }
+    requires { ⌜ (p .at ≤ length (now src)) × (p .mode ≡ inPlain) ⌝ }
     ensures { λ r. ⌜ WeightIs g (now (src .entry)) p r ⌝ }
 {
     let at = p.at;
@@ -81,7 +81,7 @@ pub fn next_weight(src: &[u8], g: Signs, p: Spot) -> Weight
                             true,
                             Spot {
                                 at: e + 1,
-                                mode: OUTSIDE,
+                                mode: IN_PLAIN,
                                 fresh: false,
                             },
                         );
@@ -96,7 +96,7 @@ pub fn next_weight(src: &[u8], g: Signs, p: Spot) -> Weight
 
 // The same by the next operand and what follows it.
 fn any_weight(src: &[u8], g: Signs, p: Spot) -> Weight
-    requires { ⌜ (p .at ≤ length (now src)) × (p .mode ≡ outside) ⌝ }
+    requires { ⌜ (p .at ≤ length (now src)) × (p .mode ≡ inPlain) ⌝ }
     ensures { λ r. ⌜ WeightIs g (now (src .entry)) p r ⌝ }
 {
     let o = next_operand(src, g, p, false);

@@ -11,7 +11,7 @@ use lib.Dec.{eqb}
 use borrow.Author.Tests.{eq-eqb, ne-eqb}
 use Rattle.base_lists.proofs.Bools.{cond-true, cond-false, cond-both}
 use Rattle.rules.specs.Text.{if_then_else_}
-use Rattle.rules.specs.Lines.{Signs, Scan, scan, scanStart, lineFrom, lineOf, takesAsIs, opensComment, endsEntry, scanEscaped, outside, comment}
+use Rattle.rules.specs.Lines.{Signs, Scan, scan, scanStart, lineFrom, lineOf, takesAsIs, opensComment, endsEntry, scanEscaped, inPlain, inComment}
 use Rattle.rules.specs.State.{State, Outcome}
 use Rattle.rules.specs.Source.{ended, atEnd, signs, lineOutcome, linesFrom}
 use Rattle.rules.specs.Charmap.{Mapping, MapOutcome, MapEnded, mapEnded, mapSigns, headerLine, bodyLine, mapLinesFrom}
@@ -26,9 +26,9 @@ pub scan-size : (g : Signs) (s : Scan) (b : ℕ) → scan g s b .size ≡ suc (s
 unfolding scan scanEscaped
 scan-size g s b =
     cond-both (Longer s) (s .escaped)
-    (cond-both (Longer s) (eqb b 10) refl (cond-both (Longer s) (eqb (s .mode) outside) refl refl))
+    (cond-both (Longer s) (eqb b 10) refl (cond-both (Longer s) (eqb (s .mode) inPlain) refl refl))
     (cond-both (Longer s) (eqb b 10) refl
-    (cond-both (Longer s) (eqb (s .mode) comment) refl
+    (cond-both (Longer s) (eqb (s .mode) inComment) refl
     (cond-both (Longer s) (takesAsIs g s b) refl
     (cond-both (Longer s) (eqb b (g .escape)) refl
     (cond-both (Longer s) (opensComment g s b) refl

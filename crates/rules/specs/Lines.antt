@@ -10,8 +10,8 @@ use Rattle.rules.specs.Tokens.{name, asIs, Token, tokenAt, theName, sing
 
 -- ## The modes of a line as it is read: plain, in `<..>`, in quotes, in `<..>` in quotes, in a comment
 
-abbrev pub outside : ℕ
-outside = 0
+abbrev pub inPlain : ℕ
+inPlain = 0
 
 abbrev pub inName : ℕ
 inName = 1
@@ -22,17 +22,17 @@ quoted = 2
 abbrev pub quotedName : ℕ
 quotedName = 3
 
-abbrev pub comment : ℕ
-comment = 4
+abbrev pub inComment : ℕ
+inComment = 4
 
 -- the mode after a byte that stands: `<` is 60, `>` 62, `"` 34
 unfoldable pub after : ℕ → ℕ → ℕ
 after mode b =
-    if eqb mode outside && eqb b 60 then inName
-    else if eqb mode outside && eqb b 34 then quoted
-    else if eqb mode inName && eqb b 62 then outside
+    if eqb mode inPlain && eqb b 60 then inName
+    else if eqb mode inPlain && eqb b 34 then quoted
+    else if eqb mode inName && eqb b 62 then inPlain
     else if eqb mode quoted && eqb b 60 then quotedName
-    else if eqb mode quoted && eqb b 34 then outside
+    else if eqb mode quoted && eqb b 34 then inPlain
     else if eqb mode quotedName && eqb b 62 then quoted
     else mode
 
@@ -62,7 +62,7 @@ pub record Scan : Type 0 where
 
 -- a line's beginning
 abbrev pub scanStart : Scan
-scanStart = record { mode = outside; fresh = true; escaped = false; ended = false; marks = []; feeds = 0; size = 0 }
+scanStart = record { mode = inPlain; fresh = true; escaped = false; ended = false; marks = []; feeds = 0; size = 0 }
 
 -- a byte that gives no mark, with the mode and the escape after it
 abbrev pub dropped : Scan → ℕ → Bool → Scan
@@ -118,22 +118,22 @@ isSignHeader marks =
 -- "c, taken as it stands": the first byte after the keyword and its blanks, on every such line outside categories (docs/DECISIONS.md)
 unfoldable pub takesAsIs : Signs → Scan → ℕ → Bool
 takesAsIs g s b =
-    eqb (s .mode) outside && s .fresh && not (isBlank b)
+    eqb (s .mode) inPlain && s .fresh && not (isBlank b)
     && ((g .header && isSignHeader (s .marks)) || (g .outside && isSignLine (s .marks)))
 
 -- "The comment character as a line's first byte, or after blanks, opens a comment to LF. Inside `<..>` or quotes that character is ordinary."
 unfoldable pub opensComment : Signs → Scan → ℕ → Bool
-opensComment g s b = eqb (s .mode) outside && s .fresh && eqb b (g .comment)
+opensComment g s b = eqb (s .mode) inPlain && s .fresh && eqb b (g .comment)
 
 -- "then any comment": from the first blank after the byte (docs/DECISIONS.md)
 unfoldable pub endsEntry : Signs → Scan → ℕ → Bool
-endsEntry g s b = g .body && eqb (s .mode) outside && isBlank b && isEntry (tokensOf (s .marks))
+endsEntry g s b = g .body && eqb (s .mode) inPlain && isBlank b && isEntry (tokensOf (s .marks))
 
 -- "Escape then LF, outside comments, joins two lines with nothing between"; "inside `<..>` or quotes is that byte; elsewhere it is malformed"
 unfoldable pub scanEscaped : Scan → ℕ → Scan
 scanEscaped s b =
     if eqb b 10 then fed s false
-    else if eqb (s .mode) outside then marked s outside false (512 + b)
+    else if eqb (s .mode) inPlain then marked s inPlain false (512 + b)
     else marked s (s .mode) false (256 + b)
 
 -- "Lines end at LF"; "Escapes are read left to right."
@@ -141,11 +141,11 @@ unfoldable pub scan : Signs → Scan → ℕ → Scan
 scan g s b =
     if s .escaped then scanEscaped s b
     else if eqb b 10 then fed s true
-    else if eqb (s .mode) comment then dropped s comment false
-    else if takesAsIs g s b then marked s outside false (256 + b)
+    else if eqb (s .mode) inComment then dropped s inComment false
+    else if takesAsIs g s b then marked s inPlain false (256 + b)
     else if eqb b (g .escape) then dropped s (s .mode) true
-    else if opensComment g s b then dropped s comment false
-    else if endsEntry g s b then dropped s comment false
+    else if opensComment g s b then dropped s inComment false
+    else if endsEntry g s b then dropped s inComment false
     else marked s (after (s .mode) b) (isBlank b) b
 
 -- ## A whole line

@@ -9,7 +9,7 @@ use lib.Dec.{eqb, leb}
 use borrow.Author.Tests.{eqb-true, eq-eqb, ne-eqb, leb-true}
 use Rattle.base_lists.proofs.Bools.{by}
 use Rattle.rules.specs.Text.{every, lower, lowest, is, _unless_}
-use Rattle.rules.specs.Lines.{outside}
+use Rattle.rules.specs.Lines.{inPlain}
 use Rattle.rules.specs.Tokens.{broken, name, quote, Token, token, operands, tokensRefusal}
 use Rattle.rules.specs.State.{Declaration, Subject}
 use Rattle.rules.specs.OrderLines.{splitAt, operandList, stands, weightsRefusal, subjectOf, isNames}
@@ -208,7 +208,7 @@ levels-split f own l (t ∷ ts) = refl
 
 -- the spot at a place
 abbrev spotAt : ℕ → Spot
-spotAt place = record { at = place; mode = outside; fresh = false }
+spotAt place = record { at = place; mode = inPlain; fresh = false }
 
 module _ (g : Signs) (src : List ℕ) (place : ℕ) (h : place ≤ length src) (v : Weighed (lineOperands g src place)) {a : After}
     (w : AfterIs g src (spotAt place) a) where

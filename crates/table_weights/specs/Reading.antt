@@ -6,7 +6,7 @@ use Prim.Native.Nat.{ℕ, suc, _+_, _*_, _≤_}
 use lib.ListN.{length}
 use lib.Dec.{leb, eqb}
 use Rattle.rules.specs.Text.{if_then_else_, every}
-use Rattle.rules.specs.Lines.{outside, quoted}
+use Rattle.rules.specs.Lines.{inPlain, quoted}
 use Rattle.rules.specs.Tokens.{name, quote, Token, operands, tokensRefusal}
 use Rattle.rules.specs.Meaning.{countAll}
 use Rattle.rules.specs.State.{Subject}
@@ -64,7 +64,7 @@ pub record Weighed (os : List Token) : Type 0 where
 
 -- the tokens of an order line's operands, from the place after its subject on
 unfoldable pub lineOperands : Signs → List ℕ → ℕ → List Token
-lineOperands g src place = operands (tokensLeft g src (record { at = place; mode = outside; fresh = false }))
+lineOperands g src place = operands (tokensLeft g src (record { at = place; mode = inPlain; fresh = false }))
 
 -- the operands still to come
 unfoldable pub weightsLeft : Signs → List ℕ → Cursor → List (List Token)
@@ -73,7 +73,7 @@ weightsLeft g src c = if c .more then splitAt [] (operandsLeft g src false (c .a
 -- They are those of an accepted line.
 pub record Ahead (g : Signs) (src : List ℕ) (c : Cursor) : Type 0 where
   pub to : c .at .at ≤ length src
-  pub mode : c .at .mode ≡ outside
+  pub mode : c .at .mode ≡ inPlain
   pub weighed : c .more ≡ true → Weighed (operandsLeft g src false (c .at))
 
 -- what one token gives

@@ -13,7 +13,7 @@ use base_units::Rank;
 use base_units::wide;
 use locale_weights::Weight;
 use locale_weights::next_weight;
-use text_lines::OUTSIDE;
+use text_lines::IN_PLAIN;
 use text_lines::Signs;
 use text_lines::Spot;
 use text_names::Named;
@@ -194,7 +194,7 @@ pub fn first_part(src: &[u8], g: Signs, place: usize) -> Cursor
 {
     let p = Spot {
         at: place,
-        mode: OUTSIDE,
+        mode: IN_PLAIN,
         fresh: false,
     };
     let a = after_first(src, g, p);

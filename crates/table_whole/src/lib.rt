@@ -19,7 +19,7 @@ use table_layout::rules_part;
 use table_layout::weights_part;
 use table_listing::list_items;
 use table_records::put_rank;
-use text_lines::OUTSIDE;
+use text_lines::IN_PLAIN;
 use text_lines::Signs;
 use text_lines::Spot;
 
@@ -172,7 +172,7 @@ fn write_head(
     write_front(area, narrow(levels), narrow(items), narrow(weights));
     let p = Spot {
         at: place,
-        mode: OUTSIDE,
+        mode: IN_PLAIN,
         fresh: false,
     };
     let at = rules_part(levels, items);

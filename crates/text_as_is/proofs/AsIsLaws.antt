@@ -13,7 +13,7 @@ use Rattle.base_lists.proofs.Bools.{by, clash, cond-both}
 use Rattle.rules.specs.Text.{every}
 use Rattle.rules.specs.Names.{isBlank}
 use Rattle.rules.specs.Lines as paper
-use Rattle.rules.specs.Lines.{outside, comment, after, Scan, scanStart, fed, takesAsIs, opensComment, endsEntry, scanEscaped, scan, lineFrom, lineOf}
+use Rattle.rules.specs.Lines.{inPlain, inComment, after, Scan, scanStart, fed, takesAsIs, opensComment, endsEntry, scanEscaped, scan, lineFrom, lineOf}
 use Rattle.rules.proofs.TextLaws.{every-head, every-tail}
 use Rattle.text_lines.specs.declared.Signs.{Signs}
 use Rattle.text_lines.specs.declared.Spot.{Spot}
@@ -108,9 +108,9 @@ module _ {s : paper.Signs} {g : Signs} (v : Kind s g) where
   scan-keeps P x b same more =
       cond-both P (x .escaped)
       (cond-both P (eqb b 10) (same _ refl refl)
-      (cond-both P (eqb (x .mode) outside) (more _ (512 + b) refl (λ e. absurd (false≢true e))) (more _ (256 + b) refl (λ e. absurd (false≢true e)))))
+      (cond-both P (eqb (x .mode) inPlain) (more _ (512 + b) refl (λ e. absurd (false≢true e))) (more _ (256 + b) refl (λ e. absurd (false≢true e)))))
       (cond-both P (eqb b 10) (same _ refl refl)
-      (cond-both P (eqb (x .mode) comment) (same _ refl refl)
+      (cond-both P (eqb (x .mode) inComment) (same _ refl refl)
       (cond-both P (takesAsIs (plainSigns g) x b) (more _ (256 + b) refl (λ e. absurd (false≢true e)))
       (cond-both P (eqb b (g .escape)) (same _ refl refl)
       (cond-both P (opensComment (plainSigns g) x b) (same _ refl refl)
@@ -130,7 +130,7 @@ module _ {s : paper.Signs} {g : Signs} (v : Kind s g) where
       let n = scan (plainSigns g) x b in
       let m = marks-grow g x (b ∷ bs) in
       let calm : takesAsIs s x b ≡ false =
-      by (x .fresh) (λ t. h (x .marks) (m .0) (m .1) (f t) x b refl) (λ t. rw (t, and-false (eqb (x .mode) outside))) in
+      by (x .fresh) (λ t. h (x .marks) (m .0) (m .1) (f t) x b refl) (λ t. rw (t, and-false (eqb (x .mode) inPlain))) in
       let k : Fresh n = scan-keeps Fresh x b (λ y e i j. rw e (f (sym i ∙ j))) (λ y c e i j. rw (e, freshThrough-last true (x .marks) c) (i j)) in
       line-more x b bs calm (λ e. never-plain n bs k (rw (line-step (plainSigns g) x b bs refl e) at h))
 
@@ -142,7 +142,7 @@ module _ {s : paper.Signs} {g : Signs} (v : Kind s g) where
   still-by : (mode : ℕ) {fresh : Bool} (done : List ℕ) → (fresh ≡ true → (x : Scan) (b : ℕ) → x .marks ≡ done → takesAsIs s x b ≡ false) → Still s mode fresh done
   unfolding takesAsIs endsEntry
   still-by mode {fresh} done h b = (
-    by fresh (λ t. h t (stateIn mode fresh done 0 0) b refl) (λ t. rw (t, and-false (eqb mode outside))),
+    by fresh (λ t. h t (stateIn mode fresh done 0 0) b refl) (λ t. rw (t, and-false (eqb mode inPlain))),
     rw (v .free),
   )
 
@@ -160,15 +160,15 @@ module _ {s : paper.Signs} {g : Signs} (v : Kind s g) where
 
   module _ (w : Visible g) where
     one-blank : (done : List ℕ) (f z b : ℕ) (bs : List ℕ) → isBlank b ≡ true
-        → lineFrom s (stateIn outside true done f z) (b ∷ bs) ≡ lineFrom s (stateIn outside true (done ++ b ∷ []) f (suc z)) bs
+        → lineFrom s (stateIn inPlain true done f z) (b ∷ bs) ≡ lineFrom s (stateIn inPlain true (done ++ b ∷ []) f (suc z)) bs
     unfolding scan takesAsIs opensComment endsEntry
     one-blank done f z b bs h =
         let e : eqb b (s .escape) ≡ false = ne-eqb b (s .escape) (λ e. clash (rw (e ∙ v .like .escape) at h) (w .escape)) in
         let c : eqb b (s .comment) ≡ false = ne-eqb b (s .comment) (λ e. clash (rw (e ∙ v .like .comment) at h) (w .comment)) in
-        line-step s (stateIn outside true done f z) b bs (simp (ne-eqb b 10 (λ x. blank-feed b h x), h, e, c, v .free, after-blank b h)) refl
+        line-step s (stateIn inPlain true done f z) b bs (simp (ne-eqb b 10 (λ x. blank-feed b h x), h, e, c, v .free, after-blank b h)) refl
 
     over-blanks : (done : List ℕ) (f z : ℕ) (bs rest : List ℕ) → every isBlank bs ≡ true
-        → lineFrom s (stateIn outside true done f z) (bs ++ rest) ≡ lineFrom s (stateIn outside true (done ++ bs) f (z + length bs)) rest
+        → lineFrom s (stateIn inPlain true done f z) (bs ++ rest) ≡ lineFrom s (stateIn inPlain true (done ++ bs) f (z + length bs)) rest
     over-blanks done f z [] rest h = rw (append-nil, add-zero z)
     over-blanks done f z (b ∷ bs) rest h =
         let n : suc z + length bs ≡ z + suc (length bs) = omega arith in
@@ -184,13 +184,13 @@ module _ {s : paper.Signs} {g : Signs} (v : Kind s g) where
       line-stop s x b bs {n = fed x true} (rw (e, h)) refl ∙ sym (line-stop (plainSigns g) x b bs {n = fed x true} (rw (e, h)) refl)
 
   -- a byte that is taken as it stands, and the rest
-  byte-stands : (done : List ℕ) (f z b : ℕ) (bs : List ℕ) → takesAsIs s (stateIn outside true done f z) b ≡ true → (b ≡ 10 → ⊥) → Past s (done ++ (256 + b) ∷ [])
-      → lineFrom s (stateIn outside true done f z) (b ∷ bs)
-      ≡ onto (done ++ (256 + b) ∷ []) f (suc z) (lineFrom (plainSigns g) (stateIn outside false [] 0 0) bs)
+  byte-stands : (done : List ℕ) (f z b : ℕ) (bs : List ℕ) → takesAsIs s (stateIn inPlain true done f z) b ≡ true → (b ≡ 10 → ⊥) → Past s (done ++ (256 + b) ∷ [])
+      → lineFrom s (stateIn inPlain true done f z) (b ∷ bs)
+      ≡ onto (done ++ (256 + b) ∷ []) f (suc z) (lineFrom (plainSigns g) (stateIn inPlain false [] 0 0) bs)
   unfolding scan
   byte-stands done f z b bs h n p =
-      let t = stateIn outside false (done ++ (256 + b) ∷ []) f (suc z) in
-      line-step s (stateIn outside true done f z) b bs (simp (ne-eqb b 10 n, h)) refl
+      let t = stateIn inPlain false (done ++ (256 + b) ∷ []) f (suc z) in
+      line-step s (stateIn inPlain true done f z) b bs (simp (ne-eqb b 10 n, h)) refl
       ∙ past-plain t bs p
       ∙ lineFrom-rest g t bs refl refl
 
@@ -201,23 +201,23 @@ unfolding lineFrom scan
 ends-marks g x [] e h = rw e
 ends-marks g x (b ∷ bs) e h = rw (e, h)
 
-left-there : (g : Signs) (src : List ℕ) (x : Spot) {bs : List ℕ} → x .mode ≡ outside → x .fresh ≡ true → drop (x .at) src ≡ bs
-    → lineLeft g src x ≡ lineFrom (plainSigns g) (stateIn outside true [] 0 0) bs
+left-there : (g : Signs) (src : List ℕ) (x : Spot) {bs : List ℕ} → x .mode ≡ inPlain → x .fresh ≡ true → drop (x .at) src ≡ bs
+    → lineLeft g src x ≡ lineFrom (plainSigns g) (stateIn inPlain true [] 0 0) bs
 unfolding lineLeft
 left-there g src x m f e =
     ap (λ (n : ℕ). lineFrom (plainSigns g) (stateIn n (x .fresh) [] 0 0) (drop (x .at) src)) m
-    ∙ ap (λ (t : Bool). lineFrom (plainSigns g) (stateIn outside t [] 0 0) (drop (x .at) src)) f
-    ∙ ap (λ (bs : List ℕ). lineFrom (plainSigns g) (stateIn outside true [] 0 0) bs) e
+    ∙ ap (λ (t : Bool). lineFrom (plainSigns g) (stateIn inPlain t [] 0 0) (drop (x .at) src)) f
+    ∙ ap (λ (bs : List ℕ). lineFrom (plainSigns g) (stateIn inPlain true [] 0 0) bs) e
 
 -- where no byte comes after blanks, these are what is left of a plain line
-pub blanks-left : {g : Signs} {src : List ℕ} {x : Spot} → Visible g → x .mode ≡ outside → x .fresh ≡ true → NoByte src (x .at)
+pub blanks-left : {g : Signs} {src : List ℕ} {x : Spot} → Visible g → x .mode ≡ inPlain → x .fresh ≡ true → NoByte src (x .at)
     → every isBlank (marksLeft g src x) ≡ true
 blanks-left {g} {src} {x} w m f n =
     let bs = n .before .blanks in
     let e : marksLeft g src x ≡ bs =
     ap (λ (s : Scan). s .marks)
     (left-there g src x m f (n .before .split) ∙ over-blanks (plain-kind g) w [] 0 0 bs (n .rest) (n .before .are))
-    ∙ ends-marks g (stateIn outside true bs 0 (0 + length bs)) (n .rest) refl (n .ends) in
+    ∙ ends-marks g (stateIn inPlain true bs 0 (0 + length bs)) (n .rest) refl (n .ends) in
     rw e (n .before .are)
 
 -- ## The whole line
@@ -228,41 +228,41 @@ pub record Reached (s : paper.Signs) (g : Signs) (src : List ℕ) (at : ℕ) (ms
   pub kind : Kind s g
   pub feeds : ℕ
   pub run : Run g src ms feeds (lineStart at) x
-  pub quiet : Quiet s outside true [] ms
-  pub mode : x .mode ≡ outside
+  pub quiet : Quiet s inPlain true [] ms
+  pub mode : x .mode ≡ inPlain
   pub fresh : x .fresh ≡ true
 
 module _ {s : paper.Signs} {g : Signs} {src : List ℕ} {at : ℕ} {ms : List ℕ} {x : Spot} (v : Reached s g src at ms x) where
   -- both kinds of line, up to there
-  line-there : lineOf s (drop at src) ≡ lineFrom s (stateIn outside true ms (v .feeds) (v .run .bytes)) (drop (x .at) src)
+  line-there : lineOf s (drop at src) ≡ lineFrom s (stateIn inPlain true ms (v .feeds) (v .run .bytes)) (drop (x .at) src)
   unfolding lineOf
   line-there =
       v .run .goes s (v .kind .like) [] 0 0 (v .quiet) ∙ rw (v .mode, v .fresh, zero-add (v .feeds), zero-add (v .run .bytes))
 
-  plain-there : lineLeft g src (lineStart at) ≡ lineFrom (plainSigns g) (stateIn outside true ms (v .feeds) (v .run .bytes)) (drop (x .at) src)
+  plain-there : lineLeft g src (lineStart at) ≡ lineFrom (plainSigns g) (stateIn inPlain true ms (v .feeds) (v .run .bytes)) (drop (x .at) src)
   unfolding lineLeft
   plain-there =
-      v .run .goes (plainSigns g) (plain-kind g .like) [] 0 0 (plain-quiet g outside true [] ms)
+      v .run .goes (plainSigns g) (plain-kind g .like) [] 0 0 (plain-quiet g inPlain true [] ms)
       ∙ rw (v .mode, v .fresh, zero-add (v .feeds), zero-add (v .run .bytes))
 
   pub reached-nothing : NoByte src (x .at) → lineOf s (drop at src) ≡ lineLeft g src (lineStart at)
   reached-nothing n =
       let bs = n .before .blanks in
       let z = v .run .bytes in
-      let st = stateIn outside true ms (v .feeds) z in
+      let st = stateIn inPlain true ms (v .feeds) z in
       let o : lineOf s (drop at src) ≡ lineFrom s st (bs ++ n .rest) = line-there ∙ ap (lineFrom s st) (n .before .split) in
       let p : lineLeft g src (lineStart at) ≡ lineFrom (plainSigns g) st (bs ++ n .rest) = plain-there ∙ ap (lineFrom (plainSigns g) st) (n .before .split) in
       o
       ∙ over-blanks (v .kind) (v .visible) ms (v .feeds) z bs (n .rest) (n .before .are)
-      ∙ line-ends (v .kind) (stateIn outside true (ms ++ bs) (v .feeds) (z + length bs)) (n .rest) refl (n .ends)
+      ∙ line-ends (v .kind) (stateIn inPlain true (ms ++ bs) (v .feeds) (z + length bs)) (n .rest) refl (n .ends)
       ∙ sym (over-blanks (plain-kind g) (v .visible) ms (v .feeds) z bs (n .rest) (n .before .are))
       ∙ sym p
 
   module _ {b i : ℕ} (w : ByteAt src (x .at) b i)
-      (takes : (f z : ℕ) → takesAsIs s (stateIn outside true (ms ++ w .before .blanks) f z) b ≡ true)
+      (takes : (f z : ℕ) → takesAsIs s (stateIn inPlain true (ms ++ w .before .blanks) f z) b ≡ true)
       (past : Past s ((ms ++ w .before .blanks) ++ (256 + b) ∷ [])) where
     rest : Spot
-    rest = record { at = i + 1; mode = outside; fresh = false }
+    rest = record { at = i + 1; mode = inPlain; fresh = false }
 
     whole : lineOf s (drop at src)
         ≡ onto ((ms ++ w .before .blanks) ++ (256 + b) ∷ []) (v .feeds) (suc (v .run .bytes + length (w .before .blanks))) (lineLeft g src rest)

@@ -11,7 +11,7 @@ use Rattle.base_lists.proofs.Bools.{by, clash, and-intro}
 use Rattle.rules.specs.Text.{bytes, every, same, begins}
 use Rattle.rules.specs.Names.{isBlank}
 use Rattle.rules.specs.Tokens.{inWord, withoutBlanks}
-use Rattle.rules.specs.Lines.{outside, after, isWordLine, isSignLine, takesAsIs, lineOf}
+use Rattle.rules.specs.Lines.{inPlain, after, isWordLine, isSignLine, takesAsIs, lineOf}
 use Rattle.rules.proofs.TextLaws.{every-head, every-tail, same-refl, begins-split}
 use Rattle.text_lines.specs.declared.Signs.{Signs}
 use Rattle.text_lines.specs.declared.Spot.{Spot}
@@ -101,7 +101,7 @@ unfolding Never takesAsIs isSignLine
 outside-never g all h k ms ns e f x b i =
     let c = not-line (bytes "comment_char") comment-solid ms ns f (rw (sym e) h) in
     let d = not-line (bytes "escape_char") escape-solid ms ns f (rw (sym e) k) in
-    rw (i, c, d) (and-false (eqb (x .mode) outside && x .fresh && not (isBlank b)))
+    rw (i, c, d) (and-false (eqb (x .mode) inPlain && x .fresh && not (isBlank b)))
 
 pub outside-kind : (g : Signs) → Kind (outsideSigns g) g
 outside-kind g = record { like = record { comment = refl; escape = refl }; free = refl }
@@ -156,7 +156,7 @@ module _ (g : Signs) (src : List ℕ) (at : ℕ) {q : Spot} (v : Skips g src (li
 -- ## After the keyword
 
 module _ {g : Signs} {src : List ℕ} {at : ℕ} {q : Spot} {comment : Bool} (v : KeywordAt g src at q comment) where
-  pub word-plain : (q .at ≤ length src) × (q .mode ≡ outside)
+  pub word-plain : (q .at ≤ length src) × (q .mode ≡ inPlain)
   word-plain = (v .skips .to, v .skips .mode)
 
   module _ {r : Spot} (w : WordEnds g src q r) {s : Step} (k : StepIs g src r s) where

@@ -11,7 +11,7 @@ use borrow.Author.Tests.{not-true}
 use Rattle.rules.specs.Text.{bytes, every, begins}
 use Rattle.rules.specs.Names.{isBlank}
 use Rattle.rules.specs.Tokens.{withoutBlanks}
-use Rattle.rules.specs.Lines.{outside, isWordLine, isSignLine, takesAsIs, lineOf}
+use Rattle.rules.specs.Lines.{inPlain, isWordLine, isSignLine, takesAsIs, lineOf}
 use Rattle.rules.proofs.TextLaws.{every-head, every-tail, begins-append}
 use Rattle.text_lines.specs.declared.Signs.{Signs}
 use Rattle.text_lines.specs.declared.Spot.{Spot}
@@ -95,7 +95,7 @@ module _ {g : Signs} {src : List ℕ} {at : ℕ} {x : Spot} {comment : Bool} (v 
         run = v .run;
         quiet = rw (append-assoc (v .blanks) (keyword comment) (v .last ∷ [])) at
             (never-quiet (outside-kind g) (v .blanks ++ keyword comment)
-            (outside-never g (v .blanks ++ keyword comment) (not-open true comment (v .blanks) (v .are)) (not-open false comment (v .blanks) (v .are))) outside [] (v .blanks ++ keyword comment) (v .last) refl refl);
+            (outside-never g (v .blanks ++ keyword comment) (not-open true comment (v .blanks) (v .are)) (not-open false comment (v .blanks) (v .are))) inPlain [] (v .blanks ++ keyword comment) (v .last) refl refl);
         mode = v .mode;
         fresh = v .fresh;
       }
@@ -118,7 +118,7 @@ module _ {g : Signs} {src : List ℕ} {at : ℕ} {x : Spot} {comment : Bool} (v 
       unfolding read
       word-here = is-word (keyword comment) (v .blanks) (there .before .blanks) (v .last) (keyword-solid comment) (v .are) (v .blank) (there .before .are)
 
-      takes : (f z : ℕ) → takesAsIs (outsideSigns g) (stateIn outside true (read ++ there .before .blanks) f z) b ≡ true
+      takes : (f z : ℕ) → takesAsIs (outsideSigns g) (stateIn inPlain true (read ++ there .before .blanks) f z) b ≡ true
       unfolding takesAsIs
       takes f z = rw (there .solid, sign-word comment (read ++ there .before .blanks) word-here)
 
@@ -127,7 +127,7 @@ module _ {g : Signs} {src : List ℕ} {at : ℕ} {x : Spot} {comment : Bool} (v 
       past ns y c k =
           let n : isSignLine (y .marks) ≡ false =
           rw (k, append-assoc (read ++ there .before .blanks) ((256 + b) ∷ []) ns) (sign-never (read ++ there .before .blanks) ns (256 + b) (omega arith)) in
-          rw n (and-false (eqb (y .mode) outside && y .fresh && not (isBlank c)))
+          rw n (and-false (eqb (y .mode) inPlain && y .fresh && not (isBlank c)))
 
       pub found-byte : {a d : LineEnd} → LineIs g src (lineStart at) a → LineIs g src x d
           → TakenIs g src at comment b (a .feeds - d .feeds) (record { at = i + 1; mode = 0; fresh = false })

@@ -8,7 +8,7 @@ use lib.Dec.{eqb}
 use Rattle.rules.specs.Text.{if_then_else_, bytes, every, same}
 use Rattle.rules.specs.Names.{isBlank}
 use Rattle.rules.specs.Lines as paper
-use Rattle.rules.specs.Lines.{outside, isWordLine, lineOf}
+use Rattle.rules.specs.Lines.{inPlain, isWordLine, lineOf}
 use Rattle.text_lines.specs.declared.Signs.{Signs}
 use Rattle.text_lines.specs.declared.Spot.{Spot}
 use Rattle.text_lines.specs.Stream.{outsideSigns, lineLeft, lineStart, marksLeft, endOf, opensWith, Run}
@@ -44,7 +44,7 @@ pub record TakenIs (g : Signs) (src : List ℕ) (at : ℕ) (comment : Bool) (c k
   pub feeds : lineOf (outsideSigns g) (drop at src) .feeds ≡ k + lineLeft g src rest .feeds
   pub end : at + lineOf (outsideSigns g) (drop at src) .size ≡ endOf g src rest
   pub few : at + k ≤ rest .at
-  pub mode : rest .mode ≡ outside
+  pub mode : rest .mode ≡ inPlain
   pub to : rest .at ≤ length src
 
 -- The same of a line of any kind s, with the marks done before the byte.
@@ -54,7 +54,7 @@ pub record ByteTaken (s : paper.Signs) (g : Signs) (src : List ℕ) (at : ℕ) (
   pub end : at + lineOf s (drop at src) .size ≡ endOf g src rest
   pub on : at < rest .at
   pub few : at + k ≤ rest .at
-  pub mode : rest .mode ≡ outside
+  pub mode : rest .mode ≡ inPlain
   pub to : rest .at ≤ length src
 
 abbrev pub SignIs : Signs → List ℕ → ℕ → Sign → Type 0
@@ -111,6 +111,6 @@ pub record Opened (g : Signs) (src : List ℕ) (at : ℕ) (x : Spot) (comment : 
   pub blank : isBlank last ≡ true
   pub feeds : ℕ
   pub run : Run g src (blanks ++ (keyword comment ++ last ∷ [])) feeds (lineStart at) x
-  pub mode : x .mode ≡ outside
+  pub mode : x .mode ≡ inPlain
   pub fresh : x .fresh ≡ true
   pub to : x .at ≤ length src

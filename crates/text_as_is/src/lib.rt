@@ -4,7 +4,7 @@ ghost use lib.ListN.{length};
 ghost use Rattle.text_lines.specs.Stream.{marksLeft};
 ghost use Rattle.text_tokens.specs.Left.{wordIn};
 ghost use Rattle.text_as_is.specs.Signed.{Visible, SignIs, WordIs, FoundIs, KeywordAt, Opened};
-use text_lines::OUTSIDE;
+use text_lines::IN_PLAIN;
 use text_lines::Signs;
 use text_lines::Spot;
 use text_lines::Step;
@@ -80,7 +80,7 @@ fn byte_from(src: &[u8], g: Signs, at: usize, x: Spot, comment: bool) -> Sign
         Found::Byte(b, i) => {
             let p = Spot {
                 at: at,
-                mode: OUTSIDE,
+                mode: IN_PLAIN,
                 fresh: true,
             };
             let a = line_end(src, g, p);
@@ -91,7 +91,7 @@ fn byte_from(src: &[u8], g: Signs, at: usize, x: Spot, comment: bool) -> Sign
                 a.feeds - d.feeds,
                 Spot {
                     at: i + 1,
-                    mode: OUTSIDE,
+                    mode: IN_PLAIN,
                     fresh: false,
                 },
             );
@@ -127,7 +127,7 @@ pub fn sign_line(src: &[u8], g: Signs, at: usize) -> Sign
 {
     let p = Spot {
         at: at,
-        mode: OUTSIDE,
+        mode: IN_PLAIN,
         fresh: true,
     };
     let q = skip_gaps(src, g, p);

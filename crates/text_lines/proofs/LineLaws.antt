@@ -14,7 +14,7 @@ use borrow.Author.Tests.{eq-eqb, ne-eqb}
 use Rattle.base_lists.proofs.Bools.{by}
 use Rattle.rules.specs.Names.{isBlank}
 use Rattle.rules.specs.Lines as paper
-use Rattle.rules.specs.Lines.{outside, comment, after, Scan, dropped, fed, marked, cutShort, takesAsIs, opensComment, endsEntry, scanEscaped, scan, lineFrom, lineOf}
+use Rattle.rules.specs.Lines.{inPlain, inComment, after, Scan, dropped, fed, marked, cutShort, takesAsIs, opensComment, endsEntry, scanEscaped, scan, lineFrom, lineOf}
 use Rattle.text_lines.specs.declared.Signs.{Signs}
 use Rattle.text_lines.specs.declared.Spot.{Spot}
 use Rattle.text_lines.specs.declared.Item.the-variants.{Mark, Join, Hidden}
@@ -56,12 +56,12 @@ module _ (ms : List ℕ) (k n : ℕ) (s : Scan) where
   unfolding scanEscaped
   onto-escaped b =
       onto-cond (eqb b 10) (onto-fed false)
-      (onto-cond (eqb (s .mode) outside) (onto-marked outside false (512 + b)) (onto-marked (s .mode) false (256 + b)))
+      (onto-cond (eqb (s .mode) inPlain) (onto-marked inPlain false (512 + b)) (onto-marked (s .mode) false (256 + b)))
 
 -- no byte is taken as it stands
 pub plain-as-is : (g : Signs) (s : Scan) (b : ℕ) → takesAsIs (plainSigns g) s b ≡ false
 unfolding takesAsIs
-plain-as-is g s b = and-false (eqb (s .mode) outside && s .fresh && not (isBlank b))
+plain-as-is g s b = and-false (eqb (s .mode) inPlain && s .fresh && not (isBlank b))
 
 module _ (g : Signs) (ms : List ℕ) (k n : ℕ) where
   scan-onto : (s : Scan) (b : ℕ) → Onto ms k n (scan (plainSigns g) s b) (scan (plainSigns g) (onto ms k n s) b)
@@ -70,9 +70,9 @@ module _ (g : Signs) (ms : List ℕ) (k n : ℕ) where
       rw (plain-as-is g s b, plain-as-is g (onto ms k n s) b)
       (onto-cond (s .escaped) (onto-escaped ms k n s b)
       (onto-cond (eqb b 10) (onto-fed ms k n s true)
-      (onto-cond (eqb (s .mode) comment) (onto-dropped ms k n s comment false)
+      (onto-cond (eqb (s .mode) inComment) (onto-dropped ms k n s inComment false)
       (onto-cond (eqb b (g .escape)) (onto-dropped ms k n s (s .mode) true)
-      (onto-cond (eqb (s .mode) outside && s .fresh && eqb b (g .comment)) (onto-dropped ms k n s comment false)
+      (onto-cond (eqb (s .mode) inPlain && s .fresh && eqb b (g .comment)) (onto-dropped ms k n s inComment false)
       (onto-marked ms k n s (after (s .mode) b) (isBlank b) b))))))
 
   onto-cut : (s : Scan) (e : ℕ) → Onto ms k n (cutShort s e) (cutShort (onto ms k n s) e)
@@ -131,12 +131,12 @@ same-state : {mode : ℕ} {fresh : Bool} {marks : List ℕ} {f f′ z z′ : ℕ
 same-state e h = rw (e, h)
 
 -- in a comment no mark is left
-comment-none : (g : Signs) (fresh : Bool) (bs : List ℕ) → lineFrom (plainSigns g) (stateIn comment fresh [] 0 0) bs .marks ≡ []
+comment-none : (g : Signs) (fresh : Bool) (bs : List ℕ) → lineFrom (plainSigns g) (stateIn inComment fresh [] 0 0) bs .marks ≡ []
 unfolding lineFrom scan
 comment-none g fresh [] = refl
 comment-none g fresh (b ∷ bs) =
     by (eqb b 10) (λ t. rw t)
-    (λ t. rw t (ap (λ (s : Scan). s .marks) (lineFrom-onto g [] 0 1 (stateIn comment fresh [] 0 0) bs) ∙ comment-none g fresh bs))
+    (λ t. rw t (ap (λ (s : Scan). s .marks) (lineFrom-onto g [] 0 1 (stateIn inComment fresh [] 0 0) bs) ∙ comment-none g fresh bs))
 
 -- a plain line is quiet
 plain-still : (g : Signs) (mode : ℕ) (fresh : Bool) (done : List ℕ) → Still (plainSigns g) mode fresh done
@@ -233,7 +233,7 @@ module _ (g : Signs) (src : List ℕ) (p : Spot) where
       no-feed = ne-eqb (getD src (p .at) 0) 10 f
 
       -- a byte that gives no mark, and leaves a comment
-      hides : scan (plainSigns g) (stateAt p [] 0 0) (getD src (p .at) 0) ≡ dropped (stateAt p [] 0 0) comment false
+      hides : scan (plainSigns g) (stateAt p [] 0 0) (getD src (p .at) 0) ≡ dropped (stateAt p [] 0 0) inComment false
           → ItemIs g src p (Hidden (spot (p .at + 1) 4 (p .fresh)))
       unfolding lineLeft
       hides e =
@@ -249,7 +249,7 @@ module _ (g : Signs) (src : List ℕ) (p : Spot) where
       item-hidden m = hides (rw (no-feed, m))
 
       module _ (m : p .mode ≡ 4 → ⊥) where
-        seen : eqb (p .mode) comment ≡ false
+        seen : eqb (p .mode) inComment ≡ false
         seen = ne-eqb (p .mode) 4 m
 
         module _ (n : getD src (p .at) 0 ≡ g .escape → ⊥) where
@@ -308,7 +308,7 @@ pub blank-escaped : (m : ℕ) → 256 ≤ m → isBlank m ≡ false
 blank-escaped m h = simp (ne-eqb m 32 (λ e. omega arith), ne-eqb m 9 (λ e. omega arith))
 
 -- the mark of an escaped byte, in its mode
-escaped-marks : (p q : Spot) (m : ℕ) → q .mode ≡ p .mode → q .fresh ≡ false → 256 ≤ m → m < 768 → (p .mode ≡ outside → 512 ≤ m) → Marks p m q
+escaped-marks : (p q : Spot) (m : ℕ) → q .mode ≡ p .mode → q .fresh ≡ false → 256 ≤ m → m < 768 → (p .mode ≡ inPlain → 512 ≤ m) → Marks p m q
 escaped-marks p q m e f h l d =
     record { mode = e ∙ sym (after-escaped (p .mode) m h); fresh = f ∙ sym (blank-escaped m h); small = l; dead = λ z k. d z }
 
@@ -322,11 +322,11 @@ module _ {g : Signs} {src : List ℕ} {p : Spot} (v : EscapeAt g src p) where
       let b = getD src (p .at) 0 in
       let e : eqb b (s .escape) ≡ true = rw (like .escape) (eq-eqb b (g .escape) (v .sign)) in
       rw (at-byte g src p (v .inside))
-      (line-step s x b (drop (p .at + 1) src) (simp (ne-eqb b 10 (v .no-feed), ne-eqb (p .mode) comment (v .seen), q b .0, e)) refl)
+      (line-step s x b (drop (p .at + 1) src) (simp (ne-eqb b 10 (v .no-feed), ne-eqb (p .mode) inComment (v .seen), q b .0, e)) refl)
 
   -- a mark that an escape gives
   escaped-item : (m : ℕ) (q : Spot) (r : Run g src (m ∷ []) 0 p q) → 0 < r .bytes → q .at ≤ length src → q .mode ≡ p .mode → q .fresh ≡ false
-      → 256 ≤ m → m < 768 → (p .mode ≡ outside → 512 ≤ m) → ItemIs g src p (Mark m q)
+      → 256 ≤ m → m < 768 → (p .mode ≡ inPlain → 512 ≤ m) → ItemIs g src p (Mark m q)
   escaped-item m q r h l a b c d e = (run-passes g src p r h l, escaped-marks p q m a b c d e, r)
 
   -- the source's last byte
@@ -407,5 +407,5 @@ module _ {g : Signs} {src : List ℕ} {p : Spot} (v : EscapeAt g src p) where
       pair-in m =
           let q = spot (p .at + 2) (p .mode) false in
           escaped-item (256 + x) q
-          (pair-run (256 + x) q refl refl refl (omega arith) (λ done f z. rw e (simp (ne-eqb (getD src (p .at + 1) 0) 10 n, ne-eqb (p .mode) outside m))))
+          (pair-run (256 + x) q refl refl refl (omega arith) (λ done f z. rw e (simp (ne-eqb (getD src (p .at + 1) 0) 10 n, ne-eqb (p .mode) inPlain m))))
           (omega arith) (omega arith) refl refl (omega arith) (omega arith) (λ z. absurd (m z))

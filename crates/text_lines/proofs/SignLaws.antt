@@ -13,7 +13,7 @@ use Rattle.rules.specs.Text.{bytes, every, begins}
 use Rattle.rules.specs.Names.{isBlank}
 use Rattle.rules.specs.Tokens.{withoutBlanks}
 use Rattle.rules.proofs.TextLaws.{every-append, every-head, begins-append, begins-split, every-both, every-mono}
-use Rattle.rules.specs.Lines.{outside, after, isWordLine, isSignLine}
+use Rattle.rules.specs.Lines.{inPlain, after, isWordLine, isSignLine}
 use Rattle.text_lines.specs.Stream.{opensWith}
 
 -- ## Opening blanks
@@ -88,7 +88,7 @@ word-opens w ms ns v n h = go (drop (length w) (withoutBlanks ms)) refl
 -- ## After the keyword
 
 -- a blank leaves plain mode as it is
-pub after-blank : (b : ℕ) → isBlank b ≡ true → after outside b ≡ outside
+pub after-blank : (b : ℕ) → isBlank b ≡ true → after inPlain b ≡ inPlain
 unfolding after
 after-blank b h =
     by (eqb b 32) (λ t. rw (eqb-true b 32 t)) (λ t. rw (eqb-true b 9 (rw t at h)))

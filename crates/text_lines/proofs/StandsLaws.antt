@@ -8,7 +8,7 @@ use lib.ListN.{length, getD}
 use lib.Dec.{eqb}
 use native.Mathlib.Omega.{arith}
 use Rattle.rules.specs.Names.{isBlank}
-use Rattle.rules.specs.Lines.{comment, after}
+use Rattle.rules.specs.Lines.{inComment, after}
 use Rattle.text_lines.specs.declared.Signs.{Signs}
 use Rattle.text_lines.specs.declared.Spot.{Spot}
 use Rattle.text_lines.specs.declared.Item.the-variants.{Mark}
@@ -23,7 +23,7 @@ pub record Stands (g : Signs) (src : List ℕ) (p : Spot) (b : ℕ) : Type 0 whe
   pub small : b < 256
   pub no-feed : b ≡ 10 → ⊥
   pub no-escape : b ≡ g .escape → ⊥
-  pub seen : p .mode ≡ comment → ⊥
+  pub seen : p .mode ≡ inComment → ⊥
   pub no-comment : (eqb (p .mode) 0 && p .fresh && eqb b (g .comment)) ≡ false
 
 module _ {g : Signs} {src : List ℕ} {p : Spot} {b mode : ℕ} {fresh : Bool} (v : Stands g src p b) (a : mode ≡ after (p .mode) b) (f : fresh ≡ isBlank b) where

@@ -8,7 +8,7 @@ use mathlib.Core.List.{List, [], _∷_, _++_}
 use Prim.Native.Nat.{ℕ, _-_, _≤_, _<_, _+_, _^_}
 use native.Mathlib.Omega.{arith}
 use lib.ListN.{length}
-use Rattle.rules.specs.Lines.{comment}
+use Rattle.rules.specs.Lines.{inComment}
 use Rattle.text_lines.specs.declared.Signs.{Signs}
 use Rattle.text_lines.specs.declared.Spot.{Spot}
 use Rattle.text_lines.specs.declared.Item.{Item}
@@ -91,7 +91,7 @@ module _ {g : Signs} {src : List ℕ} {p q : Spot} {i : Item} (v : Joined g src 
 
   pub joined-hidden : {r : Spot} → i ≡ Hidden r → marksLeft g src p ≡ []
   joined-hidden {r} e =
-      let t : Passes g src [] 0 q r × (r .mode ≡ comment) × (marksLeft g src q ≡ []) = subst (ItemIs g src q) e s in
+      let t : Passes g src [] 0 q r × (r .mode ≡ inComment) × (marksLeft g src q ≡ []) = subst (ItemIs g src q) e s in
       v .same ∙ t .2
 
   pub joined-end : {next feeds : ℕ} → i ≡ End next feeds → marksLeft g src p ≡ []
@@ -168,7 +168,7 @@ module _ {g : Signs} {src : List ℕ} {p o q : Spot} {feeds : ℕ} {text : Bool}
 
     pub reads-hidden : {r : Spot} → i ≡ Hidden r → Reads g src p r feeds text
     reads-hidden {r} e =
-        let w : Passes g src [] 0 q r × (r .mode ≡ comment) × (marksLeft g src q ≡ []) = subst (ItemIs g src q) e s in
+        let w : Passes g src [] 0 q r × (r .mode ≡ inComment) × (marksLeft g src q ≡ []) = subst (ItemIs g src q) e s in
         reads-on v (w .0) (omega arith) (omega arith) refl
 
     pub reads-less-mark : {m : ℕ} {r : Spot} → i ≡ Mark m r → leftAt src r < leftAt src o
@@ -184,7 +184,7 @@ module _ {g : Signs} {src : List ℕ} {p o q : Spot} {feeds : ℕ} {text : Bool}
     pub reads-less-hidden : {r : Spot} → i ≡ Hidden r → leftAt src r < leftAt src o
     unfolding leftAt
     reads-less-hidden {r} e =
-        let w : Passes g src [] 0 q r × (r .mode ≡ comment) × (marksLeft g src q ≡ []) = subst (ItemIs g src q) e s in
+        let w : Passes g src [] 0 q r × (r .mode ≡ inComment) × (marksLeft g src q ≡ []) = subst (ItemIs g src q) e s in
         omega (arith, on, w .0 .on, w .0 .to)
 
     pub reads-fits : {next n : ℕ} → i ≡ End next n → length src < 2 ^ 64 → feeds + n < 2 ^ 64

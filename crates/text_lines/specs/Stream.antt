@@ -8,7 +8,7 @@ use lib.ListN.{length, getD, drop}
 use Rattle.rules.specs.Text.{every, begins}
 use Rattle.rules.specs.Names.{isBlank}
 use Rattle.rules.specs.Tokens.{isText, withoutBlanks}
-use Rattle.rules.specs.Lines.{outside, comment, after, Scan, lineFrom, takesAsIs, endsEntry}
+use Rattle.rules.specs.Lines.{inPlain, inComment, after, Scan, lineFrom, takesAsIs, endsEntry}
 use Rattle.rules.specs.Lines as paper
 use Rattle.text_lines.specs.declared.Signs.{Signs}
 use Rattle.text_lines.specs.declared.Spot.{Spot}
@@ -58,7 +58,7 @@ endOf g src p = p .at + lineLeft g src p .size
 
 -- the first spot of a line that begins at a place
 abbrev pub lineStart : ℕ → Spot
-lineStart at = record { at = at; mode = outside; fresh = true }
+lineStart at = record { at = at; mode = inPlain; fresh = true }
 
 -- ## From spot to spot, whatever the line is
 
@@ -128,7 +128,7 @@ pub record Marks (p : Spot) (m : ℕ) (q : Spot) : Type 0 where
   pub mode : q .mode ≡ after (p .mode) m
   pub fresh : q .fresh ≡ isBlank m
   pub small : m < 768
-  pub dead : p .mode ≡ outside → 256 ≤ m → 512 ≤ m
+  pub dead : p .mode ≡ inPlain → 256 ≤ m → 512 ≤ m
 
 -- A line that ends: the place after it, and its LFs.
 pub record Ends (g : Signs) (src : List ℕ) (p : Spot) (next feeds : ℕ) : Type 0 where
@@ -143,7 +143,7 @@ pub record Ends (g : Signs) (src : List ℕ) (p : Spot) (next feeds : ℕ) : Typ
 abbrev pub ItemIs : Signs → List ℕ → Spot → Item → Type 0
 ItemIs g src p (item.Mark m q) = Passes g src (m ∷ []) 0 p q × Marks p m q × Run g src (m ∷ []) 0 p q
 ItemIs g src p (item.Join q) = Passes g src [] 1 p q × Joins g src 1 p q
-ItemIs g src p (item.Hidden q) = Passes g src [] 0 p q × (q .mode ≡ comment) × (marksLeft g src p ≡ [])
+ItemIs g src p (item.Hidden q) = Passes g src [] 0 p q × (q .mode ≡ inComment) × (marksLeft g src p ≡ [])
 ItemIs g src p (item.End next feeds) = Ends g src p next feeds
 
 -- An escape outside comments.
@@ -151,7 +151,7 @@ pub record EscapeAt (g : Signs) (src : List ℕ) (p : Spot) : Type 0 where
   pub inside : p .at < length src
   pub sign : getD src (p .at) 0 ≡ g .escape
   pub no-feed : getD src (p .at) 0 ≡ 10 → ⊥
-  pub seen : p .mode ≡ comment → ⊥
+  pub seen : p .mode ≡ inComment → ⊥
 
 -- ## The next mark
 

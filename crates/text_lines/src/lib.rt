@@ -11,7 +11,7 @@ ghost use Rattle.text_lines.specs.Stream.{ItemIs, EscapeAt, StepIs, Line
 ghost use Rattle.text_lines.specs.Stretches.{FeedIs, NoFeed, Ordinary, Stretch, Block, DullTo};
 
 // Plain: outside names, quotes and comments.
-pub const OUTSIDE: u8 = 0;
+pub const IN_PLAIN: u8 = 0;
 
 // In a name.
 pub const IN_NAME: u8 = 1;
@@ -23,7 +23,7 @@ pub const QUOTED: u8 = 2;
 pub const QUOTED_NAME: u8 = 3;
 
 // In a comment.
-pub const COMMENT: u8 = 4;
+pub const IN_COMMENT: u8 = 4;
 
 // The comment and the escape character in force.
 pub struct Signs {
@@ -72,7 +72,7 @@ pub fn is_blank(b: u8) -> bool
 fn mode_after(mode: u8, b: u8) -> u8
     ensures { λ r. ⌜ r ≡ after mode b ⌝ }
 {
-    if mode == OUTSIDE {
+    if mode == IN_PLAIN {
         if b == 60 {
             return 1;
         }
@@ -109,7 +109,7 @@ fn mode_after(mode: u8, b: u8) -> u8
 fn opens(mode: u8, fresh: bool, b: u8, comment: u8) -> bool
     ensures { λ r. ⌜ r ≡ (eqb mode 0 && fresh && eqb b comment) ⌝ }
 {
-    if mode == OUTSIDE {
+    if mode == IN_PLAIN {
         if fresh {
             return b == comment;
         }
@@ -163,12 +163,12 @@ fn escaped(src: &[u8], g: Signs, p: Spot) -> Item
         });
     }
     let m = wide(b);
-    if mode == OUTSIDE {
+    if mode == IN_PLAIN {
         return Item::Mark(
             512 + m,
             Spot {
                 at: at + 2,
-                mode: OUTSIDE,
+                mode: IN_PLAIN,
                 fresh: false,
             },
         );
@@ -198,10 +198,10 @@ fn next_item(src: &[u8], g: Signs, p: Spot) -> Item
     if b == 10 {
         return Item::End(at + 1, 1);
     }
-    if mode == COMMENT {
+    if mode == IN_COMMENT {
         return Item::Hidden(Spot {
             at: at + 1,
-            mode: COMMENT,
+            mode: IN_COMMENT,
             fresh: fresh,
         });
     }
@@ -213,7 +213,7 @@ fn next_item(src: &[u8], g: Signs, p: Spot) -> Item
     if opens(mode, fresh, b, c) {
         return Item::Hidden(Spot {
             at: at + 1,
-            mode: COMMENT,
+            mode: IN_COMMENT,
             fresh: fresh,
         });
     }
@@ -343,7 +343,7 @@ fn dull_to(src: &[u8], escape: u8, at: usize, mode: u8, fresh: bool) -> usize
     requires { ⌜ at ≤ length (now src) ⌝ }
     ensures { λ r. ⌜ DullTo escape (now (src .entry)) at mode fresh r ⌝ }
 {
-    if mode == COMMENT {
+    if mode == IN_COMMENT {
         return feed_from(src, at);
     }
     if fresh {

@@ -7,7 +7,7 @@ use native.Mathlib.Omega.{arith}
 use lib.ListN.{length}
 use lib.Dec.{eqb, leb}
 use borrow.Author.Tests.{eqb-false}
-use Rattle.rules.specs.Lines.{outside}
+use Rattle.rules.specs.Lines.{inPlain}
 use Rattle.rules.specs.Tokens.{gap, broken, word, Token, token, single, tokenAt, noPart, tokensFrom, withoutBlanks, operands, tokensRefusal}
 use Rattle.text_lines.specs.declared.Signs.{Signs}
 use Rattle.text_lines.specs.declared.Spot.{Spot}
@@ -101,10 +101,10 @@ module _ (g : Signs) (src : List ℕ) (p : Spot) {a : After} (v : AfterIs g src 
     from : OperandsFrom g src p x
     from = subst (AfterIs g src p) e v
 
-    pub after-plain : (x .at ≤ length src) × (x .mode ≡ outside)
+    pub after-plain : (x .at ≤ length src) × (x .mode ≡ inPlain)
     after-plain = (from .to, from .mode)
 
-    pub after-fresh : (x .at ≤ length src) × (x .mode ≡ outside) × (x .fresh ≡ true)
+    pub after-fresh : (x .at ≤ length src) × (x .mode ≡ inPlain) × (x .fresh ≡ true)
     after-fresh = (from .to, from .mode, from .fresh)
 
     pub refusal-from : {r : ℕ} → r ≡ tokensRefusal (operandsLeft g src false x) → r ≡ tokensRefusal (operands (tokensLeft g src p))
@@ -124,7 +124,7 @@ module _ (g : Signs) (src : List ℕ) (glued : Bool) (p : Spot) {o : Operand} (v
     at = subst (OperandIs g src glued p) e v
 
     -- what reading on from the spot after it requires
-    pub next-plain : (t .next .at ≤ length src) × (t .next .mode ≡ outside)
+    pub next-plain : (t .next .at ≤ length src) × (t .next .mode ≡ inPlain)
     next-plain = (at .token .to, at .token .plain)
 
     -- less is left of the source
@@ -142,7 +142,7 @@ module _ (g : Signs) (src : List ℕ) (glued : Bool) (p : Spot) {o : Operand} (v
   left-none e = let z : operandsLeft g src glued p ≡ [] = subst (OperandIs g src glued p) e v in rw z
 
 -- a visible byte is not the end
-pub left-solid : (g : Signs) (src : List ℕ) (glued : Bool) (p : Spot) → p .mode ≡ outside → {b : ℕ} → PlainAt g src (p .at) b → 32 < b
+pub left-solid : (g : Signs) (src : List ℕ) (glued : Bool) (p : Spot) → p .mode ≡ inPlain → {b : ℕ} → PlainAt g src (p .at) b → 32 < b
     → false ≡ eqb (length (operandsLeft g src glued p)) 0
 unfolding operandsLeft tokensLeft
 left-solid g src glued p o {b} v l =

@@ -10,7 +10,7 @@ use borrow.Author.Tests.{ne-eqb, eqb-true}
 use Rattle.base_lists.proofs.Bools.{by, and-intro}
 use Rattle.rules.specs.Text.{every}
 use Rattle.rules.specs.Names.{isBlank}
-use Rattle.rules.specs.Lines.{outside}
+use Rattle.rules.specs.Lines.{inPlain}
 use Rattle.rules.specs.Tokens.{isText, withoutBlanks}
 use Rattle.text_lines.specs.declared.Signs.{Signs}
 use Rattle.text_lines.specs.declared.Spot.{Spot}
@@ -38,7 +38,7 @@ module _ (g : Signs) (src : List ℕ) (p : Spot) {s : Step} (v : StepIs g src p 
     blank-other h = rw (mark .marks) (simp (ne-eqb m 32 h))
 
 -- the next byte tells it
-module _ (g : Signs) (src : List ℕ) (p : Spot) (o : p .mode ≡ outside) {b : ℕ} (v : PlainAt g src (p .at) b) where
+module _ (g : Signs) (src : List ℕ) (p : Spot) (o : p .mode ≡ inPlain) {b : ℕ} (v : PlainAt g src (p .at) b) where
   pub blank-solid : 32 < b → false ≡ blankFirst (marksLeft g src p)
   blank-solid l = let m = ahead-solid g src p o v l in rw (m .marks) (m .step .fresh)
 

@@ -10,7 +10,7 @@ use Rattle.base_lists.proofs.Bools.{by}
 use Rattle.base_lists.proofs.Lists.{All}
 use Rattle.rules.specs.Text.{every, lower, lowest, _unless_}
 use Rattle.rules.specs.Names.{isVisible, nameRefusal, namesRefusal}
-use Rattle.rules.specs.Lines.{outside}
+use Rattle.rules.specs.Lines.{inPlain}
 use Rattle.rules.specs.Tokens.{broken, word, quote, Token, tokenAt, single, tokensOf, operands, tokensRefusal}
 use Rattle.text_lines.specs.declared.Signs.{Signs}
 use Rattle.text_lines.specs.declared.Spot.{Spot}
@@ -56,9 +56,9 @@ pub line-lowest : (g : Signs) (src : List ℕ) (q : Spot) {t : Tok} (os : List T
 line-lowest g src q os w = tokensRefusal-cons (tokenThere g src q) os ∙ ap (λ (r : ℕ). lower r (tokensRefusal os)) (w .refusal)
 
 -- a spot where a comment may open, outside names and quotes, is that of a line's start
-pub spot-start : (q : Spot) → q .mode ≡ outside → q .fresh ≡ true → q ≡ lineStart (q .at)
+pub spot-start : (q : Spot) → q .mode ≡ inPlain → q .fresh ≡ true → q ≡ lineStart (q .at)
 spot-start q m f =
-    ap (λ (x : ℕ). spotOf (q .at) x (q .fresh)) m ∙ ap (λ (x : Bool). spotOf (q .at) outside x) f
+    ap (λ (x : ℕ). spotOf (q .at) x (q .fresh)) m ∙ ap (λ (x : Bool). spotOf (q .at) inPlain x) f
 
 -- ## One operand
 

@@ -6,7 +6,7 @@ use Prim.Native.Nat.{ℕ, _-_, _≤_, _<_}
 use lib.ListN.{length}
 use lib.Dec.{leb}
 use Rattle.rules.specs.Text.{lower}
-use Rattle.rules.specs.Lines.{outside}
+use Rattle.rules.specs.Lines.{inPlain}
 use Rattle.rules.specs.Tokens.{broken, Token, tokensRefusal}
 use Rattle.text_lines.specs.declared.Signs.{Signs}
 use Rattle.text_lines.specs.declared.Spot.{Spot}
@@ -23,10 +23,10 @@ pub record Lowered (g : Signs) (src : List ℕ) (glued : Bool) (p q : Spot) (hel
   pub done : List Token
   pub whole : operandsLeft g src glued p ≡ done ++ operandsLeft g src held q
   pub lowest : tokensRefusal done ≡ refusal
-  pub mode : q .mode ≡ outside
+  pub mode : q .mode ≡ inPlain
   pub to : q .at ≤ length src
 
-pub lowered-none : (g : Signs) (src : List ℕ) (glued : Bool) (p : Spot) → p .at ≤ length src → p .mode ≡ outside → Lowered g src glued p p glued 0
+pub lowered-none : (g : Signs) (src : List ℕ) (glued : Bool) (p : Spot) → p .at ≤ length src → p .mode ≡ inPlain → Lowered g src glued p p glued 0
 lowered-none g src glued p h m = record { done = []; whole = refl; lowest = none-refused; mode = m; to = h }
 
 module _ (g : Signs) (src : List ℕ) (glued : Bool) (p q : Spot) (held : Bool) (refusal : ℕ) {o : Operand} (v : Lowered g src glued p q held refusal) (w : OperandIs g src held q o) where

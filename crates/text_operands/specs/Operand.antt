@@ -5,7 +5,7 @@ use mathlib.Core.List.{List, [], _∷_}
 use Prim.Native.Nat.{ℕ, _≤_}
 use lib.ListN.{length}
 use lib.Dec.{leb}
-use Rattle.rules.specs.Lines.{outside}
+use Rattle.rules.specs.Lines.{inPlain}
 use Rattle.rules.specs.Tokens.{broken, word, Token, token, single, withoutGaps, operands, tokensRefusal}
 use Rattle.text_lines.specs.declared.Signs.{Signs}
 use Rattle.text_lines.specs.declared.Spot.{Spot}
@@ -34,7 +34,7 @@ pub record OperandAt (g : Signs) (src : List ℕ) (glued : Bool) (p q : Spot) (t
   pub whole : t .kind ≡ broken → ⊥
   pub fresh : p .fresh ≡ true → q .fresh ≡ true
   pub apart : glued ≡ true → broken ≤ t .kind → q .fresh ≡ true
-  pub mode : q .mode ≡ outside
+  pub mode : q .mode ≡ inPlain
   pub from : p .at ≤ q .at
   pub to : q .at ≤ length src
   pub walk : Walk g src p q
@@ -51,7 +51,7 @@ OperandIs g src glued p operand.End = operandsLeft g src glued p ≡ []
 pub record OperandsFrom (g : Signs) (src : List ℕ) (p x : Spot) : Type 0 where
   pub operands : operands (tokensLeft g src p) ≡ operandsLeft g src false x
   pub fresh : x .fresh ≡ true
-  pub mode : x .mode ≡ outside
+  pub mode : x .mode ≡ inPlain
   pub from : p .at ≤ x .at
   pub to : x .at ≤ length src
   pub walk : Walk g src p x
@@ -69,7 +69,7 @@ pub record WordAlone (g : Signs) (src : List ℕ) (os : List Token) (q : Spot) :
   pub alone : os ≡ token word (wordIn (marksLeft g src q)) [] ∷ []
   pub some : 1 ≤ length (wordIn (marksLeft g src q))
   pub fresh : q .fresh ≡ true
-  pub mode : q .mode ≡ outside
+  pub mode : q .mode ≡ inPlain
   pub to : q .at ≤ length src
 
 abbrev pub OneIs : Signs → List ℕ → List Token → One → Type 0

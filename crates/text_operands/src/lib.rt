@@ -4,7 +4,7 @@ ghost use mathlib.Core.Bool.{true, false};
 ghost use Prim.Native.Nat.{_≤_};
 ghost use lib.ListN.{length};
 ghost use lib.Dec.{eqb};
-ghost use Rattle.rules.specs.Lines.{outside};
+ghost use Rattle.rules.specs.Lines.{inPlain};
 ghost use Rattle.rules.specs.Tokens.{operands, tokensRefusal};
 ghost use Rattle.text_lines.specs.Stream.{marksLeft, blankFirst};
 ghost use Rattle.text_tokens.specs.Left.{tokensLeft};
@@ -44,7 +44,7 @@ pub enum One {
 
 // Whether a blank comes next: most often one byte tells it.
 fn blank_next(src: &[u8], g: Signs, p: Spot) -> bool
-    requires { ⌜ (p .at ≤ length (now src)) × (p .mode ≡ outside) ⌝ }
+    requires { ⌜ (p .at ≤ length (now src)) × (p .mode ≡ inPlain) ⌝ }
     ensures { λ r. ⌜ r ≡ blankFirst (marksLeft g (now (src .entry)) p) ⌝ }
 {
     let b = plain_at(src, g, p.at);
@@ -76,7 +76,7 @@ fn blank_mark(src: &[u8], g: Signs, p: Spot) -> bool
 
 // The next operand; glued: a token that is no separator stands right before.
 pub fn next_operand(src: &[u8], g: Signs, p: Spot, glued: bool) -> Operand
-    requires { ⌜ (p .at ≤ length (now src)) × (p .mode ≡ outside) ⌝ }
+    requires { ⌜ (p .at ≤ length (now src)) × (p .mode ≡ inPlain) ⌝ }
     ensures { λ r. ⌜ OperandIs g (now (src .entry)) glued p r ⌝ }
 {
     let apart = blank_next(src, g, p);
@@ -105,7 +105,7 @@ pub fn next_operand(src: &[u8], g: Signs, p: Spot, glued: bool) -> Operand
 
 // What follows the first token of a line, from the spot after that on.
 pub fn after_first(src: &[u8], g: Signs, p: Spot) -> After
-    requires { ⌜ (p .at ≤ length (now src)) × (p .mode ≡ outside) ⌝ }
+    requires { ⌜ (p .at ≤ length (now src)) × (p .mode ≡ inPlain) ⌝ }
     ensures { λ r. ⌜ AfterIs g (now (src .entry)) p r ⌝ }
 {
     if blank_next(src, g, p) {
@@ -121,7 +121,7 @@ pub fn after_first(src: &[u8], g: Signs, p: Spot) -> After
 
 // The lowest refusal of the operands still to come.
 pub fn refusal_left(src: &[u8], g: Signs, p: Spot, glued: bool) -> u8
-    requires { ⌜ (p .at ≤ length (now src)) × (p .mode ≡ outside) ⌝ }
+    requires { ⌜ (p .at ≤ length (now src)) × (p .mode ≡ inPlain) ⌝ }
     ensures { λ r. ⌜ r ≡ tokensRefusal (operandsLeft g (now (src .entry)) glued p) ⌝ }
 {
     let mut q = p;
@@ -143,7 +143,7 @@ pub fn refusal_left(src: &[u8], g: Signs, p: Spot, glued: bool) -> u8
 
 // The lowest refusal of a line's operands, from the spot after its first token on.
 pub fn operands_refusal(src: &[u8], g: Signs, p: Spot) -> u8
-    requires { ⌜ (p .at ≤ length (now src)) × (p .mode ≡ outside) ⌝ }
+    requires { ⌜ (p .at ≤ length (now src)) × (p .mode ≡ inPlain) ⌝ }
     ensures { λ r. ⌜ r ≡ tokensRefusal (operands (tokensLeft g (now (src .entry)) p)) ⌝ }
 {
     let a = after_first(src, g, p);
@@ -156,7 +156,7 @@ pub fn operands_refusal(src: &[u8], g: Signs, p: Spot) -> u8
 
 // Whether no operand is still to come: a visible byte tells that one is.
 pub fn none_left(src: &[u8], g: Signs, p: Spot, glued: bool) -> bool
-    requires { ⌜ (p .at ≤ length (now src)) × (p .mode ≡ outside) ⌝ }
+    requires { ⌜ (p .at ≤ length (now src)) × (p .mode ≡ inPlain) ⌝ }
     ensures { λ r. ⌜ r ≡ eqb (length (operandsLeft g (now (src .entry)) glued p)) 0 ⌝ }
 {
     if plain_at(src, g, p.at) > 32 {
@@ -167,7 +167,7 @@ pub fn none_left(src: &[u8], g: Signs, p: Spot, glued: bool) -> bool
 
 // The same by the next operand.
 fn none_after(src: &[u8], g: Signs, p: Spot, glued: bool) -> bool
-    requires { ⌜ (p .at ≤ length (now src)) × (p .mode ≡ outside) ⌝ }
+    requires { ⌜ (p .at ≤ length (now src)) × (p .mode ≡ inPlain) ⌝ }
     ensures { λ r. ⌜ r ≡ eqb (length (operandsLeft g (now (src .entry)) glued p)) 0 ⌝ }
 {
     let o = next_operand(src, g, p, glued);
@@ -180,7 +180,7 @@ fn none_after(src: &[u8], g: Signs, p: Spot, glued: bool) -> bool
 
 // Whether a line has no operand, from the spot after its first token on.
 pub fn no_operand(src: &[u8], g: Signs, p: Spot) -> bool
-    requires { ⌜ (p .at ≤ length (now src)) × (p .mode ≡ outside) ⌝ }
+    requires { ⌜ (p .at ≤ length (now src)) × (p .mode ≡ inPlain) ⌝ }
     ensures { λ r. ⌜ r ≡ eqb (length (operands (tokensLeft g (now (src .entry)) p))) 0 ⌝ }
 {
     let a = after_first(src, g, p);
@@ -193,7 +193,7 @@ pub fn no_operand(src: &[u8], g: Signs, p: Spot) -> bool
 
 // Whether one word is still to come, from a spot after blanks on.
 fn word_left(src: &[u8], g: Signs, p: Spot) -> One
-    requires { ⌜ (p .at ≤ length (now src)) × (p .mode ≡ outside) × (p .fresh ≡ true) ⌝ }
+    requires { ⌜ (p .at ≤ length (now src)) × (p .mode ≡ inPlain) × (p .fresh ≡ true) ⌝ }
     ensures { λ r. ⌜ OneIs g (now (src .entry)) (operandsLeft g (now (src .entry)) false p) r ⌝ }
 {
     let o = next_operand(src, g, p, false);
@@ -214,7 +214,7 @@ fn word_left(src: &[u8], g: Signs, p: Spot) -> One
 
 // Whether a line's operands are one word, from the spot after its first token on.
 pub fn single_word(src: &[u8], g: Signs, p: Spot) -> One
-    requires { ⌜ (p .at ≤ length (now src)) × (p .mode ≡ outside) ⌝ }
+    requires { ⌜ (p .at ≤ length (now src)) × (p .mode ≡ inPlain) ⌝ }
     ensures { λ r. ⌜ OneIs g (now (src .entry)) (operands (tokensLeft g (now (src .entry)) p)) r ⌝ }
 {
     let a = after_first(src, g, p);

@@ -5,8 +5,8 @@ ghost use Prim.Native.Nat.{_+_, _^_, _≤_, _<_};
 ghost use lib.ListN.{length};
 ghost use lib.Dec.{leb};
 ghost use Rattle.text_lines.specs.Stream.{lineStart, LineIs};
+use text_lines::IN_PLAIN;
 use text_lines::LineEnd;
-use text_lines::OUTSIDE;
 use text_lines::Signs;
 use text_lines::Spot;
 use text_lines::line_end;
@@ -32,7 +32,7 @@ fn line_from(src: &[u8], g: Signs, at: usize) -> LineEnd
 {
     let p = Spot {
         at: at,
-        mode: OUTSIDE,
+        mode: IN_PLAIN,
         fresh: true,
     };
     line_end(src, g, p)

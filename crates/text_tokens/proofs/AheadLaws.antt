@@ -6,7 +6,7 @@ use Prim.Native.Nat.{ℕ, _+_, _≤_, _<_}
 use native.Mathlib.Omega.{arith}
 use lib.ListN.{length}
 use borrow.Author.Tests.{ne-eqb}
-use Rattle.rules.specs.Lines.{outside, after}
+use Rattle.rules.specs.Lines.{inPlain, after}
 use Rattle.rules.specs.Tokens.{tokensRefusal}
 use Rattle.text_lines.specs.declared.Signs.{Signs}
 use Rattle.text_lines.specs.declared.Spot.{Spot}
@@ -22,14 +22,14 @@ use Rattle.text_tokens.proofs.StandLaws.{plain-stands}
 use Rattle.text_tokens.proofs.NextLaws.{next-semi, next-name, next-name-open}
 use Rattle.text_tokens.proofs.GapLaws.{blanks-none, blanks-space, blanks-stop}
 
-module _ (g : Signs) (src : List ℕ) (p : Spot) (o : p .mode ≡ outside) where
+module _ (g : Signs) (src : List ℕ) (p : Spot) (o : p .mode ≡ inPlain) where
   -- the spot after it, in a mode
   abbrev past : ℕ → Bool → Spot
   past mode fresh = spot (p .at + 1) mode fresh
 
   module _ {b : ℕ} (v : PlainAt g src (p .at) b) where
     -- a visible byte, or one beyond
-    pub ahead-solid : 32 < b → MarkIs g src p b (past (after outside b) false)
+    pub ahead-solid : 32 < b → MarkIs g src p b (past (after inPlain b) false)
     ahead-solid l =
         stands-mark (plain-stands v o (omega arith)) (rw o) (simp (ne-eqb b 32 (λ z. omega arith), ne-eqb b 9 (λ z. omega arith)))
 
@@ -64,14 +64,14 @@ module _ (g : Signs) (src : List ℕ) (p : Spot) (o : p .mode ≡ outside) where
     pub ahead-none : 32 < b → Skips g src p p
     ahead-none l =
         let m = ahead-solid l in
-        blanks-stop {s = step.Mark b (past (after outside b) false)} (blanks-none g src p (omega (arith, m .on, m .to)) o) m refl (sym (m .step .fresh))
+        blanks-stop {s = step.Mark b (past (after inPlain b) false)} (blanks-none g src p (omega (arith, m .on, m .to)) o) m refl (sym (m .step .fresh))
 
 -- one blank, and none behind it
-pub ahead-one : (g : Signs) (src : List ℕ) (p : Spot) (o : p .mode ≡ outside) {b d : ℕ} → PlainAt g src (p .at) b → b ≡ 32 → PlainAt g src (p .at + 1) d → 32 < d
+pub ahead-one : (g : Signs) (src : List ℕ) (p : Spot) (o : p .mode ≡ inPlain) {b d : ℕ} → PlainAt g src (p .at) b → b ≡ 32 → PlainAt g src (p .at + 1) d → 32 < d
     → Skips g src p (spot (p .at + 1) 0 true)
 ahead-one g src p o {b} {d} v e w l =
     let q = spot (p .at + 1) 0 true in
     let m = ahead-space g src p o v e in
     let n = ahead-solid g src q refl w l in
     let i = blanks-space {s = step.Mark 32 q} (blanks-none g src p (omega (arith, m .on, m .to)) o) m refl refl in
-    blanks-stop {s = step.Mark d (spot (q .at + 1) (after outside d) false)} i n refl (sym (n .step .fresh))
+    blanks-stop {s = step.Mark d (spot (q .at + 1) (after inPlain d) false)} i n refl (sym (n .step .fresh))

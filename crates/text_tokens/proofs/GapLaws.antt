@@ -9,7 +9,7 @@ use lib.Dec.{eqb, leb}
 use borrow.Author.Tests.{ne-eqb}
 use Rattle.base_lists.proofs.Bools.{by, cond-both}
 use Rattle.rules.specs.Names.{isBlank}
-use Rattle.rules.specs.Lines.{outside, after}
+use Rattle.rules.specs.Lines.{inPlain, after}
 use Rattle.rules.specs.Tokens.{gap, semi, comma, broken, word, name, quote, asIs, Token, token, noPart, Lexed, lexed, lexNone, quotedPart, lex, lexEnd, tokensFrom, withoutBlanks, withoutOpeningGaps, tokensOf}
 use Rattle.text_lines.specs.declared.Signs.{Signs}
 use Rattle.text_lines.specs.declared.Spot.{Spot}
@@ -86,12 +86,12 @@ opening-gaps (m ∷ ms) =
 -- From p to q only blanks are passed.
 pub record InBlanks (g : Signs) (src : List ℕ) (p q : Spot) : Type 0 where
   pub rest : withoutBlanks (marksLeft g src p) ≡ withoutBlanks (marksLeft g src q)
-  pub mode : q .mode ≡ outside
+  pub mode : q .mode ≡ inPlain
   pub walk : Walk g src p q
   pub from : p .at ≤ q .at
   pub to : q .at ≤ length src
 
-pub blanks-none : (g : Signs) (src : List ℕ) (p : Spot) → p .at ≤ length src → p .mode ≡ outside → InBlanks g src p p
+pub blanks-none : (g : Signs) (src : List ℕ) (p : Spot) → p .at ≤ length src → p .mode ≡ inPlain → InBlanks g src p p
 blanks-none g src p h m = record { rest = refl; mode = m; walk = walk-none g src p; from = omega arith; to = h }
 
 -- where no blank comes next
@@ -117,7 +117,7 @@ module _ {g : Signs} {src : List ℕ} {p q : Spot} {s : Step} (v : InBlanks g sr
     pub blanks-less : length src - r .at < length src - q .at
     blanks-less = let x = mark .on in let y = mark .to in omega arith
 
-    more : isBlank m ≡ true → after outside m ≡ outside → InBlanks g src p r
+    more : isBlank m ≡ true → after inPlain m ≡ inPlain → InBlanks g src p r
     unfolding withoutBlanks
     more b a =
         record { rest = v .rest ∙ rw (mark .marks, b); mode = mark .step .mode ∙ rw (v .mode) a; walk = walk-then (v .walk) (mark-walk mark); from = omega (arith, v .from, mark .on); to = mark .to }

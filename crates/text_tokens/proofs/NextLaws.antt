@@ -8,7 +8,7 @@ use lib.ListN.{length}
 use borrow.Author.Tests.{ne-eqb}
 use Rattle.rules.specs.Text.{oneOf, lower, lowest}
 use Rattle.rules.specs.Names.{namesRefusal}
-use Rattle.rules.specs.Lines.{outside, quoted, after}
+use Rattle.rules.specs.Lines.{inPlain, quoted, after}
 use Rattle.rules.specs.Tokens.{broken, word, name, quote, Token, token, noPart, inWord, tokensFrom, tokensRefusal, lexEnd}
 use Rattle.text_lines.specs.declared.Signs.{Signs}
 use Rattle.text_lines.specs.declared.Spot.{Spot}
@@ -41,7 +41,7 @@ module _ (g : Signs) (src : List ℕ) (p : Spot) where
   first e = rw (there e) e
 
   -- a separator or a blank
-  bare-token : {q : Spot} (k : ℕ) → k ≤ 2 → tokensLeft g src p ≡ token k [] [] ∷ tokensLeft g src q → q .mode ≡ outside → Walk g src p q → p .at < q .at → q .at ≤ length src
+  bare-token : {q : Spot} (k : ℕ) → k ≤ 2 → tokensLeft g src p ≡ token k [] [] ∷ tokensLeft g src q → q .mode ≡ inPlain → Walk g src p q → p .at < q .at → q .at ≤ length src
       → TokenIs g src p (bareAt k q)
   bare-token {q} k h e m v l n =
       let t = there e in
@@ -72,7 +72,7 @@ module _ (g : Signs) (src : List ℕ) (p : Spot) where
   unfolding tokensLeft tokensFrom lexEnd
   next-end v e = let n : marksLeft g src p ≡ [] = subst (StepIs g src p) e v in rw n
 
-  module _ {s : Step} {m : ℕ} {q : Spot} (o : p .mode ≡ outside) (v : StepIs g src p s) (e : s ≡ step.Mark m q) where
+  module _ {s : Step} {m : ℕ} {q : Spot} (o : p .mode ≡ inPlain) (v : StepIs g src p s) (e : s ≡ step.Mark m q) where
     mark : MarkIs g src p m q
     mark = subst (StepIs g src p) e v
 
@@ -82,7 +82,7 @@ module _ (g : Signs) (src : List ℕ) (p : Spot) where
     from-mark = rw (mark .marks)
 
     -- in plain mode only `<` and `"` leave it
-    stays : (m ≡ 60 → ⊥) → (m ≡ 34 → ⊥) → q .mode ≡ outside
+    stays : (m ≡ 60 → ⊥) → (m ≡ 34 → ⊥) → q .mode ≡ inPlain
     unfolding after
     stays h k = mark .step .mode ∙ rw o (simp (ne-eqb m 60 h, ne-eqb m 34 k))
 
@@ -144,7 +144,7 @@ module _ (g : Signs) (src : List ℕ) (p : Spot) where
       goes-on : inWord m ≡ true
       goes-on = sym (in-word-yes m h a b c d f) ∙ simp (ne-eqb m 34 i)
 
-      pub next-word-plain : (q .at ≤ length src) × (q .mode ≡ outside)
+      pub next-word-plain : (q .at ≤ length src) × (q .mode ≡ inPlain)
       next-word-plain = (mark .to, stays f i)
 
       pub next-word : {r : Spot} {t : Tok} → WordEnds g src q r → t ≡ bareAt 4 r → TokenIs g src p t

@@ -8,7 +8,7 @@ use lib.ListN.{length, getD, List·getD-eq-default}
 use lib.Dec.{eqb, ltb}
 use borrow.Author.Tests.{eq-eqb, ne-eqb, eqb-false, ltb-true, ltb-false}
 use Rattle.base_lists.proofs.Bools.{by, cond-both, or-false-left, or-false-right}
-use Rattle.rules.specs.Lines.{outside}
+use Rattle.rules.specs.Lines.{inPlain}
 use Rattle.text_lines.specs.declared.Signs.{Signs}
 use Rattle.text_lines.specs.declared.Spot.{Spot}
 use Rattle.text_lines.proofs.StandsLaws.{Stands}
@@ -41,7 +41,7 @@ module _ (g : Signs) (src : List ℕ) (at : ℕ) where
         record { is = sym (simp (ne-eqb (getD src at 0) (g .escape) h, ne-eqb (getD src at 0) (g .comment) k, ne-eqb (getD src at 0) 10 n)); small = l }
 
 -- such a byte stands at every spot in plain mode
-pub plain-stands : {g : Signs} {src : List ℕ} {p : Spot} {b : ℕ} → PlainAt g src (p .at) b → p .mode ≡ outside → 0 < b → Stands g src p b
+pub plain-stands : {g : Signs} {src : List ℕ} {p : Spot} {b : ℕ} → PlainAt g src (p .at) b → p .mode ≡ inPlain → 0 < b → Stands g src p b
 unfolding plainAt
 plain-stands {g} {src} {p} {b} v o l =
     let x = getD src (p .at) 0 in

@@ -11,7 +11,7 @@ use lib.Seq.{drop-cons}
 use lib.Dec.{eqb}
 use borrow.Author.Tests.{eq-eqb, ne-eqb, le-leb, lt-leb, eqb-false, eqb-true}
 use Rattle.rules.specs.Text.{same}
-use Rattle.rules.specs.Lines.{outside, after}
+use Rattle.rules.specs.Lines.{inPlain, after}
 use Rattle.rules.specs.Tokens.{inWord}
 use Rattle.text_lines.specs.declared.Signs.{Signs}
 use Rattle.text_lines.specs.declared.Spot.{Spot}
@@ -84,14 +84,14 @@ module _ {g : Signs} {src : List ℕ} {p : Spot} where
 -- From p to q a word goes on.
 pub record InWord (g : Signs) (src : List ℕ) (p q : Spot) : Type 0 where
   pub after : afterWord (marksLeft g src p) ≡ afterWord (marksLeft g src q)
-  pub mode : q .mode ≡ outside
+  pub mode : q .mode ≡ inPlain
   pub edge : p .fresh ≡ false → q .fresh ≡ false
   pub long : length (wordIn (marksLeft g src p)) + p .at ≤ length (wordIn (marksLeft g src q)) + q .at
   pub walk : Walk g src p q
   pub from : p .at ≤ q .at
   pub to : q .at ≤ length src
 
-pub in-none : (g : Signs) (src : List ℕ) (p : Spot) → p .at ≤ length src → p .mode ≡ outside → InWord g src p p
+pub in-none : (g : Signs) (src : List ℕ) (p : Spot) → p .at ≤ length src → p .mode ≡ inPlain → InWord g src p p
 in-none g src p h m = record { after = refl; mode = m; edge = λ e. e; long = omega arith; walk = walk-none g src p; from = omega arith; to = h }
 
 module _ {g : Signs} {src : List ℕ} {p q : Spot} {s : WordStep} (v : InWord g src p q) (w : WordStepIs g src q s) where

@@ -8,7 +8,7 @@ use lib.Dec.{eqb, leb}
 use Rattle.rules.specs.Text.{if_then_else_, every, oneOf, _unless_, lower}
 use Rattle.rules.specs.Names.{isVisible, nameRefusal, namesRefusal}
 use Rattle.rules.specs.Lines as lines
-use Rattle.rules.specs.Lines.{outside, inName, quoted, quotedName}
+use Rattle.rules.specs.Lines.{inPlain, inName, quoted, quotedName}
 use Rattle.rules.specs.Tokens as tokens
 use Rattle.rules.specs.Tokens.{broken, word, name, quote, Token, tokenAt, noPart, inWord, tokensFrom, withoutBlanks, withoutOpeningGaps, tokensRefusal, lexed, token}
 use Rattle.text_lines.specs.declared.Signs.{Signs}
@@ -126,7 +126,7 @@ namesIn ms = namesFrom false ms
 pub record WordByte (g : Signs) (src : List ℕ) (p : Spot) (b : ℕ) (q : Spot) : Type 0 where
   pub bytes : wordIn (marksLeft g src p) ≡ b ∷ wordIn (marksLeft g src q)
   pub after : afterWord (marksLeft g src p) ≡ afterWord (marksLeft g src q)
-  pub mode : p .mode ≡ outside → q .mode ≡ outside
+  pub mode : p .mode ≡ inPlain → q .mode ≡ inPlain
   pub edge : q .fresh ≡ false
   pub on : p .at < q .at
   pub walk : Walk g src p q
@@ -144,7 +144,7 @@ WordStepIs g src p wordStep.End = WordStops g src p
 -- The spot after a word that goes on.
 pub record WordEnds (g : Signs) (src : List ℕ) (p q : Spot) : Type 0 where
   pub after : marksLeft g src q ≡ afterWord (marksLeft g src p)
-  pub mode : q .mode ≡ outside
+  pub mode : q .mode ≡ inPlain
   pub edge : p .fresh ≡ false → q .fresh ≡ false
   pub long : length (wordIn (marksLeft g src p)) + p .at ≤ q .at
   pub from : p .at ≤ q .at
@@ -220,7 +220,7 @@ pub record QuotesEnd (g : Signs) (src : List ℕ) (p : Spot) (n r : ℕ) (q : Sp
   pub token : tokensFrom (lexed [] quote [] []) (marksLeft g src p) ≡ token quote [] (namesIn (marksLeft g src p)) ∷ tokensLeft g src q
   pub many : length (namesIn (marksLeft g src p)) ≡ n
   pub refusal : namesRefusal (namesIn (marksLeft g src p)) ≡ r
-  pub mode : q .mode ≡ outside
+  pub mode : q .mode ≡ inPlain
   pub edge : q .fresh ≡ false
   pub on : p .at < q .at
   pub walk : Walk g src p q
@@ -253,7 +253,7 @@ pub record TokenIs (g : Signs) (src : List ℕ) (p : Spot) (t : Tok) : Type 0 wh
   pub quote : t .kind ≡ quote → tokenThere g src p .names ≡ namesIn (marksLeft g src (t .inside))
   pub name-mode : t .kind ≡ tokens.name → t .inside .mode ≡ inName
   pub quote-mode : t .kind ≡ tokens.quote → t .inside .mode ≡ quoted
-  pub plain : t .next .mode ≡ outside
+  pub plain : t .next .mode ≡ inPlain
   pub edge : broken ≤ t .kind → t .next .fresh ≡ false
   pub long-word : t .kind ≡ tokens.word → length (tokenThere g src p .text) + p .at ≤ t .next .at
   pub long-name : t .kind ≡ tokens.name → length (nameIn (marksLeft g src (t .inside))) + t .inside .at < t .next .at
@@ -273,7 +273,7 @@ NextIs g src p next.End = tokensLeft g src p ≡ []
 pub record Skips (g : Signs) (src : List ℕ) (p q : Spot) : Type 0 where
   pub marks : marksLeft g src q ≡ withoutBlanks (marksLeft g src p)
   pub tokens : tokensLeft g src q ≡ withoutOpeningGaps (tokensLeft g src p)
-  pub mode : q .mode ≡ outside
+  pub mode : q .mode ≡ inPlain
   pub from : p .at ≤ q .at
   pub walk : Walk g src p q
   pub to : q .at ≤ length src

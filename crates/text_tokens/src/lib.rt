@@ -7,11 +7,11 @@ ghost use lib.Dec.{leb};
 ghost use Rattle.rules.specs.Text.{_unless_, lower, same};
 ghost use Rattle.rules.specs.Names.{isVisible};
 ghost use Rattle.rules.specs.Tokens.{inWord};
-ghost use Rattle.rules.specs.Lines.{outside, quoted};
+ghost use Rattle.rules.specs.Lines.{inPlain, quoted};
 ghost use Rattle.text_lines.specs.Stream.{marksLeft};
 ghost use Rattle.text_tokens.specs.Left.{wordIn, isInside, isPlain, PlainTo, PlainAt, WordStepIs, WordEnds, NameStepIs, ClosingAfter, ClosingIs, QuotesIs, bareAt, namedAt, NextIs, Skips};
 use text_lines::IN_NAME;
-use text_lines::OUTSIDE;
+use text_lines::IN_PLAIN;
 use text_lines::Signs;
 use text_lines::Spot;
 use text_lines::Step;
@@ -124,7 +124,7 @@ pub fn word_byte(src: &[u8], g: Signs, p: Spot) -> WordStep
 
 // The spot after a word that goes on.
 pub fn end_of_word(src: &[u8], g: Signs, p: Spot) -> Spot
-    requires { ⌜ (p .at ≤ length (now src)) × (p .mode ≡ outside) ⌝ }
+    requires { ⌜ (p .at ≤ length (now src)) × (p .mode ≡ inPlain) ⌝ }
     ensures { λ r. ⌜ WordEnds g (now (src .entry)) p r ⌝ }
 {
     let mut q = p;
@@ -399,7 +399,7 @@ pub fn plain_at(src: &[u8], g: Signs, at: usize) -> u8
 
 // The next token of a line, at a spot where none is open. A name and a `;` are told by one byte, anything else by the next mark.
 pub fn next_token(src: &[u8], g: Signs, p: Spot) -> Next
-    requires { ⌜ (p .at ≤ length (now src)) × (p .mode ≡ outside) ⌝ }
+    requires { ⌜ (p .at ≤ length (now src)) × (p .mode ≡ inPlain) ⌝ }
     ensures { λ r. ⌜ NextIs g (now (src .entry)) p r ⌝ }
 {
     let at = p.at;
@@ -421,7 +421,7 @@ pub fn next_token(src: &[u8], g: Signs, p: Spot) -> Next
             SEMI,
             Spot {
                 at: at + 1,
-                mode: OUTSIDE,
+                mode: IN_PLAIN,
                 fresh: false,
             },
         ));
@@ -431,7 +431,7 @@ pub fn next_token(src: &[u8], g: Signs, p: Spot) -> Next
 
 // The same by the next mark.
 fn any_token(src: &[u8], g: Signs, p: Spot) -> Next
-    requires { ⌜ (p .at ≤ length (now src)) × (p .mode ≡ outside) ⌝ }
+    requires { ⌜ (p .at ≤ length (now src)) × (p .mode ≡ inPlain) ⌝ }
     ensures { λ r. ⌜ NextIs g (now (src .entry)) p r ⌝ }
 {
     let s = next_mark(src, g, p);
@@ -493,7 +493,7 @@ fn any_token(src: &[u8], g: Signs, p: Spot) -> Next
 
 // The spot after the blanks that come next. Most often there is none, or one, and a visible byte behind it.
 pub fn skip_gaps(src: &[u8], g: Signs, p: Spot) -> Spot
-    requires { ⌜ (p .at ≤ length (now src)) × (p .mode ≡ outside) ⌝ }
+    requires { ⌜ (p .at ≤ length (now src)) × (p .mode ≡ inPlain) ⌝ }
     ensures { λ r. ⌜ Skips g (now (src .entry)) p r ⌝ }
 {
     let at = p.at;
@@ -505,7 +505,7 @@ pub fn skip_gaps(src: &[u8], g: Signs, p: Spot) -> Spot
         if plain_at(src, g, at + 1) > 32 {
             return Spot {
                 at: at + 1,
-                mode: OUTSIDE,
+                mode: IN_PLAIN,
                 fresh: true,
             };
         }
@@ -515,7 +515,7 @@ pub fn skip_gaps(src: &[u8], g: Signs, p: Spot) -> Spot
 
 // The same by the next marks.
 fn skip_all(src: &[u8], g: Signs, p: Spot) -> Spot
-    requires { ⌜ (p .at ≤ length (now src)) × (p .mode ≡ outside) ⌝ }
+    requires { ⌜ (p .at ≤ length (now src)) × (p .mode ≡ inPlain) ⌝ }
     ensures { λ r. ⌜ Skips g (now (src .entry)) p r ⌝ }
 {
     let mut q = p;

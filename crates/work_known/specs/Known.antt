@@ -9,7 +9,7 @@ use lib.Dec.{leb, eqb}
 use Rattle.base_lists.proofs.Lists.{All}
 use Rattle.rules.specs.Text.{if_then_else_, oneOf}
 use Rattle.rules.specs.Tokens.{Token, operands, tokensRefusal}
-use Rattle.rules.specs.Lines.{outside}
+use Rattle.rules.specs.Lines.{inPlain}
 use Rattle.rules.specs.Meaning.{Rule}
 use Rattle.rules.specs.State.{Declaration, symbol, element, Subject, character, named, undefined, OrderLine}
 use Rattle.rules.specs.OrderLines.{weightsRefusal, operandList, weightsOf}
@@ -48,7 +48,7 @@ subjectAt g src v = if leb (undefinedMark (length src)) v then undefined else su
 
 -- right after an order line's subject
 abbrev pub behind : ℕ → Spot
-behind at = record { at = at; mode = outside; fresh = false }
+behind at = record { at = at; mode = inPlain; fresh = false }
 
 -- the order line of a mark
 unfoldable pub lineAt : Signs → List ℕ → List Rule → List ℕ → ℕ → OrderLine

@@ -11,7 +11,7 @@ use borrow.Author.Tests.{ne-eqb, eqb-true, eqb-false}
 use Rattle.base_lists.proofs.Bools.{by}
 use Rattle.rules.specs.Text.{if_then_else_}
 use Rattle.rules.specs.Names.{isBlank}
-use Rattle.rules.specs.Lines.{outside, inName, quoted, quotedName, comment, after, Scan, fed, opensComment, endsEntry, scanEscaped, scan, lineFrom}
+use Rattle.rules.specs.Lines.{inPlain, inName, quoted, quotedName, inComment, after, Scan, fed, opensComment, endsEntry, scanEscaped, scan, lineFrom}
 use Rattle.rules.specs.OrderLines.{subjectOf}
 use Rattle.text_lines.specs.declared.Signs.{Signs}
 use Rattle.text_lines.specs.declared.Spot.{Spot}
@@ -52,18 +52,18 @@ module _ (g : Signs) (mode : ℕ) (fresh : Bool) (f z b : ℕ) (bs : List ℕ) w
   unfolding scan scanEscaped
   join-on t = ap (λ (s : Scan). s .marks) (line-step (plainSigns g) (begun mode fresh true f z) b bs {n = begun mode fresh false (suc f) (suc z)} (rw t) refl)
 
-  module _ (out : eqb mode outside ≡ false) (k : eqb b 10 ≡ false) where
+  module _ (out : eqb mode inPlain ≡ false) (k : eqb b 10 ≡ false) where
     -- a byte after an escape
     pair-on : goesOn g (begun mode fresh true f z) (b ∷ bs) ≡ goesOn g (withMark mode false (256 + b) f (suc z)) bs
     unfolding scan scanEscaped
     pair-on = ap (λ (s : Scan). s .marks) (line-step (plainSigns g) (begun mode fresh true f z) b bs {n = withMark mode false (256 + b) f (suc z)} (rw (k, out)) refl)
 
     -- a byte of a comment
-    hidden-on : eqb mode comment ≡ true → goesOn g (begun mode fresh false f z) (b ∷ bs) ≡ goesOn g (begun comment fresh false f (suc z)) bs
+    hidden-on : eqb mode inComment ≡ true → goesOn g (begun mode fresh false f z) (b ∷ bs) ≡ goesOn g (begun inComment fresh false f (suc z)) bs
     unfolding scan
-    hidden-on t = ap (λ (s : Scan). s .marks) (line-step (plainSigns g) (begun mode fresh false f z) b bs {n = begun comment fresh false f (suc z)} (rw (k, t)) refl)
+    hidden-on t = ap (λ (s : Scan). s .marks) (line-step (plainSigns g) (begun mode fresh false f z) b bs {n = begun inComment fresh false f (suc z)} (rw (k, t)) refl)
 
-    module _ (seen : eqb mode comment ≡ false) where
+    module _ (seen : eqb mode inComment ≡ false) where
       -- an escape
       escape-on : eqb b (g .escape) ≡ true → goesOn g (begun mode fresh false f z) (b ∷ bs) ≡ goesOn g (begun mode fresh true f (suc z)) bs
       unfolding scan
@@ -84,7 +84,7 @@ module _ (g : Signs) (mode : ℕ) (fresh : Bool) (f z b : ℕ) (bs : List ℕ) w
 -- ## A blank before a spot
 
 -- it does not matter outside plain mode
-marks-fresh : (g : Signs) (mode : ℕ) (x y escaped : Bool) (f z : ℕ) (bs : List ℕ) → eqb mode outside ≡ false
+marks-fresh : (g : Signs) (mode : ℕ) (x y escaped : Bool) (f z : ℕ) (bs : List ℕ) → eqb mode inPlain ≡ false
     → goesOn g (begun mode x escaped f z) bs ≡ goesOn g (begun mode y escaped f z) bs
 unfolding lineFrom
 marks-fresh g mode x y true f z [] h = refl
@@ -94,8 +94,8 @@ marks-fresh g mode x y true f z (b ∷ bs) h =
     (λ t. pair-on g mode x f z b bs h t ∙ sym (pair-on g mode y f z b bs h t))
 marks-fresh g mode x y false f z (b ∷ bs) h =
     by (eqb b 10) (λ t. feed-on g mode x f z b bs t ∙ sym (feed-on g mode y f z b bs t)) (λ t.
-    by (eqb mode comment)
-    (λ u. hidden-on g mode x f z b bs h t u ∙ marks-fresh g comment x y false f (suc z) bs refl ∙ sym (hidden-on g mode y f z b bs h t u)) (λ u.
+    by (eqb mode inComment)
+    (λ u. hidden-on g mode x f z b bs h t u ∙ marks-fresh g inComment x y false f (suc z) bs refl ∙ sym (hidden-on g mode y f z b bs h t u)) (λ u.
     by (eqb b (g .escape))
     (λ v. escape-on g mode x f z b bs h t u v ∙ marks-fresh g mode x y true f (suc z) bs h ∙ sym (escape-on g mode y f z b bs h t u v))
     (λ v. byte-on g mode x f z b bs h t u v ∙ sym (byte-on g mode y f z b bs h t u v))))
@@ -128,7 +128,7 @@ nameIn-close : (m : ℕ) (ms : List ℕ) → eqb m 62 ≡ true → nameIn (m ∷
 unfolding nameIn
 nameIn-close m ms h = rw h
 
-module _ (g : Signs) (mode : ℕ) (out : eqb mode outside ≡ false) (seen : eqb mode comment ≡ false)
+module _ (g : Signs) (mode : ℕ) (out : eqb mode inPlain ≡ false) (seen : eqb mode inComment ≡ false)
     (stays : (b : ℕ) → eqb b 62 ≡ false → after mode b ≡ mode) where
   name-upTo : (fresh escaped : Bool) (f z : ℕ) (bs : List ℕ) → nameIn (goesOn g (begun mode fresh escaped f z) bs) ≡ upTo (g .escape) escaped bs
   unfolding lineFrom nameIn upTo

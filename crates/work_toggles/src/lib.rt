@@ -11,7 +11,7 @@ ghost use Rattle.rules.specs.Text.{within, same, oneOf};
 ghost use Rattle.rules.specs.Conditionals.{isToggleByte, isToggle, isOn};
 ghost use Rattle.work_toggles.specs.Candidates.{decisionFor, takes, candidate, Copied, Parts, Differ};
 ghost use Rattle.work_toggles.specs.Kept.{wordLeft, toggleAt, togglesIn, Kept, isDefined, storedAs, PlaceIs, Slot, ShapeIs, refusalFor, IsNew, Decides, MayTurn, Turned};
-use text_lines::OUTSIDE;
+use text_lines::IN_PLAIN;
 use text_lines::Signs;
 use text_lines::Spot;
 use text_specials::between;
@@ -110,7 +110,7 @@ fn spot_of(v: u32) -> Spot
     let at = place_of(v);
     Spot {
         at: at,
-        mode: OUTSIDE,
+        mode: IN_PLAIN,
         fresh: true,
     }
 }
@@ -306,7 +306,7 @@ pub fn turn(
 {
     let q = Spot {
         at: at,
-        mode: OUTSIDE,
+        mode: IN_PLAIN,
         fresh: true,
     };
     let i = slot_of(src, g, work, base, n, q);
