@@ -82,7 +82,7 @@ module _ (g : Signs) (src : List ℕ) (p : Spot) (o : p .mode ≡ inPlain) {s : 
             let d = hex-yes n b k in
             let i = hex-plain m (c .0) in
             let j = hex-plain n (d .0) in
-            let u : q .mode ≡ outside = one .step .mode ∙ rw o (i .0) in
+            let u : q .mode ≡ inPlain = one .step .mode ∙ rw o (i .0) in
             record {
               first = m;
               second = n;

@@ -64,5 +64,5 @@ unfolding code.routine
 outer-stretches-spec 𝓤 H 𝓜 𝓖 𝓡 =
     entered 𝓤 H (tripleOf 𝓤 H (𝓖 .A) lines.signature (lines.spec 𝓤 H (𝓖 .A) (𝓜 .mem) (𝓡 .run)))
     (tables 𝓤 H 𝓜 𝓡 code.env .C) (tables 𝓤 H 𝓜 𝓡 code.env .Λ) #locale_stretches·outer-stretches code.function (code.unfolded 𝓤 H 𝓜 𝓡)
-    (met loop #locale_stretches·outer-stretch 𝓤 H 𝓜 𝓖 𝓡 code.env code.calls-reader·reader-at code.calls-reader·used-up
-    (cited 𝓤 H (Turn loop 𝓤 H (𝓖 .A) (𝓜 .mem) (𝓡 .run)) 𝓜 𝓡 code.env #locale_stretches·outer-stretch turn-def.routine code.calls-outers·outer-stretch (turn-thm.met 𝓤 H 𝓜 𝓖 𝓡)))
+    (met loop #locale_stretches·outer-stretch 𝓤 H 𝓜 𝓖 𝓡 code.env code.calls-text-reader·reader-at code.calls-text-reader·used-up
+    (cited 𝓤 H (Turn loop 𝓤 H (𝓖 .A) (𝓜 .mem) (𝓡 .run)) 𝓜 𝓡 code.env #locale_stretches·outer-stretch turn-def.routine code.calls-locale-stretches·outer-stretch (turn-thm.met 𝓤 H 𝓜 𝓖 𝓡)))
