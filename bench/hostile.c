@@ -6,10 +6,10 @@
 
 #include "bench.h"
 
-/* ---- Names and elements with one number ---- */
+/* ---- Names and elements with one hash ---- */
 
-/* The number by which the compiler keeps a name (crates/text_names) or the characters of an element (crates/work_subjects), from the number of what
- * stands before the last byte or character. */
+/* The hash of a name (crates/text_names) or of the characters of an element (crates/work_subjects), from the hash of what stands before the last byte or
+ * character. */
 static uint32_t number_on(uint32_t before, uint32_t last)
 {
     return (before * 10368889u + last) & 0xFFFFFF;
@@ -23,7 +23,7 @@ static uint32_t number_of(const char *name, int count)
     return number;
 }
 
-/* The number that all names and elements get which are to have one. */
+/* The hash that all names and elements get which are to have one. */
 enum { ONE = 1234567 };
 
 enum { LETTERS = 58, PIECE = 4, PIECES = LETTERS * LETTERS * LETTERS * LETTERS };
@@ -73,7 +73,7 @@ static void end_name(char *name, int count, uint32_t number)
 
 enum { MOST_NAME = 32 };
 
-/* Name k of so many bytes, 8 at least: all have one number, or hardly two have. */
+/* Name k of so many bytes, 8 at least: all have one hash, or hardly two have. */
 static void make_name(char *name, int count, int k, enum kind kind)
 {
     memset(name, 'n', (size_t)count);
@@ -130,7 +130,7 @@ static void put_symbol(struct text *text, const char *name)
     put(text, "collating-symbol <%s>\n", name);
 }
 
-/* 9,000 symbols at most whose names have one number, and weights that name the first, which is the last one found. */
+/* 9,000 symbols at most whose names have one hash, and weights that name the first. */
 struct source deepest_source(size_t size, enum kind kind)
 {
     struct source source = {.name = "deepest"};
@@ -366,7 +366,7 @@ struct source other_toggle_source(size_t size, enum kind kind)
 
 enum { FIRST_CHARACTER = 0x3400, CHARACTERS = 0x9FFF - FIRST_CHARACTER + 1 };
 
-/* The characters of the next element: all have one number, or hardly two have. `place` says how many were tried. */
+/* The characters of the next element: all have one hash, or hardly two have. `place` says how many were tried. */
 static void next_element(uint32_t *place, uint32_t chars[3], enum kind kind)
 {
     do {
@@ -380,7 +380,7 @@ static void next_element(uint32_t *place, uint32_t chars[3], enum kind kind)
     } while (chars[2] < FIRST_CHARACTER || chars[2] >= FIRST_CHARACTER + CHARACTERS);
 }
 
-/* 8,000 elements at most whose characters have one number; those of the first are joined up to so many bytes of source. */
+/* 8,000 elements at most whose characters have one hash; those of the first are joined up to so many bytes of source. */
 static struct source element_source(size_t size, size_t joined, enum kind kind)
 {
     struct source source = {.name = "element"};

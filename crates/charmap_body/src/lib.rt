@@ -182,7 +182,7 @@ fn entry_outcome(
 }
 
 // What an entry gives is given; its refusal, 0 for none.
-pub fn enter(
+fn enter(
     src: &[u8],
     g: Signs,
     first: Spot,
@@ -272,7 +272,7 @@ fn line_kind(src: &[u8], g: Signs, p: Spot) -> Kind
 }
 
 // What a line does that is no entry, from its first place on.
-pub fn plain_line(src: &[u8], g: Signs, at: usize) -> PlainLine
+fn plain_line(src: &[u8], g: Signs, at: usize) -> PlainLine
     requires { ⌜ (at ≤ length (now src)) × (isEntry (tokensOf (marksLeft g (now src) (lineStart at))) ≡ false) ⌝ }
     ensures { λ r. ⌜ PlainIs g (now (src .entry)) at r ⌝ }
 {

@@ -33,7 +33,7 @@ fn one_for(area: &[u32], code: CodePoint) -> u32
 }
 
 // One byte more has a code: the first of a code encodes it.
-pub fn give(area: &mut [u32], byte: usize, code: CodePoint)
+fn give(area: &mut [u32], byte: usize, code: CodePoint)
     requires { ⌜ (length (now area) ≡ 512) × (byte < 256) ⌝ }
     ensures { λ _. ⌜ now (area .exit) ≡ with (now (area .entry)) byte (code .0) ⌝ }
 {

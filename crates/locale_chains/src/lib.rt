@@ -104,7 +104,7 @@ fn branch_end(
 }
 
 // One chain, from the line behind its ifdef or ifndef on: to the line behind its endif, or to a refusal.
-pub fn chain(
+fn chain(
     src: &[u8],
     g: Signs,
     work: &mut [u32],

@@ -36,8 +36,8 @@ togglesAt len = 8 * (len / 8 + 2)
 unfoldable pub rulesAt : Signs → List ℕ → ℕ → List Rule
 rulesAt g src at = map ruleOf (ruleCodes (operands (tokensLeft g src (behind at))))
 
--- The rows below this one may be in use before the line at a place: a declaration's keyword is longer than a row, an order line of a character
--- is as long as one. Between a declaration and an order line stands order_start or reorder-after.
+-- The rows below this one may be in use before the line at a place: a declaration's name stands 18 bytes and more behind its line's beginning, so that its row and the one
+-- before are free; an order line of a character is as long as a row. Between a declaration and an order line stands order_start or reorder-after.
 abbrev pub rowsBefore : ℕ → ℕ → ℕ
 rowsBefore phase at = if eqb phase beforeOrder || eqb phase afterOrder then (at + 5) / 8 else (at + 1) / 8
 

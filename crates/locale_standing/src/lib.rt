@@ -51,7 +51,7 @@ pub struct Counted {
 }
 
 // Whether the name at a spot stands: it is that of a character, or declared.
-pub fn stands_at(src: &[u8], g: Signs, work: &[u32], p: Spot) -> bool
+fn stands_at(src: &[u8], g: Signs, work: &[u32], p: Spot) -> bool
     requires { ⌜ (p .at ≤ length (now src)) × (isInside (p .mode) ≡ true) ⌝ }
     requires { ⌜ Sound (keyAt g (now src)) (length (now src)) (now work) ⌝ }
     ensures { λ r. ⌜ Stands g (now (src .entry)) (now (work .entry)) p r ⌝ }

@@ -46,7 +46,7 @@ pub struct Seen {
 }
 
 // The start of a walk.
-pub fn start() -> Cursor
+fn start() -> Cursor
     ensures { λ r. ⌜ r ≡ fresh ⌝ }
 {
     Cursor {
@@ -122,7 +122,7 @@ fn next_element(
 }
 
 // The next of a level's entries.
-pub fn next(t: &[u32], places: &[u32], level: usize, rule: Rule, c: Cursor) -> Ahead
+fn next(t: &[u32], places: &[u32], level: usize, rule: Rule, c: Cursor) -> Ahead
     requires { ⌜ Level (now t) (now places) level ⌝ }
     requires { ⌜ Sound (now t) (now places) c ⌝ }
     ensures { λ r. ⌜ Gives (now (t .entry)) (now (places .entry)) level (ruleAs rule) (entriesLeft (now (t .entry)) (now (places .entry)) level (ruleAs rule) c) r ⌝ }

@@ -1,5 +1,5 @@
 -- The work area as rows of eight numbers, one row for each eight bytes of the source and some more. Of a row the first three numbers belong to
--- the store of names; the last five are free for what is known of the thing declared there.
+-- the store of names; the last five tell what is known of the thing declared there, or keep the numbers of a key.
 use mathlib.Core.List.{List}
 use Prim.Native.Nat.{ℕ, _+_, _*_, _/_}
 use lib.ListN.{getD}

@@ -1,4 +1,4 @@
-// The work area as rows of eight numbers: the five numbers of a row that are free for what is known of the thing declared there.
+// The work area as rows of eight numbers: the last five of a row, which tell what is known of the thing declared there, or keep the numbers of a key.
 ghost use mathlib.Core.Path.{_≡_};
 ghost use Prim.Native.Nat.{_+_, _*_, _/_, _≤_, _<_};
 ghost use lib.ListN.{length, set};

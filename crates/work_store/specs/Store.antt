@@ -115,7 +115,7 @@ tagOf kind v = 16 * kind + v % 16
 abbrev pub markIn : List ℕ → ℕ → ℕ
 markIn w r = 16 * r + tagIn w r % 16
 
--- A key's numbers are kept where it is declared, so that they are never read again from the source: those of a character and of an element's characters in its
+-- A key's numbers are kept where it is declared, so that no lookup reads them again from the source: those of a character and of an element's characters in its
 -- row, from number 3 on; those of a name in the row before, all but number 1, which is the head of a chain.
 
 -- how many rows before its own a key of a kind takes

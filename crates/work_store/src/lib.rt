@@ -254,7 +254,7 @@ fn keep_key(work: &mut [u32], kind: u32, row: usize, key: &[u32])
     }
 }
 
-// Declares what stands at a mark, in a later row than all that is declared so far.
+// Declares what stands at a mark, in a later row than all that is declared so far; the row before that of a name is later too.
 pub fn declare(src: &[u8], g: Signs, work: &mut [u32], v: usize)
     requires { ⌜ v / 2 ≤ length (now src) ⌝ }
     requires { ⌜ Roomy (length (now src)) (now work) ⌝ }

@@ -41,7 +41,7 @@ squeezed xs = pinched xs 0 ∷ pinched xs 1 ∷ pinched xs 2 ∷ pinched xs 3 �
 
 -- ## The numbers of a key
 
--- a code that a character may have
+-- a code up to 10FFFF hex, of a character or not
 abbrev pub isCode : ℕ → Bool
 isCode c = ltb c 1114112
 
