@@ -17,6 +17,7 @@ use Rattle.base_units.specs.Numbers.{numberOf}
 use Rattle.base_units.specs.declared.Refusal.{Refusal}
 use Rattle.base_units.specs.declared.Refusal.the-variants.{TooLong}
 use Rattle.text_lines.specs.declared.Signs.{Signs}
+use Rattle.work_rows.specs.Cells.{cell}
 use Rattle.locale_sheet.specs.declared.Sheet.{Sheet}
 use Rattle.locale_source.specs.declared.Source.{Source}
 use Rattle.locale_source.specs.declared.Source.the-variants as source
@@ -50,9 +51,9 @@ module _ (src w : List ℕ) (v : Source) (k : SourceIs src w v) where
 
 -- ## The call
 
--- whether a number is 0, by what it is
-pub same-zero : (a b : ℕ) → a ≡ b → eqb a 0 ≡ eqb b 0
-same-zero a b e = ap (λ (x : ℕ). eqb x 0) e
+-- whether a number of a row is 0, by what is told of it and by the row's mark
+pub same-zero : (w : List ℕ) {m x : ℕ} (v k : ℕ) → m ≡ v → x ≡ cell w m k → eqb x 0 ≡ eqb (cell w v k) 0
+same-zero w v k e i = ap (λ (y : ℕ). eqb y 0) (i ∙ ap (λ (u : ℕ). cell w u k) e)
 
 module _ (src area work cleaned : List ℕ) (c : cleaned ≡ replicate (length work) 0) where
   cleaned-long : length cleaned ≡ length work

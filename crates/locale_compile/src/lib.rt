@@ -25,6 +25,7 @@ use work_order::PLACE_NUMBER;
 use work_order::give_ranks;
 use work_rows::told;
 use work_store::clear;
+use work_store::undefined_mark;
 
 // The size of the table, which stands in front of the area; or why there is none: the refusal and its line.
 pub enum Compiled {
@@ -60,7 +61,7 @@ fn is_supplied(work: &[u32], len: usize) -> bool
     requires { ⌜ (len ≤ 1048576) × (len + 64 ≤ length (now work)) ⌝ }
     ensures { λ r. ⌜ r ≡ eqb (cell (now (work .entry)) (undefinedMark len) placeNumber) 0 ⌝ }
 {
-    let place = told(work, 16 * (len / 8 + 1), PLACE_NUMBER);
+    let place = told(work, undefined_mark(len), PLACE_NUMBER);
     place == 0
 }
 

@@ -46,6 +46,7 @@ use work_rows::told;
 use work_store::Found;
 use work_store::declare;
 use work_store::find;
+use work_store::undefined_mark;
 
 // What is told of a subject: it is a symbol, it has an order line, it stands (it is a character, or declared).
 pub struct Facts {
@@ -431,7 +432,7 @@ pub fn undefined_line(
     requires { ⌜ SomeOpen g (now src) (now work) sh at depth × WordLine g (now src) at p e (bytes "UNDEFINED") × (number ≤ at + 1) ⌝ }
     ensures { λ r. ⌜ StepIs g (now (src .entry)) (now (work .entry)) sh at number depth (now (work .exit)) r ⌝ }
 {
-    let m = 16 * (src.len() / 8 + 1);
+    let m = undefined_mark(src.len());
     let r = undefined_refusal(src, g, work, sh, at, number, depth, p, e, m);
     if r == 0 {
         return list_line(work, sh, m, number, p.at, e);

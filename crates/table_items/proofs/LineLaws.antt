@@ -13,18 +13,18 @@ use Rattle.table_records.specs.Writing.{HasChars}
 use Rattle.table_items.specs.Items.{isItem}
 
 module _ (len : ℕ) (w : List ℕ) (mark : ℕ) where
-  pub item-undefined : undefinedMark len ≤ mark → true ≡ isItem len w mark
+  pub item-undefined : {m : ℕ} → m ≡ undefinedMark len → m ≤ mark → true ≡ isItem len w mark
   unfolding isItem
-  item-undefined h = sym (rw (le-leb (undefinedMark len) mark h))
+  item-undefined u h = sym (rw (le-leb (undefinedMark len) mark (rw u at h)))
 
-  module _ (h : mark < undefinedMark len) {x : ℕ} (i : x ≡ cell w mark charsNumber) where
+  module _ {m : ℕ} (u : m ≡ undefinedMark len) (h : mark < m) {x : ℕ} (i : x ≡ cell w mark charsNumber) where
     pub item-told : (x ≡ 0 → ⊥) → true ≡ isItem len w mark
     unfolding isItem
-    item-told n = sym (rw (lt-leb (undefinedMark len) mark h, ne-eqb (cell w mark charsNumber) 0 (λ z. n (i ∙ z))))
+    item-told n = sym (rw (lt-leb (undefinedMark len) mark (rw u at h), ne-eqb (cell w mark charsNumber) 0 (λ z. n (i ∙ z))))
 
     pub item-symbol : x ≡ 0 → false ≡ isItem len w mark
     unfolding isItem
-    item-symbol z = sym (rw (lt-leb (undefinedMark len) mark h, eq-eqb (cell w mark charsNumber) 0 (sym i ∙ z)))
+    item-symbol z = sym (rw (lt-leb (undefinedMark len) mark (rw u at h), eq-eqb (cell w mark charsNumber) 0 (sym i ∙ z)))
 
 some-told : (x : ℕ) → not (eqb x 0) ≡ true → 1 ≤ x
 some-told x t = let z = eqb-false x 0 (not-true (eqb x 0) t) in omega (arith, z)

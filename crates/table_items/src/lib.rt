@@ -18,6 +18,7 @@ use work_order::LINE_NUMBER;
 use work_order::NEXT_NUMBER;
 use work_order::Order;
 use work_rows::told;
+use work_store::undefined_mark;
 
 // What the order lines give: how many items and weights there are; or, of the lines with a weight that has no rank, the number of the one that was
 // written first.
@@ -31,7 +32,7 @@ fn is_item(src: &[u8], work: &[u32], mark: usize) -> bool
     requires { ⌜ CharsReady (length (now src)) (now work) mark ⌝ }
     ensures { λ r. ⌜ r ≡ isItem (length (now (src .entry))) (now (work .entry)) mark ⌝ }
 {
-    if mark >= 16 * (src.len() / 8 + 1) {
+    if mark >= undefined_mark(src.len()) {
         return true;
     }
     if told(work, mark, CHARS_NUMBER) == 0 {

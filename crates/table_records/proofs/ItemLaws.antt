@@ -63,42 +63,41 @@ module _ {g : Signs} {src : List ℕ} {p : Spot} {a b c d : Coded} (v₀ : CodeI
 -- ## The characters of a mark
 
 module _ (g : Signs) (src w : List ℕ) (mark : ℕ) (area : List ℕ) {after : List ℕ} (at : ℕ) where
-  pub chars-undefined : undefinedMark (length src) ≤ mark → after ≡ sets area at (0x110000 ∷ 0x110000 ∷ 0x110000 ∷ 0x110000 ∷ [])
+  pub chars-undefined : {m : ℕ} → m ≡ undefinedMark (length src) → m ≤ mark → after ≡ sets area at (0x110000 ∷ 0x110000 ∷ 0x110000 ∷ 0x110000 ∷ [])
       → after ≡ sets area at (padded (itemChars g src w mark) [])
   unfolding itemChars
-  chars-undefined h e = e ∙ rw (le-leb (undefinedMark (length src)) mark h)
+  chars-undefined u h e = e ∙ rw (le-leb (undefinedMark (length src)) mark (rw u at h))
 
-  module _ (h : mark < undefinedMark (length src)) {x : ℕ} (i : x ≡ cell w mark charsNumber) where
+  module _ {m : ℕ} (u : m ≡ undefinedMark (length src)) (h : mark < m) {x : ℕ} (i : x ≡ cell w mark charsNumber) where
     pub chars-character : {c : ℕ} → x % 2 ≡ 0 → c ≡ (x - 2) / 2
         → after ≡ sets area at (c ∷ 0x110000 ∷ 0x110000 ∷ 0x110000 ∷ []) → after ≡ sets area at (padded (itemChars g src w mark) [])
     unfolding itemChars
     chars-character z k e =
-        e ∙ rw (lt-leb (undefinedMark (length src)) mark h, eq-eqb (cell w mark charsNumber % 2) 0 (ap (λ (y : ℕ). y % 2) (sym i) ∙ z), k, i)
+        e ∙ rw (lt-leb (undefinedMark (length src)) mark (rw u at h), eq-eqb (cell w mark charsNumber % 2) 0 (ap (λ (y : ℕ). y % 2) (sym i) ∙ z), k, i)
 
     pub chars-element : {q : ℕ} → (x % 2 ≡ 0 → ⊥) → q ≡ x → after ≡ sets area at (padded (charsLeft g src (quoteSpot (q / 2))) [])
         → after ≡ sets area at (padded (itemChars g src w mark) [])
     unfolding itemChars
     chars-element n j e =
-        e ∙ rw (lt-leb (undefinedMark (length src)) mark h, ne-eqb (cell w mark charsNumber % 2) 0 (λ z. n (ap (λ (y : ℕ). y % 2) i ∙ z)), j ∙ i)
+        e ∙ rw (lt-leb (undefinedMark (length src)) mark (rw u at h), ne-eqb (cell w mark charsNumber % 2) 0 (λ z. n (ap (λ (y : ℕ). y % 2) i ∙ z)), j ∙ i)
 
 -- an even number that is not 0
 pub even-some : (x : ℕ) → 1 ≤ x → x % 2 ≡ 0 → 2 ≤ x
 even-some x h e = omega (arith, h, e)
 
-module _ (len : ℕ) (w : List ℕ) (mark : ℕ) (r : CharsReady len w mark) where
-  pub chars-small : 16 * (len / 8 + 1) < 4294967296
-  chars-small = omega (arith, r .roomy .few)
+module _ (len : ℕ) (w : List ℕ) (mark : ℕ) (r : CharsReady len w mark) {m : ℕ} (u : m ≡ undefinedMark len) (h : mark < m) where
+  named : mark < undefinedMark len
+  named = rw u at h
 
-  module _ (h : mark < 16 * (len / 8 + 1)) where
-    pub chars-row : 8 * (mark / 16) + 8 ≤ length w
-    chars-row = omega (arith, r .roomy .room, r .name h)
+  pub chars-row : 8 * (mark / 16) + 8 ≤ length w
+  chars-row = omega (arith, r .roomy .room, r .name named)
 
-    pub chars-quotes : {q x : ℕ} → q ≡ x → x ≡ cell w mark charsNumber → (x % 2 ≡ 0 → ⊥) → q / 2 ≤ len
-    chars-quotes {q} j i n = let e : q ≡ cell w mark charsNumber = j ∙ i in rw e (r .quotes h (λ z. n (ap (λ (y : ℕ). y % 2) i ∙ z)))
+  pub chars-quotes : {q x : ℕ} → q ≡ x → x ≡ cell w mark charsNumber → (x % 2 ≡ 0 → ⊥) → q / 2 ≤ len
+  chars-quotes {q} j i n = let e : q ≡ cell w mark charsNumber = j ∙ i in rw e (r .quotes named (λ z. n (ap (λ (y : ℕ). y % 2) i ∙ z)))
 
-    -- a row that tells a character's code, or the mark of quotes
-    pub chars-some : HasChars len w mark → {x : ℕ} → x ≡ cell w mark charsNumber → 1 ≤ x
-    chars-some c i = let k = c .told h in omega (arith, k, i)
+  -- a row that tells a character's code, or the mark of quotes
+  pub chars-some : HasChars len w mark → {x : ℕ} → x ≡ cell w mark charsNumber → 1 ≤ x
+  chars-some c i = let k = c .told named in omega (arith, k, i)
 
 -- ## The whole item
 

@@ -27,6 +27,7 @@ use work_order::CHARS_NUMBER;
 use work_order::PLACE_NUMBER;
 use work_order::RANK_NUMBER;
 use work_rows::told;
+use work_store::undefined_mark;
 use work_subjects::NextChar;
 use work_subjects::next_char;
 
@@ -210,7 +211,7 @@ fn write_chars(src: &[u8], g: Signs, work: &[u32], mark: usize, area: &mut [u32]
     ensures { λ _. ⌜ now (area .exit) ≡ sets (now (area .entry)) at (padded (itemChars g (now (src .entry)) (now (work .entry)) mark) []) ⌝ }
 {
     let none = CodePoint(0x110000);
-    if mark >= 16 * (src.len() / 8 + 1) {
+    if mark >= undefined_mark(src.len()) {
         put_four(area, at, none, none, none, none);
         return;
     }

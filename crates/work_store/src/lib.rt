@@ -9,7 +9,7 @@ ghost use lib.ListN.{length, getD, set, replicate};
 ghost use lib.Dec.{eqb};
 ghost use Rattle.work_subjects.specs.Keys.{keyAt};
 ghost use Rattle.work_subjects.specs.Numbers.{widthOf};
-ghost use Rattle.work_store.specs.Store.{headsOf, sideOf, pointed, pointing, tagIn, tagOf, keeps, RunIs, Roomy, Sound, Finds, SomeSought, FindsAny, WayEnds, Written, Kept, Declares};
+ghost use Rattle.work_store.specs.Store.{headsOf, undefinedMark, sideOf, pointed, pointing, tagIn, tagOf, keeps, RunIs, Roomy, Sound, Finds, SomeSought, FindsAny, WayEnds, Written, Kept, Declares};
 use base_units::wide;
 use text_lines::Signs;
 use work_subjects::CHARACTER;
@@ -20,6 +20,14 @@ use work_subjects::key_numbers;
 pub enum Found {
     At(usize),
     Nothing,
+}
+
+// The mark of UNDEFINED, whose row is the one behind those of a source of this length.
+pub fn undefined_mark(len: usize) -> usize
+    requires { ⌜ len ≤ 1048576 ⌝ }
+    ensures { λ r. ⌜ r ≡ undefinedMark len ⌝ }
+{
+    16 * (len / 8 + 1)
 }
 
 // Nothing is declared, and nothing else is left in the area.

@@ -4,11 +4,8 @@ use Rattle.locale_compile.proofs.CallLaws.{same-zero}
 use Rattle.locale_compile.proofs.is_supplied.Statement.{statement}
 use Rattle.locale_compile.proofs.is_supplied.Tie as tie
 
-add-told : tie.Need-add-told
-add-told c = search needs
-
-mul-told : tie.Need-mul-told
-mul-told c = search needs
+undefined-mark-requires : tie.Need-undefined-mark-requires
+undefined-mark-requires c κs = search needs
 
 told-requires : tie.Need-told-requires
 told-requires c κs = search needs
@@ -17,4 +14,4 @@ returns : tie.Need-returns
 returns c = search same-zero
 
 pub is-supplied-spec : {M : Type 1} → statement M
-is-supplied-spec = tie.close (tie.spec add-told mul-told told-requires returns)
+is-supplied-spec = tie.close (tie.spec undefined-mark-requires told-requires returns)

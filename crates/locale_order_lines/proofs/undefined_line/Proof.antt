@@ -5,11 +5,8 @@ use borrow.Author.Needs.{needs}
 use Rattle.locale_order_lines.proofs.undefined_line.Statement.{statement}
 use Rattle.locale_order_lines.proofs.undefined_line.Tie as tie
 
-add-m : tie.Need-add-m
-add-m c = search needs
-
-mul-m : tie.Need-mul-m
-mul-m c = search needs
+undefined-mark-requires : tie.Need-undefined-mark-requires
+undefined-mark-requires c κs = search needs
 
 undefined-refusal-requires : tie.Need-undefined-refusal-requires
 undefined-refusal-requires c κs = search needs
@@ -33,8 +30,7 @@ pub undefined-line-spec : {M : Type 1} → statement M
 undefined-line-spec =
     tie.close
     (tie.spec
-    add-m
-    mul-m
+    undefined-mark-requires
     undefined-refusal-requires
     list-line-requires
     same-length

@@ -1,15 +1,12 @@
 -- `table_items::is_item` meets its contract, for UNDEFINED, a symbol, and an element or a character.
-use Rattle.table_records.proofs.ItemLaws.{chars-small, chars-row}
+use Rattle.table_records.proofs.ItemLaws.{chars-row}
 use Rattle.table_items.proofs.LineLaws.{item-undefined, item-symbol, item-told}
 use borrow.Author.Needs.{needs}
 use Rattle.table_items.proofs.is_item.Statement.{statement}
 use Rattle.table_items.proofs.is_item.Tie as tie
 
-add-if1 : tie.Need-add-if1
-add-if1 c = search (needs, chars-small)
-
-mul-if1 : tie.Need-mul-if1
-mul-if1 c = search (needs, chars-small)
+undefined-mark-requires : tie.Need-undefined-mark-requires
+undefined-mark-requires c κs = search needs
 
 returns : tie.Need-returns
 returns c = search item-undefined
@@ -25,4 +22,4 @@ returns-3 c = search item-told
 
 pub is-item-spec : {M : Type 1} → statement M
 is-item-spec =
-    tie.close (tie.spec add-if1 mul-if1 returns told-requires returns-2 returns-3)
+    tie.close (tie.spec undefined-mark-requires returns told-requires returns-2 returns-3)

@@ -1,14 +1,11 @@
 -- `table_records::write_chars` meets its contract, for UNDEFINED, a character and an element.
-use Rattle.table_records.proofs.ItemLaws.{chars-undefined, chars-character, chars-element, chars-small, chars-row, chars-quotes, chars-some}
+use Rattle.table_records.proofs.ItemLaws.{chars-undefined, chars-character, chars-element, chars-row, chars-quotes, chars-some}
 use borrow.Author.Needs.{needs}
 use Rattle.table_records.proofs.write_chars.Statement.{statement}
 use Rattle.table_records.proofs.write_chars.Tie as tie
 
-add-if1 : tie.Need-add-if1
-add-if1 c = search (needs, chars-small)
-
-mul-if1 : tie.Need-mul-if1
-mul-if1 c = search (needs, chars-small)
+undefined-mark-requires : tie.Need-undefined-mark-requires
+undefined-mark-requires c κs = search needs
 
 put-four-requires : tie.Need-put-four-requires
 put-four-requires c κs = search needs
@@ -50,8 +47,7 @@ pub write-chars-spec : {M : Type 1} → statement M
 write-chars-spec =
     tie.close
     (tie.spec
-    add-if1
-    mul-if1
+    undefined-mark-requires
     put-four-requires
     same-length
     returns
