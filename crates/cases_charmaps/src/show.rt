@@ -1,41 +1,16 @@
 // What the run cases write: a line for each, its name and the answer. Areas are filled with EEEE before each call.
 use base_units::Refusal;
+use cases_words::end_line;
+use cases_words::number;
+use cases_words::others;
+use cases_words::refusal;
 use charmap_read::Mapped;
-
-fn end_line() {
-    io::write_all(1, b"\n");
-}
-
-fn number(n: usize) {
-    io::print_decimal(1, n as u64);
-}
-
-fn refusal(r: Refusal) {
-    io::write_all(1, b" refused ");
-    io::print_decimal(1, base_units::number_of(r) as u64);
-}
-
-// How many numbers are not x.
-fn others(s: &[u32], x: u32) -> usize {
-    let mut n: usize = 0;
-    let mut i: usize = 0;
-    while i < s.len() {
-        if s[i] == x {
-            i += 1;
-        } else {
-            n += 1;
-            i += 1;
-        }
-    }
-    n
-}
 
 // How many bytes have a code, how many of them encode it, and whether what lies behind is as it was.
 fn numbers(area: &[u32]) {
     if 512 <= area.len() {
-        io::write_all(1, b" ");
         number(others(&area[0..256], 0x110000));
-        io::write_all(1, b" codes, ");
+        io::write_all(1, b" codes,");
         number(others(&area[256..512], 0));
         io::write_all(1, b" encode");
         if others(&area[512..area.len()], 0xEEEE) == 0 {
@@ -48,7 +23,7 @@ fn numbers(area: &[u32]) {
 // A refusal and its line, and whether the area is as it was.
 fn stopped(r: Refusal, line: usize, area: &[u32]) {
     refusal(r);
-    io::write_all(1, b" line ");
+    io::write_all(1, b" line");
     number(line);
     if others(area, 0xEEEE) == 0 {
         io::write_all(1, b", area unchanged");

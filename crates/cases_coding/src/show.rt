@@ -1,19 +1,12 @@
 // What the run cases write: a line for each, its name and the answer. Rooms are filled with EEEE or EE before each call.
 use base_units::Refusal;
+use cases_words::bytes;
+use cases_words::end_line;
+use cases_words::number;
+use cases_words::others;
+use cases_words::refusal;
+use cases_words::untouched;
 use charmap_coding::Coded;
-
-fn end_line() {
-    io::write_all(1, b"\n");
-}
-
-fn number(n: usize) {
-    io::print_decimal(1, n as u64);
-}
-
-fn refusal(r: Refusal) {
-    io::write_all(1, b" refused ");
-    io::print_decimal(1, base_units::number_of(r) as u64);
-}
 
 fn code(c: u32) {
     io::write_all(1, b" ");
@@ -26,34 +19,6 @@ fn codes(s: &[u32]) {
         code(s[i]);
         i += 1;
     }
-}
-
-fn byte(b: u8) {
-    io::write_all(1, b" ");
-    io::print_hex(1, b as u64, 2);
-}
-
-fn bytes(b: &[u8]) {
-    let mut i: usize = 0;
-    while i < b.len() {
-        byte(b[i]);
-        i += 1;
-    }
-}
-
-// How many numbers are not x.
-fn others(s: &[u32], x: u32) -> usize {
-    let mut n: usize = 0;
-    let mut i: usize = 0;
-    while i < s.len() {
-        if s[i] == x {
-            i += 1;
-        } else {
-            n += 1;
-            i += 1;
-        }
-    }
-    n
 }
 
 // A refusal, and whether the room is as it was.
@@ -85,18 +50,6 @@ pub fn decoded_in(name: &[u8], area: &[u32], b: &[u8], room: &mut [u32]) {
 pub fn decoded(name: &[u8], area: &[u32], b: &[u8]) {
     let mut room = [0xEEEEu32; 8];
     decoded_in(name, area, b, &mut room);
-}
-
-// Whether each byte is the one that the room was filled with.
-fn untouched(room: &[u8]) -> bool {
-    let mut i: usize = 0;
-    while i < room.len() {
-        if room[i] != 0xEE {
-            return false;
-        }
-        i += 1;
-    }
-    true
 }
 
 // Characters to bytes, in a room.
@@ -161,7 +114,6 @@ pub fn decoded_own(name: &[u8], area: &[u32]) {
     let mut b = [0u8; 256];
     all_bytes(&mut b);
     io::write_all(1, name);
-    io::write_all(1, b" ");
     decoded_to_places(area, &b);
     end_line();
 }

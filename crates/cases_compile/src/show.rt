@@ -1,28 +1,18 @@
 // What the run cases write: a line for each, its name and the answer. Areas are filled with EEEE before each call.
 use base_units::Refusal;
+use cases_words::end_line;
+use cases_words::kept;
+use cases_words::number;
+use cases_words::others;
+use cases_words::refusal;
 use locale_compile::Compiled;
-
-fn end_line() {
-    io::write_all(1, b"\n");
-}
-
-fn number(n: usize) {
-    io::write_all(1, b" ");
-    io::print_decimal(1, n as u64);
-}
-
-fn refusal(r: Refusal) {
-    io::write_all(1, b" refused ");
-    io::print_decimal(1, base_units::number_of(r) as u64);
-}
 
 // A number of a table; a dash for 110000 hex, which is no character.
 fn entry(x: u32) {
     if x == 0x110000 {
         io::write_all(1, b" -");
     } else {
-        io::write_all(1, b" ");
-        io::print_decimal(1, x as u64);
+        number(x as usize);
     }
 }
 
@@ -31,30 +21,6 @@ fn entries(t: &[u32]) {
     while i < t.len() {
         entry(t[i]);
         i += 1;
-    }
-}
-
-// How many numbers are not x.
-fn others(s: &[u32], x: u32) -> usize {
-    let mut n: usize = 0;
-    let mut i: usize = 0;
-    while i < s.len() {
-        if s[i] == x {
-            i += 1;
-        } else {
-            n += 1;
-            i += 1;
-        }
-    }
-    n
-}
-
-// Whether numbers that must stay are as they were.
-fn kept(s: &[u32]) {
-    if others(s, 0xEEEE) == 0 {
-        io::write_all(1, b" unchanged");
-    } else {
-        io::write_all(1, b" touched");
     }
 }
 

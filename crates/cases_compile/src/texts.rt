@@ -2,30 +2,16 @@
 ghost use Prim.Native.Nat.{_≤_, _<_};
 ghost use lib.ListN.{length};
 use crate::show::compiled;
-
-// The place of the next `~`, or the end.
-fn mark(b: &[u8], from: usize) -> usize
-    requires { ⌜ from ≤ length (now b) ⌝ }
-    ensures { λ r. ⌜ (from ≤ r) × (r ≤ length (now (b .entry))) ⌝ }
-{
-    let mut i = from;
-    while i < b.len() {
-        if b[i] == 126 {
-            return i;
-        }
-        i += 1;
-    }
-    i
-}
+use cases_words::mark;
 
 // One case; the place of the next one, or the end.
 fn case(b: &[u8], at: usize) -> usize
     requires { ⌜ at < length (now b) ⌝ }
     ensures { λ r. ⌜ (at < r) × (r ≤ length (now (b .entry))) ⌝ }
 {
-    let name = mark(b, at);
+    let name = mark(b, at, 126);
     if name < b.len() {
-        let end = mark(b, name + 1);
+        let end = mark(b, name + 1, 126);
         compiled(&b[at..name], &b[name + 1..end]);
         if end + 2 < b.len() {
             return end + 2;

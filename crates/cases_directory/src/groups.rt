@@ -3,32 +3,18 @@
 ghost use Prim.Native.Nat.{_≤_, _<_, _+_};
 ghost use lib.ListN.{length};
 use crate::texts::page;
-
-// The place of the next `~`, or the end.
-fn mark(b: &[u8], from: usize) -> usize
-    requires { ⌜ from ≤ length (now b) ⌝ }
-    ensures { λ r. ⌜ (from ≤ r) × (r ≤ length (now (b .entry))) ⌝ }
-{
-    let mut i = from;
-    while i < b.len() {
-        if b[i] == 126 {
-            return i;
-        }
-        i += 1;
-    }
-    i
-}
+use cases_words::mark;
 
 // One page; the place of the next one, or the end.
 fn one(b: &[u8], at: usize, t: &[u32]) -> usize
     requires { ⌜ at < length (now b) ⌝ }
     ensures { λ r. ⌜ (at < r) × (r ≤ length (now (b .entry))) ⌝ }
 {
-    let name = mark(b, at);
+    let name = mark(b, at, 126);
     if name < b.len() {
-        let middle = mark(b, name + 1);
+        let middle = mark(b, name + 1, 126);
         if middle < b.len() {
-            let end = mark(b, middle + 1);
+            let end = mark(b, middle + 1, 126);
             page(&b[at..name], t, &b[name + 1..middle], &b[middle + 1..end]);
             if end + 2 < b.len() {
                 return end + 2;
@@ -72,7 +58,7 @@ fn group(b: &[u8], at: usize) -> usize
     requires { ⌜ at < length (now b) ⌝ }
     ensures { λ r. ⌜ (at < r) × (r ≤ length (now (b .entry))) ⌝ }
 {
-    let end = mark(b, at);
+    let end = mark(b, at, 126);
     if end + 2 < b.len() {
         return group_to(b, at, end);
     }

@@ -2,21 +2,7 @@
 // files of data/; what a run writes stands behind its line.
 ghost use Prim.Native.Nat.{_≤_, _<_};
 ghost use lib.ListN.{length};
-
-// The place of the next byte of this value, or the end.
-fn mark(b: &[u8], from: usize, value: u8) -> usize
-    requires { ⌜ from ≤ length (now b) ⌝ }
-    ensures { λ r. ⌜ (from ≤ r) × (r ≤ length (now (b .entry))) ⌝ }
-{
-    let mut i = from;
-    while i < b.len() {
-        if b[i] == value {
-            return i;
-        }
-        i += 1;
-    }
-    i
-}
+use cases_words::mark;
 
 // One run.
 fn run(locale: &[u8], charmap: &[u8], input: &[u8]) {

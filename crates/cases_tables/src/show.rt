@@ -1,19 +1,14 @@
 // What the run cases write: a line for each, its name and the answer.
 use base_units::Refusal;
 use base_units::Sign;
-
-fn end_line() {
-    io::write_all(1, b"\n");
-}
-
-fn number(n: usize) {
-    io::write_all(1, b" ");
-    io::print_decimal(1, n as u64);
-}
+use cases_words::bytes;
+use cases_words::end_line;
+use cases_words::number;
+use cases_words::refusal;
+use cases_words::untouched;
 
 fn refused(r: Refusal) {
-    io::write_all(1, b" refused ");
-    io::print_decimal(1, base_units::number_of(r) as u64);
+    refusal(r);
     end_line();
 }
 
@@ -29,31 +24,6 @@ fn sign(s: Sign) {
             io::write_all(1, b" >");
         }
     }
-}
-
-fn byte(b: u8) {
-    io::write_all(1, b" ");
-    io::print_hex(1, b as u64, 2);
-}
-
-fn bytes(b: &[u8]) {
-    let mut i: usize = 0;
-    while i < b.len() {
-        byte(b[i]);
-        i += 1;
-    }
-}
-
-// Whether each byte is the one that the room was filled with.
-fn untouched(room: &[u8]) -> bool {
-    let mut i: usize = 0;
-    while i < room.len() {
-        if room[i] != 0xEE {
-            return false;
-        }
-        i += 1;
-    }
-    true
 }
 
 // The check of a table area.

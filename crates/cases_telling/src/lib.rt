@@ -1,47 +1,21 @@
 // What the run cases of the directory write: a line for each, its name and the answer. Lists are filled with EEEE before each call.
 use base_units::Refusal;
+use cases_words::end_line;
+use cases_words::kept;
+use cases_words::number;
+use cases_words::refusal;
 use order_directory::Directed;
 
-fn end_line() {
-    io::write_all(1, b"\n");
-}
-
-fn number(n: u32) {
-    io::write_all(1, b" ");
-    io::print_decimal(1, n as u64);
+fn heading(h: u32) {
+    number(h as usize);
 }
 
 fn numbers(s: &[u32]) {
     let mut i: usize = 0;
     while i < s.len() {
-        number(s[i]);
+        heading(s[i]);
         i += 1;
     }
-}
-
-// How many numbers are not x.
-fn others(s: &[u32], x: u32) -> usize {
-    let mut n: usize = 0;
-    let mut i: usize = 0;
-    while i < s.len() {
-        if s[i] == x {
-            i += 1;
-        } else {
-            n += 1;
-            i += 1;
-        }
-    }
-    n
-}
-
-// Whether numbers that must stay are as they were.
-fn kept(s: &[u32]) {
-    if others(s, 0xEEEE) == 0 {
-        io::write_all(1, b" unchanged");
-    } else {
-        io::write_all(1, b" touched");
-    }
-    end_line();
 }
 
 // The headings of the topics; of many the first three and the last three.
@@ -61,15 +35,16 @@ fn done(n: usize, list: &[u32]) {
         told(&list[0..n]);
         io::write_all(1, b", rest");
         kept(&list[n..list.len()]);
+        end_line();
     }
 }
 
 // A refusal, and whether the list is as it was.
 fn stopped(r: Refusal, list: &[u32]) {
-    io::write_all(1, b" refused ");
-    io::print_decimal(1, base_units::number_of(r) as u64);
+    refusal(r);
     io::write_all(1, b", list");
     kept(list);
+    end_line();
 }
 
 // A page, its headings written into a list.

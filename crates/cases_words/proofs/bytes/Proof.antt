@@ -1,9 +1,9 @@
--- `cases_coding::show::bytes` reads no byte past the end, and ends. The loop's invariant: i is at most the length. The measure is how many bytes are left.
+-- `cases_words::bytes` reads no byte past the end, and ends. The loop's invariant: i is at most the length. The measure is how many bytes are left.
+use borrow.Author.Needs.{needs}
 use Prim.Native.Nat.{_-_, _≤_}
 use lib.ListN.{length}
-use borrow.Author.Needs.{needs}
-use Rattle.cases_coding.proofs.show.bytes.Statement.{statement}
-use Rattle.cases_coding.proofs.show.bytes.Tie as tie
+use Rattle.cases_words.proofs.bytes.Statement.{statement}
+use Rattle.cases_words.proofs.bytes.Tie as tie
 
 abbrev Inv-loop : tie.InvT-loop
 Inv-loop b i₀ i = i ≤ length b

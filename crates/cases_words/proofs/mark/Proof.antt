@@ -1,15 +1,15 @@
--- `cases_coding::show::untouched` reads no byte past the end, and ends. The loop's invariant: i is at most the length. The measure is how many bytes are left.
+-- `cases_words::mark` meets its contract. The loop's invariant: i lies between the start and the end. The measure is how many bytes are left.
 use Prim.Native.Nat.{_-_, _≤_}
 use lib.ListN.{length}
 use borrow.Author.Needs.{needs}
-use Rattle.cases_coding.proofs.show.untouched.Statement.{statement}
-use Rattle.cases_coding.proofs.show.untouched.Tie as tie
+use Rattle.cases_words.proofs.mark.Statement.{statement}
+use Rattle.cases_words.proofs.mark.Tie as tie
 
 abbrev Inv-loop : tie.InvT-loop
-Inv-loop room i₀ i = i ≤ length room
+Inv-loop b from value i₀ i = (from ≤ i) × (i ≤ length b)
 
 abbrev μ-loop : tie.MeasureT-loop
-μ-loop room i₀ i = length room - i
+μ-loop b from value i₀ i = length b - i
 
 loop-holds : tie.Need-loop-holds Inv-loop μ-loop
 loop-holds c = search needs
@@ -32,8 +32,8 @@ loop-again c = search needs
 returns-2 : tie.Need-returns-2 Inv-loop μ-loop
 returns-2 c = search needs
 
-pub untouched-spec : {M : Type 1} → statement M
-untouched-spec =
+pub mark-spec : {M : Type 1} → statement M
+mark-spec =
     tie.close
     (tie.spec
     Inv-loop

@@ -1,9 +1,9 @@
--- `cases_coding::show::others` reads no number past the end, and ends. The loop's invariant: at most i numbers are counted, and i is at most the length. The measure is how many are left.
+-- `cases_words::others` reads no number past the end, and ends. The loop's invariant: at most i numbers are counted, and i is at most the length. The measure is how many are left.
 use Prim.Native.Nat.{_-_, _≤_}
 use lib.ListN.{length}
 use borrow.Author.Needs.{needs}
-use Rattle.cases_coding.proofs.show.others.Statement.{statement}
-use Rattle.cases_coding.proofs.show.others.Tie as tie
+use Rattle.cases_words.proofs.others.Statement.{statement}
+use Rattle.cases_words.proofs.others.Tie as tie
 
 abbrev Inv-loop : tie.InvT-loop
 Inv-loop s x n₀ i₀ n i = (n ≤ i) × (i ≤ length s)
