@@ -1,4 +1,4 @@
--- The walk along the listing: starts_are, bucket_at, told_after and the loop of listing_passes.
+-- The walk along the listing: starts_are, told_after and the loop of listing_passes.
 use mathlib.Core.Path.{_≡_, refl, sym, ap, _∙_}
 use mathlib.Core.Bool.{Bool, true, false, _&&_, and-true, and-false}
 use mathlib.Core.List.{List, [], _∷_, map}
@@ -7,40 +7,35 @@ use native.Mathlib.Omega.{arith}
 use lib.ListN.{length, getD, take, drop}
 use lib.Seq.{drop-drop, drop-cons}
 use lib.Dec.{eqb}
-use lib.Bits.{and-le-r}
 use borrow.Author.Tests.{lt-ltb, le-ltb, eq-eqb, ne-eqb, eqb-true, eqb-false, le-leb, lt-leb}
-use Rattle.base_lists.proofs.Bools.{by, cond-true, cond-false, cond-both}
+use Rattle.base_lists.proofs.Bools.{by, cond-true, cond-false}
 use Rattle.base_lists.proofs.Runs.{run, run-whole, run-none, run-cons}
 use Rattle.rules.specs.Text.{within, every}
 use Rattle.rules.specs.Table.{pad, mask, before}
-use Rattle.rules.proofs.BucketLaws.{mask-few}
-use Rattle.table_layout.specs.Starts.{bucketFor, fourAt, bucketIn, startAt, startAll, told}
+use Rattle.table_layout.specs.Starts.{bucketFor, fourAt, bucketIn, bucketFrom, Place, startAt, startAll, told}
+use Rattle.table_layout.proofs.BucketLaws.{for-few}
 use Rattle.table_check.specs.Checks.{risesIn, listingIn}
-use Rattle.table_check.specs.Walk.{follows, risesOn, walks, toldWith, goesOn, Bucket, Next}
+use Rattle.table_check.specs.Walk.{follows, risesOn, walks, toldWith, goesOn, Next}
 
--- ## bucket_at
+-- ## Buckets
 
 four-drop : (t : List ℕ) (chars p : ℕ) → fourAt (drop chars t) p ≡ take 4 (drop (chars + 4 * (p - 1)) t)
 four-drop t chars p =
     let e : pred p ≡ p - 1 = omega arith in
     rw e (ap (take 4) (drop-drop (4 * (p - 1)) chars t))
 
-for-few : (n c : ℕ) → 1 ≤ n → bucketFor n c < 2 * n
-unfolding bucketFor
-for-few n c h =
-    let b = mask-few n h in
-    let k = and-le-r c (mask n) in
-    cond-both (λ (x : ℕ). x < 2 * n) (eqb c pad) (omega arith) (omega arith)
-
-pub bucket-first : (t : List ℕ) (n chars p : ℕ) {r : ℕ} → 1 ≤ n → p ≤ n → 1 ≤ p → chars + 6 * n ≤ length t → r ≡ bucketFor n (getD t (chars + 4 * (p - 1)) 0)
-    → Bucket n (drop chars t) p r
-bucket-first t n chars p s u o h e =
-    record {
-      is = e ∙ sym (ap (λ (x : List ℕ). bucketFor n (getD x 0 pad)) (four-drop t chars p ∙ ap (take 4) (drop-cons t (chars + 4 * (p - 1)) 0 (omega arith))));
-      few = omega (arith, e, for-few n (getD t (chars + 4 * (p - 1)) 0) s);
-    }
+-- the bucket as it is read
+bucket-first : (t : List ℕ) (n chars p : ℕ) → 1 ≤ p → p ≤ n → chars + 6 * n ≤ length t → bucketFrom t chars n p ≡ bucketIn n (drop chars t) p
+unfolding bucketFrom
+bucket-first t n chars p o u h =
+    let at : ℕ = 4 * pred p in
+    sym (ap (λ (x : List ℕ). bucketFor n (getD (take 4 x) 0 pad)) (drop-drop at chars t ∙ drop-cons t (chars + at) 0 (omega arith)))
 
 -- ## told_after
+
+-- what bucket_at asks
+pub place-at : (t : List ℕ) (chars n buckets p : ℕ) → n ≤ 32768 → buckets ≡ mask n → 1 ≤ p → p ≤ n → chars + 6 * n ≤ length t → Place t chars n buckets p
+place-at t chars n buckets p f m o u h = record { few-items = f; masked = m; from-one = o; in-items = u; inside = omega arith }
 
 module _ (n : ℕ) (cs : List ℕ) (last p : ℕ) where
   first-told : last ≡ 0 → toldWith n cs last ≡ 0
@@ -82,12 +77,15 @@ module _ (n : ℕ) (cs : List ℕ) (last p : ℕ) where
       (λ t. let z = eqb-false last 0 t in later-follows z (omega (arith, some-told z)))
 
 module _ (t : List ℕ) (n chars : ℕ) (ss : List ℕ) (k last p told q : ℕ) (one : 1 ≤ p) (tell : told ≡ toldWith n (drop chars t) last)
-    (at : Bucket n (drop chars t) p q) where
+    (u : p ≤ n) (room : chars + 6 * n ≤ length t) (e : q ≡ bucketFrom t chars n p) (few : q < 2 * n) where
+  at : q ≡ bucketIn n (drop chars t) p
+  at = e ∙ bucket-first t n chars p one u room
+
   with-p : toldWith n (drop chars t) p ≡ q + 1
-  with-p = omega (arith, some-told n (drop chars t) p p (λ e. omega arith), at .is)
+  with-p = omega (arith, some-told n (drop chars t) p p (λ e. omega arith), at)
 
   suc-p : suc (bucketIn n (drop chars t) p) ≡ q + 1
-  suc-p = omega (arith, at .is)
+  suc-p = omega (arith, at)
 
   stays : goesOn n (drop chars t) ss k last p ≡ false → Next n (drop chars t) ss k last p 0
   stays e = record { is = rw e; few = omega arith }
@@ -95,10 +93,10 @@ module _ (t : List ℕ) (n chars : ℕ) (ss : List ℕ) (k last p told q : ℕ) 
   module _ {r : Bool} (right : r ≡ startAll ss k told (q + 1 - told)) (later : told ≤ q) where
     goes : goesOn n (drop chars t) ss k last p ≡ r
     unfolding goesOn
-    goes = rw (behind n (drop chars t) last p (omega (arith, tell, at .is)), suc-p, ← tell) (sym right)
+    goes = rw (behind n (drop chars t) last p (omega (arith, tell, at)), suc-p, ← tell) (sym right)
 
     on : r ≡ true → Next n (drop chars t) ss k last p (q + 1)
-    on e = record { is = rw (goes, e, with-p); few = omega (arith, at .few) }
+    on e = record { is = rw (goes, e, with-p); few = omega (arith, few) }
 
     off : r ≡ false → Next n (drop chars t) ss k last p 0
     off e = stays (goes ∙ e)
@@ -135,7 +133,7 @@ module _ (t : List ℕ) (n chars : ℕ) (ss : List ℕ) (k last p told q : ℕ) 
 
     pub told-earlier : q + 1 < told → Next n (drop chars t) ss k last p 0
     unfolding goesOn
-    told-earlier l = stays (rw (earlier-follows n (drop chars t) last p some (omega (arith, last-told, at .is))))
+    told-earlier l = stays (rw (earlier-follows n (drop chars t) last p some (omega (arith, last-told, at))))
 
     module _ (close : told ≤ q + 1) {r : Bool} (four : r ≡ before (take 4 (drop (chars + 4 * (last - 1)) t)) (take 4 (drop (chars + 4 * (p - 1)) t))) where
       goes-same : goesOn n (drop chars t) ss k last p ≡ r
@@ -143,7 +141,7 @@ module _ (t : List ℕ) (n chars : ℕ) (ss : List ℕ) (k last p told q : ℕ) 
       goes-same =
           let z : q + 1 - told ≡ 0 = omega (arith, other) in
           rw (
-            same-follows n (drop chars t) last p some (omega (arith, last-told, at .is)),
+            same-follows n (drop chars t) last p some (omega (arith, last-told, at)),
             suc-p,
             ← tell,
             z,
@@ -154,7 +152,7 @@ module _ (t : List ℕ) (n chars : ℕ) (ss : List ℕ) (k last p told q : ℕ) 
           (and-true r)
 
       pub told-same : r ≡ true → Next n (drop chars t) ss k last p told
-      told-same e = record { is = rw (goes-same, e, with-p) (omega arith); few = omega (arith, at .few) }
+      told-same e = record { is = rw (goes-same, e, with-p) (omega arith); few = omega (arith, few) }
 
       pub told-before : r ≡ false → Next n (drop chars t) ss k last p 0
       told-before e = stays (goes-same ∙ e)

@@ -2,7 +2,7 @@
 use mathlib.Core.Path.{_≡_}
 use mathlib.Core.Bool.{Bool, true, _&&_, _||_}
 use mathlib.Core.List.{List, [], _∷_, map}
-use Prim.Native.Nat.{ℕ, suc, _-_, _*_, _≤_, _<_}
+use Prim.Native.Nat.{ℕ, suc, _-_, _*_, _≤_}
 use lib.Dec.{eqb}
 use Rattle.rules.specs.Text.{if_then_else_, within, every}
 use Rattle.rules.specs.Table.{before}
@@ -29,11 +29,6 @@ toldWith n cs last = if eqb last 0 then 0 else suc (bucketIn n cs last)
 -- the place p, listed as number k, may follow `last`, and the starts that are told with it are right
 unfoldable pub goesOn : ℕ → List ℕ → List ℕ → ℕ → ℕ → ℕ → Bool
 goesOn n cs ss k last p = follows n cs last p && startAll ss k (toldWith n cs last) (suc (bucketIn n cs p) - toldWith n cs last)
-
--- The bucket of the item at a place, one of 2 x n.
-pub record Bucket (n : ℕ) (cs : List ℕ) (p r : ℕ) : Type 0 where
-  pub is : r ≡ bucketIn n cs p
-  pub few : r < 2 * n
 
 -- How many starts are told after the item at p; 0 if it does not go on.
 pub record Next (n : ℕ) (cs ss : List ℕ) (k last p r : ℕ) : Type 0 where

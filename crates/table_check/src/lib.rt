@@ -11,7 +11,7 @@ ghost use Rattle.rules.specs.Calls.{checkCall};
 ghost use Rattle.table_layout.specs.Starts.{startAll};
 ghost use Rattle.table_layout.specs.Parts.{rulesPart};
 ghost use Rattle.table_check.specs.Checks.{fault, Apart, headPasses, endsPass, charsPass, allChars, listingIn, itemsPass, checks};
-ghost use Rattle.table_check.specs.Walk.{toldWith, Bucket, Next};
+ghost use Rattle.table_check.specs.Walk.{toldWith, Next};
 ghost use Rattle.table_check.specs.Answers.{checkedAs};
 use base_units::Refusal;
 use base_units::wide;
@@ -218,14 +218,6 @@ fn starts_are(t: &[u32], from: usize, b: usize, end: usize, k: u32) -> bool
     false
 }
 
-// The bucket of the item at a place, from 1, where the characters stand from `chars` on.
-fn bucket_at(t: &[u32], items: u32, buckets: u32, chars: usize, p: usize) -> u32
-    requires { ⌜ (1 ≤ items) × (items ≤ 32768) × (buckets ≡ mask items) × (chars + 6 * items ≤ length (now t)) × (1 ≤ p) × (p ≤ items) ⌝ }
-    ensures { λ r. ⌜ Bucket items (drop chars (now (t .entry))) p r ⌝ }
-{
-    table_layout::bucket_of(items, buckets, t[chars + 4 * (p - 1)])
-}
-
 // How many starts are told once the item at p is listed, as number k, after the one at `last`, with which `told` are told. 0 if it may not follow
 // that one, or a start is wrong.
 fn told_after(
@@ -242,7 +234,7 @@ fn told_after(
     requires { ⌜ (k < 65536) × (last ≤ items) × (told ≡ toldWith items (drop chars (now t)) last) ⌝ }
     ensures { λ r. ⌜ Next items (drop chars (now (t .entry))) (drop (chars + 5 * items) (now (t .entry))) k last p r ⌝ }
 {
-    let q = bucket_at(t, items, buckets, chars, p) as usize;
+    let q = table_layout::bucket_at(t, chars, items, buckets, p as u32) as usize;
     let starts = chars + 5 * (items as usize);
     if told == q {
         let s = table_layout::start_of(t, starts, q);

@@ -5,11 +5,14 @@ use Prim.Native.Nat.{ℕ, suc, pred, _+_, _-_, _*_, _/_, _%_, _≤_, _<_}
 use native.Mathlib.Omega.{arith}
 use lib.ListN.{getD, drop}
 use lib.Seq.{getD-drop}
-use lib.Bits.{bitAnd}
+use lib.Dec.{eqb}
+use lib.Bits.{bitAnd, and-le-r}
 use borrow.Author.Tests.{lt-ltb, le-ltb, eq-eqb, ne-eqb}
 use native.Mathlib.Numerals.{sub-one}
+use Rattle.base_lists.proofs.Bools.{cond-both}
 use Rattle.rules.specs.Table.{pad, doubled, mask}
-use Rattle.table_layout.specs.Starts.{bucketFor, startAt}
+use Rattle.rules.proofs.BucketLaws.{mask-few}
+use Rattle.table_layout.specs.Starts.{bucketFor, bucketFrom, startAt}
 use Rattle.table_layout.proofs.StartLaws.{start-even, start-odd}
 
 -- ## mask_for
@@ -53,6 +56,24 @@ bucket-pad items c e =
 pub bucket-low : (items buckets c : ℕ) → buckets ≡ mask items → (c ≡ 0x110000 → ⊥) → bitAnd c buckets ≡ bucketFor items c
 unfolding bucketFor
 bucket-low items buckets c m n = rw (ne-eqb c pad n, m)
+
+-- a bucket is one of 2 x n
+pub for-few : (n c : ℕ) → 1 ≤ n → bucketFor n c < 2 * n
+unfolding bucketFor
+for-few n c h =
+    let b = mask-few n h in
+    let k = and-le-r c (mask n) in
+    cond-both (λ (x : ℕ). x < 2 * n) (eqb c pad) (omega arith) (omega arith)
+
+-- ## bucket_at
+
+module _ (t : List ℕ) (chars n p : ℕ) {r : ℕ} (e : r ≡ bucketFor n (getD t (chars + 4 * (p - 1)) 0)) where
+  pub from-is : r ≡ bucketFrom t chars n p
+  unfolding bucketFrom
+  from-is = e ∙ ap (λ (k : ℕ). bucketFor n (getD t (chars + 4 * k) 0)) (sub-one p)
+
+  pub from-few : 1 ≤ p → p ≤ n → r < 2 * n
+  from-few o u = omega (arith, e, for-few n (getD t (chars + 4 * (p - 1)) 0) (omega arith))
 
 -- ## start_of
 

@@ -1,9 +1,10 @@
 -- Buckets and their starts as they are read: the bucket of an item whose numbers stand in a table, the start of a bucket, and the test that the
 -- starts are right, along the listing.
+use mathlib.Core.Path.{_≡_}
 use mathlib.Core.Bool.{Bool, true, _&&_}
 use mathlib.Core.List.{List, [], _∷_}
-use Prim.Native.Nat.{ℕ, zero, suc, pred, _-_, _*_, _/_, _%_}
-use lib.ListN.{getD, take, drop}
+use Prim.Native.Nat.{ℕ, zero, suc, pred, _+_, _-_, _*_, _/_, _%_, _≤_}
+use lib.ListN.{length, getD, take, drop}
 use lib.Dec.{eqb}
 use lib.Bits.{bitAnd}
 use Rattle.rules.specs.Text.{if_then_else_}
@@ -26,6 +27,22 @@ bucketIn n cs p = bucketFor n (getD (fourAt cs p) 0 pad)
 -- what it is listed by
 abbrev pub keyIn : ℕ → List ℕ → ℕ → List ℕ
 keyIn n cs p = bucketIn n cs p ∷ fourAt cs p
+
+-- where the four character numbers of the item at a place, from 1, stand in a table, those of the first at `chars`
+abbrev pub fourFrom : ℕ → ℕ → ℕ
+fourFrom chars p = chars + 4 * pred p
+
+-- and its bucket there, of n items
+unfoldable pub bucketFrom : List ℕ → ℕ → ℕ → ℕ → ℕ
+bucketFrom t chars n p = bucketFor n (getD t (fourFrom chars p) 0)
+
+-- The place, from 1, of one of n items whose characters stand in the area, and the mask of their buckets.
+pub record Place (t : List ℕ) (chars n buckets p : ℕ) : Type 0 where
+  pub few-items : n ≤ 32768
+  pub masked : buckets ≡ mask n
+  pub from-one : 1 ≤ p
+  pub in-items : p ≤ n
+  pub inside : chars + 4 * n ≤ length t
 
 -- ## Starts
 

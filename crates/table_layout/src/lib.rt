@@ -6,7 +6,7 @@ ghost use Prim.Native.Nat.{_+_, _*_, _/_, _≤_, _<_};
 ghost use lib.ListN.{length, getD, drop};
 ghost use Rattle.rules.specs.Table.{mask, bucket, accepted, meaningIn};
 ghost use Rattle.rules.specs.Order.{weightsAt};
-ghost use Rattle.table_layout.specs.Starts.{bucketFor, startAt};
+ghost use Rattle.table_layout.specs.Starts.{bucketFor, bucketFrom, Place, startAt};
 ghost use Rattle.table_layout.specs.Parts.{endsAt, rulesPart, weightsPart, Before, ruleAs, ruleAt, Within, Holds, Many, ManyAll};
 ghost use Rattle.table_layout.specs.Parts.{charsPart, startFor, Indexed, Lists};
 use base_units::Rank;
@@ -66,7 +66,7 @@ pub fn mask_for(items: u32) -> u32
 }
 
 // The bucket of an item whose characters begin with a number.
-pub fn bucket_of(items: u32, buckets: u32, c: u32) -> u32
+fn bucket_of(items: u32, buckets: u32, c: u32) -> u32
     requires { ⌜ (1 ≤ items) × (items ≤ 32768) × (buckets ≡ mask items) ⌝ }
     ensures { λ r. ⌜ r ≡ bucketFor items c ⌝ }
 {
@@ -74,6 +74,15 @@ pub fn bucket_of(items: u32, buckets: u32, c: u32) -> u32
         return 2 * items - 1;
     }
     c & buckets
+}
+
+// The bucket of the item at a place, where the characters of the first stand at `chars`.
+pub fn bucket_at(t: &[u32], chars: usize, items: u32, buckets: u32, p: u32) -> u32
+    requires { ⌜ Place (now t) chars items buckets p ⌝ }
+    ensures { λ r. ⌜ (r ≡ bucketFrom (now (t .entry)) chars items p) × (r < 2 * items) ⌝ }
+{
+    let at = chars + 4 * (p as usize - 1);
+    bucket_of(items, buckets, t[at])
 }
 
 // The start of a bucket, where the starts stand from a place on; two stand in each number.

@@ -1,11 +1,14 @@
 -- `table_check::told_after` meets its contract: one law for each return.
 use borrow.Author.Needs.{needs}
-use Rattle.table_check.proofs.WalkLaws.{told-some, told-next, told-off, told-later, told-wrong, told-earlier, told-same, told-before}
+use Rattle.table_check.proofs.WalkLaws.{place-at, told-some, told-next, told-off, told-later, told-wrong, told-earlier, told-same, told-before}
 use Rattle.table_check.proofs.told_after.Statement.{statement}
 use Rattle.table_check.proofs.told_after.Tie as tie
 
+cast-bucket-at : tie.Need-cast-bucket-at
+cast-bucket-at c = search needs
+
 bucket-at-requires : tie.Need-bucket-at-requires
-bucket-at-requires c κs = search needs
+bucket-at-requires c κs = search place-at
 
 cast-q : tie.Need-cast-q
 cast-q c = search needs
@@ -80,6 +83,7 @@ pub told-after-spec : {M : Type 1} → statement M
 told-after-spec =
     tie.close
     (tie.spec
+    cast-bucket-at
     bucket-at-requires
     cast-q
     mul-starts
