@@ -14,7 +14,7 @@ use Rattle.rules.specs.Text.{every, same}
 use Rattle.rules.specs.Names.{isBlank, namesRefusal, isAnyHex, hexValue}
 use Rattle.rules.specs.Tokens.{isText, gap, broken, word, name, Token, token, noToken, noPart, tokensFrom, withoutBlanks, tokensOf, isEntry}
 use Rattle.rules.specs.Charmap.{lastToken}
-use Rattle.rules.specs.Lines.{inPlain, inComment, Scan, lineFrom, lineOf}
+use Rattle.rules.specs.Lines.{inPlain, Scan, lineFrom, lineOf}
 use Rattle.rules.proofs.TextLaws.{every-head, every-tail, every-append, every-mono}
 use Rattle.text_lines.specs.declared.Signs.{Signs}
 use Rattle.text_lines.specs.declared.Spot.{Spot}

@@ -7,7 +7,7 @@ ghost use mathlib.Core.List.{[]};
 ghost use Prim.Native.Nat.{_+_, _/_, _≤_, _<_};
 ghost use lib.ListN.{length, replicate};
 ghost use Rattle.text_lines.specs.Stream.{lineStart};
-ghost use Rattle.rules.specs.Text.{within, same, oneOf};
+ghost use Rattle.rules.specs.Text.{same, oneOf};
 ghost use Rattle.rules.specs.Conditionals.{isToggleByte, isToggle, isOn};
 ghost use Rattle.work_toggles.specs.Candidates.{decisionFor, takes, candidate, Copied, Parts, Differ};
 ghost use Rattle.work_toggles.specs.Kept.{wordLeft, toggleAt, togglesIn, Kept, isDefined, storedAs, PlaceIs, Slot, ShapeIs, refusalFor, IsNew, Decides, MayTurn, Turned};
