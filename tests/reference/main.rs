@@ -63,9 +63,9 @@ fn answer(request: &str) -> Option<String> {
     let answer = match operation {
         "check" => {
             let table = words.numbers()?;
-            match table_check::accept(&table) {
+            match table::accept(&table) {
                 Ok(meaning) => {
-                    let size = table_layout::store(&meaning).len();
+                    let size = layout::store(&meaning).len();
                     format!("0 {} {} {}", meaning.rules.len(), meaning.items.len(), size)
                 }
                 Err(refusal) => format!("{} 0 0 0", refusal),
@@ -73,21 +73,21 @@ fn answer(request: &str) -> Option<String> {
         }
         "step" => {
             let (table, string, at) = (words.numbers()?, words.numbers()?, words.number()?);
-            match order_compare::step(&table, &string, at) {
+            match order::step(&table, &string, at) {
                 Ok((place, length)) => format!("0 {} {}", place, length),
                 Err(refusal) => format!("{} 0 0", refusal),
             }
         }
         "compare" => {
             let (table, one, other) = (words.numbers()?, words.numbers()?, words.numbers()?);
-            match order_compare::compare(&table, &one, &other) {
+            match order::compare(&table, &one, &other) {
                 Ok((sign, level, agreed)) => format!("0 {} {} {}", sign, level, agreed),
                 Err(refusal) => format!("{} 0 0 0", refusal),
             }
         }
         "key" => {
             let (table, string, room) = (words.numbers()?, words.numbers()?, words.number()?);
-            result(order_compare::key(&table, &string, room))
+            result(order::key(&table, &string, room))
         }
         "compile" => {
             let (source, area, work) = (words.bytes()?, words.number()?, words.number()?);
@@ -95,22 +95,22 @@ fn answer(request: &str) -> Option<String> {
         }
         "charmap" => {
             let (source, area) = (words.bytes()?, words.number()?);
-            result_with_line(charmap_read::charmap(&source, area as usize))
+            result_with_line(charmap::charmap(&source, area as usize))
         }
-        "area" => verdict(charmap_read::area(&words.numbers()?)),
+        "area" => verdict(charmap::area(&words.numbers()?)),
         "decode" => {
             let (area, bytes, room) = (words.numbers()?, words.bytes()?, words.number()?);
-            result(charmap_read::decode(&area, &bytes, room))
+            result(charmap::decode(&area, &bytes, room))
         }
         "encode" => {
             let (area, string, room) = (words.numbers()?, words.numbers()?, words.number()?);
-            result(charmap_read::encode(&area, &string, room))
+            result(charmap::encode(&area, &string, room))
         }
         "directory" => {
             let (table, run) = (words.numbers()?, words.numbers()?);
             let (headings, topics) = (words.places()?, words.places()?);
             let room = words.number()?;
-            result(order_directory::directory(&table, &run, &headings, &topics, room))
+            result(directory::directory(&table, &run, &headings, &topics, room))
         }
         _ => return None,
     };
