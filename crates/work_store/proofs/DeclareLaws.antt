@@ -182,7 +182,7 @@ module _ {key : ℕ → Key} {len : ℕ} {w : List ℕ} (hs : ℕ) (k : Key) whe
       let b = a .above in
       node-by hs k m e es
       (λ x t u. (λ c z. omega (arith, u, z), all-nodes (λ j d o y c z. let f = y .below in omega (arith, u, z, o, f)) ns))
-      (λ u t. (λ c z. let o = above-name (kindOf (e .key)) c in omega (arith, u, z, l, o, b), all-both {X = λ (d : Decl). Unit {0}} es (λ d x f c z. f c (sym u ∙ z)) (all-nodes (λ j d o y. tt) ns) (gap m ns)))
+      (λ u t. (λ c z. let o = above-name (kindOf (e .key)) c in omega (arith, u, z, l, o, b), subst (λ (x : ℕ). All (λ (d : Decl). kindOf (d .key) ≡ 1 → x ≡ d .place / 16 → ⊥) es) (sym u) (gap m ns)))
 
   -- so a slot on a way is no number that is kept
   slots-off : {n : ℕ} {ds : List Decl} (m : ℕ) → m ≤ depthOf hs k ds → Nodes key len w n ds → All (Off (slotOf hs k m ds)) ds

@@ -1,11 +1,11 @@
 -- What slots and rows hold, as code reads and writes it; the sides of ways; numbers that are kept.
 use mathlib.Core.Path.{_≡_, refl, sym, ap, _∙_, subst}
 use mathlib.Core.Bool.{Bool, true, false, _&&_, false≢true}
-use mathlib.Core.List.{List, [], _∷_}
+use mathlib.Core.List.{List}
 use Prim.Native.Nat.{ℕ, zero, suc, _+_, _-_, _*_, _/_, _%_, _^_, _≤_, _<_}
 use native.Mathlib.Nat.{zero-div}
 use native.Mathlib.Omega.{arith}
-use lib.ListN.{length, getD, set, length-set}
+use lib.ListN.{length, getD, set, length-set, List·getD-eq-default}
 use lib.Seq.{getD-set-same, getD-set-other}
 use lib.Dec.{eqb, leb}
 use borrow.Author.Tests.{eq-eqb, ne-eqb, eqb-true, eqb-false, leb-true, leb-false}
@@ -43,22 +43,13 @@ side-left x e = sym (rw (eq-eqb (x % 2) 0 e))
 pub side-right : (x : ℕ) → (x % 2 ≡ 0 → ⊥) → 2 ≡ sideOf (x % 2)
 side-right x n = sym (rw (ne-eqb (x % 2) 0 n))
 
-past-get : (l : List ℕ) (i : ℕ) → length l ≤ i → getD l i 0 ≡ 0
-past-get [] i h = refl
-past-get (a ∷ l) zero h = absurd (omega (arith, h))
-past-get (a ∷ l) (suc i) h = past-get l i (omega (arith, h))
-
 -- behind the last bit all ways go to the left
 pub side-past : (key : List ℕ) (m : ℕ) → length key ≡ 8 → 8 ≤ m / 32 → 0 ≡ sideOf (getD key (m / 32) 0 / 2 ^ (m % 32) % 2)
 side-past key m l h =
-    let z : getD key (m / 32) 0 / 2 ^ (m % 32) ≡ 0 = ap (λ (x : ℕ). x / 2 ^ (m % 32)) (past-get key (m / 32) (omega (arith, l, h))) ∙ zero-div (2 ^ (m % 32)) in
+    let z : getD key (m / 32) 0 / 2 ^ (m % 32) ≡ 0 = ap (λ (x : ℕ). x / 2 ^ (m % 32)) (List·getD-eq-default key 0 {n = m / 32} (omega (arith, l, h))) ∙ zero-div (2 ^ (m % 32)) in
     side-left (getD key (m / 32) 0 / 2 ^ (m % 32)) (omega (arith, z))
 
 -- ## Numbers that are kept are read
-
-module _ {w : List ℕ} {at : ℕ} {key : List ℕ} {a : ℕ} where
-  pub run-none : {e : ℕ} {t : Bool} → e ≤ a → t ≡ true → RunIs w at key a e t
-  run-none h t = record { same = λ s i l m. absurd (omega (arith, h, l, m)); other = λ f. absurd (false≢true (sym f ∙ t)) }
 
 -- The numbers so far are the same.
 pub record Running (w : List ℕ) (at : ℕ) (key : List ℕ) (a e i : ℕ) : Type 0 where
