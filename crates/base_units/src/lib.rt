@@ -1,7 +1,7 @@
 // The units of the product: what must not be mixed up, and what answers are made of. A number of the paper for each is in specs/.
 ghost use mathlib.Core.Path.{_≡_};
 ghost use mathlib.Core.Bool.{cond};
-ghost use Prim.Native.Nat.{_<_};
+ghost use Prim.Native.Nat.{_<_, _≤_};
 ghost use Rattle.rules.specs.Names.{isCharacter};
 ghost use Rattle.rules.specs.Order.{goodString};
 ghost use Rattle.base_units.specs.Numbers.{numberOf};
@@ -121,6 +121,38 @@ pub fn number_of(r: Refusal) -> u32
         Refusal::NotPlain => 16,
         Refusal::BadPart => 17,
     }
+}
+
+// The refusal that a source gets for its lines or its area, by its number: what is gathered over the parts of a line is the lowest number.
+pub fn refusal_of(n: u8) -> Refusal
+    requires { ⌜ (2 ≤ n) × (n ≤ 10) ⌝ }
+    ensures { λ r. ⌜ numberOf r ≡ n ⌝ }
+{
+    if n <= 2 {
+        return Refusal::BadByte;
+    }
+    if n <= 3 {
+        return Refusal::Malformed;
+    }
+    if n <= 4 {
+        return Refusal::BadRule;
+    }
+    if n <= 5 {
+        return Refusal::Twice;
+    }
+    if n <= 6 {
+        return Refusal::Unknown;
+    }
+    if n <= 7 {
+        return Refusal::TooMany;
+    }
+    if n <= 8 {
+        return Refusal::Unranked;
+    }
+    if n <= 9 {
+        return Refusal::ShortArea;
+    }
+    Refusal::ByteTwice
 }
 
 // A number of an area as a place.
