@@ -58,11 +58,6 @@ pub record Named (g : Signs) (src : List ℕ) (at : ℕ) : Type 0 where
   pub some : 0 < length (nameAt g src at)
   pub short : length (nameAt g src at) ≤ 32
 
--- The word at a place stands at the front of the room, as many bytes as it has; the rest of the room is as it was.
-pub record Copies (g : Signs) (src : List ℕ) (at : ℕ) (room after : List ℕ) (n : ℕ) : Type 0 where
-  pub copied : after ≡ nameAt g src at ++ drop (length (nameAt g src at)) room
-  pub count : n ≡ length (nameAt g src at)
-
 -- The lines are refused so.
 pub record Refuses (e : Ended) (r l : ℕ) : Type 0 where
   pub refusal : e .refusal ≡ r

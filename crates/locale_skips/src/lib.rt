@@ -5,7 +5,7 @@ ghost use lib.ListN.{length};
 ghost use Rattle.text_lines.specs.Stream.{lineStart};
 ghost use Rattle.text_reader.specs.Turns.{AtLine, Turns};
 ghost use Rattle.text_passed.specs.Words.{firstWord};
-ghost use Rattle.locale_skips.specs.Passing.{KindIs, Begins, TurnIs, BranchIs, BranchStands, branchReading, Named, nameAt, Copies, isEnd, Reaches, AfterIs, CategoryIs};
+ghost use Rattle.locale_skips.specs.Passing.{KindIs, Begins, TurnIs, BranchIs, BranchStands, branchReading, Named, nameAt, isEnd, Reaches, AfterIs, CategoryIs};
 use text_lines::IN_PLAIN;
 use text_lines::Signs;
 use text_lines::Spot;
@@ -19,8 +19,7 @@ use text_reader::past;
 use text_reader::place;
 use text_reader::reader_at;
 use text_reader::used_up;
-use text_tokens::WordStep;
-use text_tokens::word_byte;
+use text_tokens::copy_word;
 
 // What a line is in an unused branch, by its first word.
 pub enum Kind {
@@ -253,31 +252,7 @@ fn skip_named(src: &[u8], g: Signs, at: usize, number: usize, name: &[u8]) -> Sk
     line_after(src, g, place(q), line_number(q))
 }
 
-// The word at a place, copied to the front of the room: how many bytes it has. So a name is read once, however many lines it is joined of.
-fn copy_word(src: &[u8], g: Signs, at: usize, room: &mut [u8]) -> usize
-    requires { ⌜ (at ≤ length (now src)) × (length (nameAt g (now src) at) ≤ length (now room)) ⌝ }
-    ensures { λ r. ⌜ Copies g (now (src .entry)) at (now (room .entry)) (now (room .exit)) r ⌝ }
-{
-    let mut q = Spot {
-        at: at,
-        mode: IN_PLAIN,
-        fresh: true,
-    };
-    let mut i = 0;
-    loop {
-        let s = word_byte(src, g, q);
-        match s {
-            WordStep::End => return i,
-            WordStep::Byte(b, r) => {
-                room[i] = b;
-                i += 1;
-                q = r;
-            }
-        }
-    }
-}
-
-// The rest of another category, with room for its name.
+// The rest of another category, with room for its name: so that is read once, however many lines it is joined of.
 fn skip_copied(
     src: &[u8],
     g: Signs,
@@ -289,7 +264,12 @@ fn skip_copied(
     requires { ⌜ Begins (now src) at number × Named g (now src) category × (32 ≤ length (now room)) ⌝ }
     ensures { λ r. ⌜ CategoryIs g (now (src .entry)) at number (nameAt g (now (src .entry)) category) r ⌝ }
 {
-    let n = copy_word(src, g, category, room);
+    let p = Spot {
+        at: category,
+        mode: IN_PLAIN,
+        fresh: true,
+    };
+    let n = copy_word(src, g, p, room);
     skip_named(src, g, at, number, &room[..n])
 }
 

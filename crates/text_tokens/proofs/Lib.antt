@@ -7,3 +7,4 @@ pub mod GapLaws
 pub mod StandLaws
 pub mod PlainLaws
 pub mod AheadLaws
+pub mod CopyLaws

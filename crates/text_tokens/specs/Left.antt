@@ -1,9 +1,9 @@
 -- The tokens of a line as code reads them: what is still to come at a spot is the paper's own list (Rattle.rules.specs.Tokens).
 use mathlib.Core.Path.{_≡_}
 use mathlib.Core.Bool.{Bool, true, false, _&&_, _||_, not}
-use mathlib.Core.List.{List, [], _∷_}
+use mathlib.Core.List.{List, [], _∷_, _++_}
 use Prim.Native.Nat.{ℕ, suc, _+_, _%_, _≤_, _<_}
-use lib.ListN.{length, getD, drop}
+use lib.ListN.{length, getD, take, drop}
 use lib.Dec.{eqb, leb}
 use Rattle.rules.specs.Text.{if_then_else_, every, oneOf, _unless_, lower}
 use Rattle.rules.specs.Names.{isVisible, nameRefusal, namesRefusal}
@@ -140,6 +140,11 @@ pub record WordStops (g : Signs) (src : List ℕ) (p : Spot) : Type 0 where
 abbrev pub WordStepIs : Signs → List ℕ → Spot → WordStep → Type 0
 WordStepIs g src p (wordStep.Byte b q) = WordByte g src p b q
 WordStepIs g src p wordStep.End = WordStops g src p
+
+-- The word w stands in front of the area, or as much of it as there is room for, n bytes; what lies behind them is as it was.
+pub record CopiesWord (w area after : List ℕ) (n : ℕ) : Type 0 where
+  pub copied : after ≡ take (length area) w ++ drop (length w) area
+  pub count : n ≡ length (take (length area) w)
 
 -- The spot after a word that goes on.
 pub record WordEnds (g : Signs) (src : List ℕ) (p q : Spot) : Type 0 where

@@ -9,7 +9,7 @@ ghost use Rattle.rules.specs.Names.{isVisible};
 ghost use Rattle.rules.specs.Tokens.{inWord};
 ghost use Rattle.rules.specs.Lines.{inPlain, quoted};
 ghost use Rattle.text_lines.specs.Stream.{marksLeft};
-ghost use Rattle.text_tokens.specs.Left.{wordIn, isInside, isPlain, PlainTo, PlainAt, WordStepIs, WordEnds, NameStepIs, ClosingAfter, ClosingIs, QuotesIs, bareAt, namedAt, NextIs, Skips};
+ghost use Rattle.text_tokens.specs.Left.{wordIn, isInside, isPlain, PlainTo, PlainAt, WordStepIs, WordEnds, CopiesWord, NameStepIs, ClosingAfter, ClosingIs, QuotesIs, bareAt, namedAt, NextIs, Skips};
 use text_lines::IN_NAME;
 use text_lines::IN_PLAIN;
 use text_lines::Signs;
@@ -120,6 +120,27 @@ pub fn word_byte(src: &[u8], g: Signs, p: Spot) -> WordStep
             return WordStep::End;
         }
     }
+}
+
+// The word at a spot, copied to the front of an area, or as much of it as the area takes: how many bytes that is.
+pub fn copy_word(src: &[u8], g: Signs, p: Spot, area: &mut [u8]) -> usize
+    requires { ⌜ p .at ≤ length (now src) ⌝ }
+    ensures { λ r. ⌜ CopiesWord (wordIn (marksLeft g (now (src .entry)) p)) (now (area .entry)) (now (area .exit)) r ⌝ }
+{
+    let mut q = p;
+    let mut i = 0;
+    while i < area.len() {
+        let s = word_byte(src, g, q);
+        match s {
+            WordStep::Byte(b, r) => {
+                area[i] = b;
+                i += 1;
+                q = r;
+            }
+            WordStep::End => return i,
+        }
+    }
+    i
 }
 
 // The spot after a word that goes on.

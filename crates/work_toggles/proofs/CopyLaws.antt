@@ -1,89 +1,51 @@
 -- The first bytes of a word, copied, and two words beside each other by them.
-use mathlib.Core.Path.{_≡_, refl, sym, ap, _∙_}
-use mathlib.Core.List.{List}
-use Prim.Native.Nat.{ℕ, suc, _+_, _-_, _≤_, _<_}
+use mathlib.Core.Path.{_≡_, sym, ap, _∙_}
+use mathlib.Core.List.{List, _++_}
+use Prim.Native.Nat.{ℕ, _+_, _-_, _≤_, _<_}
+use Prim.Native.Nat.{min}
 use native.Mathlib.Omega.{arith}
-use lib.ListN.{length, getD, set, replicate, length-set, length-replicate, getD-replicate}
-use lib.Seq.{getD-set-same, getD-set-other}
+use lib.ListN.{length, getD, take, drop, replicate, length-append, length-take, length-drop, length-replicate, getD-replicate, List·getD-append, List·getD-eq-default}
+use lib.Seq.{getD-append-add, getD-drop, getD-take, take-all}
 use lib.Dec.{eqb, ltb}
 use borrow.Author.Tests.{eqb-true, eqb-false, ltb-true, ltb-false}
 use Rattle.base_lists.proofs.Bools.{by}
-use Rattle.text_lines.specs.declared.Signs.{Signs}
-use Rattle.text_lines.specs.declared.Spot.{Spot}
-use Rattle.text_tokens.specs.declared.WordStep.{WordStep}
-use Rattle.text_tokens.specs.declared.WordStep.the-variants.{Byte, End}
-use Rattle.text_tokens.specs.Left.{WordByte, WordStepIs}
+use Rattle.text_tokens.specs.Left.{CopiesWord}
 use Rattle.work_toggles.specs.Candidates.{candidate, Copied, Parts, Differ}
-use Rattle.work_toggles.specs.Kept.{wordLeft}
-use Rattle.work_toggles.proofs.WordLaws.{step-byte, step-end}
 use Rattle.work_toggles.proofs.CandidateLaws.{candidate-alike}
 
 -- ## A word, copied
 
--- The first i bytes of the word at p are copied, and the word goes on at q.
-pub record Copying (g : Signs) (src : List ℕ) (p q : Spot) (first room : List ℕ) (i : ℕ) : Type 0 where
-  pub few : i ≤ 32
-  pub long : length room ≡ 32
-  pub stays : length room ≡ length first
-  pub done : (k : ℕ) → k < i → getD room k 0 ≡ getD (wordLeft g src p) k 0
-  pub none : (k : ℕ) → i ≤ k → k < 32 → getD room k 0 ≡ 0
-  pub rest : (k : ℕ) → getD (wordLeft g src p) (i + k) 0 ≡ getD (wordLeft g src q) k 0
-  pub to : q .at ≤ length src
-
-pub copy-start : (g : Signs) (src : List ℕ) (p : Spot) (room : List ℕ) → p .at ≤ length src → room ≡ replicate 32 0 → Copying g src p p room room 0
-copy-start g src p room h e =
+-- its first 32 bytes, with zeros behind its end
+copied : (w : List ℕ) {room : List ℕ} {n : ℕ} → CopiesWord w (replicate 32 0) room n → Copied w room
+copied w {room} {n} v =
+    let zeros : List ℕ = replicate 32 0 in
+    let z : length zeros ≡ 32 = length-replicate {A = ℕ} 32 0 in
+    let e : room ≡ take 32 w ++ drop (length w) zeros = v .copied in
+    let front : length (take 32 w) ≡ min 32 (length w) = length-take 32 w in
     record {
-      few = omega arith;
-      long = ap length e ∙ length-replicate {A = ℕ} 32 0;
-      stays = refl;
-      done = λ k l. absurd (omega arith);
-      none = λ k l m. ap (λ (x : List ℕ). getD x k 0) e ∙ getD-replicate {A = ℕ} 32 k 0 0 m;
-      rest = λ k. ap (λ (y : ℕ). getD (wordLeft g src p) y 0) (omega arith);
-      to = h;
+      long = ap length e ∙ length-append (take 32 w) (drop (length w) zeros) ∙ rw (front, length-drop (length w) zeros, z) (omega arith);
+      same = λ k l.
+          by (ltb k (length w))
+          (λ t. let h = ltb-true k (length w) t in
+          ap (λ (x : List ℕ). getD x k 0) e ∙ List·getD-append (take 32 w) (drop (length w) zeros) 0 k (rw front (omega (arith, h, l))) ∙ getD-take 32 w k 0 l)
+          (λ t. let h = ltb-false k (length w) t in
+          let m : k ≡ length w + (k - length w) = omega arith in
+          ap (λ (x : List ℕ). getD x k 0) (e ∙ ap (λ (y : List ℕ). y ++ drop (length w) zeros) (take-all 32 w (omega (arith, h, l))))
+          ∙ ap (λ (y : ℕ). getD (w ++ drop (length w) zeros) y 0) m
+          ∙ getD-append-add w (drop (length w) zeros) (k - length w) 0
+          ∙ getD-drop (length w) zeros (k - length w) 0
+          ∙ ap (λ (y : ℕ). getD zeros y 0) (sym m)
+          ∙ getD-replicate {A = ℕ} 32 k 0 0 l
+          ∙ sym (List·getD-eq-default w 0 h));
     }
 
-module _ {g : Signs} {src : List ℕ} {p q : Spot} {start room : List ℕ} {i : ℕ} (v : Copying g src p q start room i) where
-  pub copy-full : 32 ≤ i → Copied (wordLeft g src p) room
-  copy-full h = record { long = v .long; same = λ k l. v .done k (omega arith) }
-
-  module _ (s : WordStep) (w : WordStepIs g src q s) where
-    pub copy-more : {b : ℕ} {r : Spot} → s ≡ Byte b r → i < 32 → Copying g src p r start (set room i b) (i + 1)
-    copy-more {b} {r} e h =
-        let x : WordByte g src q b r = step-byte g src q w e in
-        let l = v .long in
-        let step : (k : ℕ) → getD (wordLeft g src p) (i + suc k) 0 ≡ getD (wordLeft g src r) k 0 = λ k. v .rest (suc k) ∙ ap (λ (y : List ℕ). getD y (suc k) 0) (x .bytes) in
-        let first : getD (wordLeft g src p) (i + 0) 0 ≡ b = v .rest 0 ∙ ap (λ (y : List ℕ). getD y 0 0) (x .bytes) in
-        record {
-          few = omega arith;
-          long = length-set room i b ∙ v .long;
-          stays = length-set room i b ∙ v .stays;
-          done = λ k a.
-              by (eqb k i)
-              (λ t. let f = eqb-true k i t in
-              ap (λ (y : ℕ). getD (set room i b) y 0) f ∙ getD-set-same room i b 0 (omega arith) ∙ sym first
-              ∙ ap (λ (y : ℕ). getD (wordLeft g src p) y 0) (omega arith))
-              (λ t. let f = eqb-false k i t in getD-set-other room i k b 0 f ∙ v .done k (omega (arith, f)));
-          none = λ k a c. getD-set-other room i k b 0 (λ f. absurd (omega arith)) ∙ v .none k (omega arith) c;
-          rest = λ k. ap (λ (y : ℕ). getD (wordLeft g src p) y 0) (omega arith) ∙ step k;
-          to = x .to;
-        }
-
-    pub copy-ends : s ≡ End → Copied (wordLeft g src p) room
-    copy-ends e =
-        let x = step-end g src q w e in
-        record {
-          long = v .long;
-          same = λ k l.
-              by (ltb k i)
-              (λ t. v .done k (ltb-true k i t))
-              (λ t. let h = ltb-false k i t in
-              v .none k h l
-              ∙ sym (ap (λ (y : ℕ). getD (wordLeft g src p) y 0) (omega arith) ∙ v .rest (k - i) ∙ ap (λ (y : List ℕ). getD y (k - i) 0) x));
-        }
+-- the area that it is copied to keeps its length
+pub copied-long : (w : List ℕ) {room : List ℕ} {n : ℕ} → CopiesWord w (replicate 32 0) room n → length room ≡ 32
+copied-long w v = copied w v .long
 
 -- the candidate of what is copied is that of the word
-pub candidate-copied : (w room work : List ℕ) (from n : ℕ) {c : ℕ} → Copied w room → c ≡ candidate room work from n → c ≡ candidate w work from n
-candidate-copied w room work from n v e = e ∙ candidate-alike room w work from n (v .same)
+pub candidate-copied : (w room work : List ℕ) (from n : ℕ) {c m : ℕ} → CopiesWord w (replicate 32 0) room m → c ≡ candidate room work from n → c ≡ candidate w work from n
+candidate-copied w room work from n v e = e ∙ candidate-alike room w work from n (copied w v .same)
 
 -- ## Two rooms beside each other
 
@@ -113,12 +75,14 @@ module _ {a b : List ℕ} {i : ℕ} (v : Comparing a b i) where
   compare-end h = record { below = v .below; apart = λ e k l. up-to e k (omega (arith, v .below)) }
 
 -- what holds of the rooms holds of the words in them
-pub words-part : (w v : List ℕ) {a b : List ℕ} {k : ℕ} → Copied w a → Copied v b → Differ a b k → Parts w v (record { at = k; byte = getD a k 0 })
+pub words-part : (w v : List ℕ) {a b : List ℕ} {k m n : ℕ} → CopiesWord w (replicate 32 0) a m → CopiesWord v (replicate 32 0) b n → Differ a b k → Parts w v (record { at = k; byte = getD a k 0 })
 words-part w v {a} {b} {k} c d h =
-    let own = c .same k (h .below) in
-    let other = d .same k (h .below) in
+    let one : Copied w a = copied w c in
+    let two : Copied v b = copied v d in
+    let own = one .same k (h .below) in
+    let other = two .same k (h .below) in
     record {
       below = h .below;
       byte = sym own;
-      apart = λ e j l. sym (c .same j l) ∙ h .apart (own ∙ e ∙ sym other) j l ∙ d .same j l;
+      apart = λ e j l. sym (one .same j l) ∙ h .apart (own ∙ e ∙ sym other) j l ∙ two .same j l;
     }

@@ -9,13 +9,14 @@ ghost use lib.ListN.{length, replicate};
 ghost use Rattle.text_lines.specs.Stream.{lineStart};
 ghost use Rattle.rules.specs.Text.{same, oneOf};
 ghost use Rattle.rules.specs.Conditionals.{isToggleByte, isToggle, isOn};
-ghost use Rattle.work_toggles.specs.Candidates.{decisionFor, takes, candidate, Copied, Parts, Differ};
+ghost use Rattle.work_toggles.specs.Candidates.{decisionFor, takes, candidate, Parts, Differ};
 ghost use Rattle.work_toggles.specs.Kept.{wordLeft, toggleAt, togglesIn, Kept, isDefined, storedAs, PlaceIs, Slot, ShapeIs, refusalFor, IsNew, Decides, MayTurn, Turned};
 use text_lines::IN_PLAIN;
 use text_lines::Signs;
 use text_lines::Spot;
 use text_specials::between;
 use text_tokens::WordStep;
+use text_tokens::copy_word;
 use text_tokens::word_byte;
 
 // Which of the toggles is meant, or none.
@@ -122,26 +123,6 @@ fn has_label(src: &[u8], g: Signs, v: u32, q: Spot) -> bool
 {
     let p = spot_of(v);
     same_word(src, g, q, p)
-}
-
-// The first 32 bytes of the word at a spot, put into room that is all zeros.
-fn copy_word(src: &[u8], g: Signs, p: Spot, room: &mut [u8])
-    requires { ⌜ (p .at ≤ length (now src)) × (now room ≡ replicate 32 0) ⌝ }
-    ensures { λ _. ⌜ Copied (wordLeft g (now (src .entry)) p) (now (room .exit)) ⌝ }
-{
-    let mut q = p;
-    let mut i: usize = 0;
-    while i < 32 {
-        let s = word_byte(src, g, q);
-        match s {
-            WordStep::Byte(b, r) => {
-                room[i] = b;
-                i += 1;
-                q = r;
-            }
-            WordStep::End => return,
-        }
-    }
 }
 
 // Whether a decision takes the word away from toggle c.

@@ -1,5 +1,5 @@
 -- `locale_skips::skip_copied` meets its contract: what was copied is the name.
-use Rattle.locale_skips.proofs.NameLaws.{name-count, name-some, name-is}
+use Rattle.locale_skips.proofs.NameLaws.{name-fits, name-count, name-some, name-is}
 use borrow.Author.Needs.{needs}
 use Rattle.locale_skips.proofs.skip_copied.Statement.{statement}
 use Rattle.locale_skips.proofs.skip_copied.Tie as tie
@@ -8,7 +8,7 @@ copy-word-requires : tie.Need-copy-word-requires
 copy-word-requires c κs = search needs
 
 slice-reshare-prefix-skip-named : tie.Need-slice-reshare-prefix-skip-named
-slice-reshare-prefix-skip-named c = search needs
+slice-reshare-prefix-skip-named c = search name-fits
 
 slice-aggregate-skip-named : tie.Need-slice-aggregate-skip-named
 slice-aggregate-skip-named c = search name-count

@@ -1,5 +1,5 @@
 -- `work_toggles::candidate_of` meets its contract: that of the word's first bytes.
-use Rattle.work_toggles.proofs.CopyLaws.{candidate-copied}
+use Rattle.work_toggles.proofs.CopyLaws.{copied-long, candidate-copied}
 use borrow.Author.Needs.{needs}
 use Rattle.work_toggles.proofs.candidate_of.Statement.{statement}
 use Rattle.work_toggles.proofs.candidate_of.Tie as tie
@@ -14,7 +14,7 @@ slice-aggregate-candidate-among : tie.Need-slice-aggregate-candidate-among
 slice-aggregate-candidate-among c = search needs
 
 candidate-among-requires : tie.Need-candidate-among-requires
-candidate-among-requires c κs = search needs
+candidate-among-requires c κs = search copied-long
 
 returns : tie.Need-returns
 returns c = search candidate-copied

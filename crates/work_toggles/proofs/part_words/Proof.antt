@@ -1,5 +1,5 @@
 -- `work_toggles::part_words` meets its contract: the rooms differ where the words do.
-use Rattle.work_toggles.proofs.CopyLaws.{words-part}
+use Rattle.work_toggles.proofs.CopyLaws.{copied-long, words-part}
 use borrow.Author.Needs.{needs}
 use Rattle.work_toggles.proofs.part_words.Statement.{statement}
 use Rattle.work_toggles.proofs.part_words.Tie as tie
@@ -23,7 +23,7 @@ slice-aggregate-first-difference-2 : tie.Need-slice-aggregate-first-difference-2
 slice-aggregate-first-difference-2 c = search needs
 
 first-difference-requires : tie.Need-first-difference-requires
-first-difference-requires c κs = search needs
+first-difference-requires c κs = (search copied-long, search copied-long)
 
 array-read-t19 : tie.Need-array-read-t19
 array-read-t19 c = search needs
