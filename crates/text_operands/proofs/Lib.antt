@@ -1,3 +1,4 @@
+pub mod EachLaws
 pub mod TidyLaws
 pub mod ListLaws
 pub mod BlankLaws
