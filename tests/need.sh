@@ -1,0 +1,37 @@
+# Sourced by scripts that start programs of Debian's packages. A script says what it needs; what is missing is named with its packages, and
+# the script ends with 2. Nothing is installed unless the script is started with `--install` before its other words.
+# shellcheck shell=bash
+
+install=() # --install, if the script was started with it
+missing=() # packages
+
+# take_install WORDS..: whether the first of a script's words is `--install`, which the script then drops.
+take_install() {
+    [ "${1:-}" = --install ] || return 1
+    install=(--install)
+}
+
+# need COMMAND PACKAGE..: notes a command that is missing, with the packages that have what is needed of it.
+need() {
+    command -v "$1" >/dev/null && return
+    echo "$0: $1 is missing. Debian's packages for it: ${*:2}" >&2
+    missing+=("${@:2}")
+}
+
+# Installs the packages noted.
+install_missing() {
+    local as_root=()
+    [ "$(id -u)" = 0 ] || as_root=(sudo)
+    "${as_root[@]}" apt-get update && "${as_root[@]}" apt-get install -y "${missing[@]}"
+}
+
+# have_needed: goes on where nothing noted is missing, or where it could be installed as asked.
+have_needed() {
+    [ "${#missing[@]}" -gt 0 ] || return 0
+    if [ "${#install[@]}" = 0 ]; then
+        echo "$0: install them, or start it again with --install, which has apt-get install them as root" >&2
+        exit 2
+    fi
+    install_missing >&2 || { echo "$0: they could not be installed" >&2; exit 2; }
+    missing=()
+}
