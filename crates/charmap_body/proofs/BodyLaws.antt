@@ -1,8 +1,8 @@
 -- What a line between CHARMAP and END CHARMAP does: an entry that is given or refused, or another line.
-use mathlib.Core.Path.{_≡_, refl, ap, _∙_, subst}
+use mathlib.Core.Path.{_≡_, refl, sym, ap, _∙_, subst}
 use mathlib.Core.Bool.{Bool, true, false}
 use mathlib.Core.List.{List, [], _∷_, _++_}
-use Prim.Native.Nat.{ℕ, _+_, _<_}
+use Prim.Native.Nat.{ℕ, _+_, _≤_, _<_}
 use native.Mathlib.Omega.{arith}
 use lib.ListN.{length, drop, length-drop}
 use lib.Dec.{eqb}
@@ -11,7 +11,10 @@ use Rattle.rules.specs.Text.{every, _unless_}
 use Rattle.rules.specs.Tokens.{isText, Token, tokensOf, isEntry}
 use Rattle.rules.specs.Lines.{Chars, Scan}
 use Rattle.rules.specs.Charmap.{Given, Mapping, MapOutcome, leaves, mapEnded, entryLine, bodyLine, mapLinesFrom}
+use Rattle.rules.proofs.TextLaws.{within-low, within-high}
 use Rattle.rules.proofs.RunLaws.{map-run-at, map-run-refused}
+use Rattle.base_units.specs.Numbers.{numberOf}
+use Rattle.base_units.specs.declared.Refusal.{Refusal}
 use Rattle.text_lines.specs.declared.Signs.{Signs}
 use Rattle.text_lines.specs.Stream.{lineLeft, lineStart}
 use Rattle.text_names.specs.Named.{nameLeft}
@@ -27,6 +30,7 @@ use Rattle.charmap_body.specs.Outcomes.{Holds, Area, entryRefusal, newOf
 use Rattle.charmap_body.specs.Plain.{LineTo, BlankLine, EndLine, BadLine, PlainIs}
 use Rattle.charmap_body.specs.Body.{charsOf, inBody, lineAt, outcomeAt, Spans, LineGoes, LineRefused, BodyIs, OtherIs}
 use Rattle.charmap_body.proofs.OutcomeLaws.{entry-refusal, entry-mapping}
+use Rattle.charmap_body.proofs.BoundLaws.{Bounded, bounded-names, bounded-entry}
 use Rattle.charmap_body.proofs.FirstLaws.{cons-some}
 
 -- ## A line that is no entry
@@ -61,9 +65,9 @@ module _ (g : Signs) (src : List ℕ) (at : ℕ) (e : lineAt g src at ≡ lineLe
           goes = λ c s gs h. record { given = gs; outcome = plainly (inBody (charsOf g c s) false gs) ∙ b .closes (inBody (charsOf g c s) false gs); holds = h };
         }
 
-    pub body-bad : (area : List ℕ) {n : ℕ} → k ≡ plain.Refused n → LineRefused g src at area area n
-    body-bad area {n} f =
-        let b : BadLine g src at n = subst (PlainIs g src at) f w in
+    pub body-bad : (area : List ℕ) {r : Refusal} → k ≡ plain.Refused r → LineRefused g src at area area (numberOf r)
+    body-bad area {r} f =
+        let b : BadLine g src at (numberOf r) = subst (PlainIs g src at) f w in
         record {
           refusal = λ c s gs h. ap (λ (o : MapOutcome). o .refusal) (plainly (inBody (charsOf g c s) false gs)) ∙ b .refusal (inBody (charsOf g c s) false gs);
           some = b .some;
@@ -122,12 +126,21 @@ module _ (g : Signs) (src : List ℕ) (at : ℕ) {p : Parts} {area after : List 
         };
   }
 
-  pub body-refused : Area area → (r ≡ 0 → ⊥) → LineRefused g src at area after r
-  body-refused a z = record {
-    refusal = λ c s gs h. outcome-refusal (charsOf g c s) gs ∙ w gs h .same;
-    some = omega arith;
-    untouched = w (a .given) (a .holds) .untouched z;
-  }
+  module _ (a : Area area) (z : r ≡ 0 → ⊥) where
+    pub body-bounds : (2 ≤ r) × (r ≤ 10)
+    body-bounds =
+        let first = nameLeft g src (p .first) in
+        let last = nameLeft g src (p .last) in
+        let names = subst Bounded names-told (bounded-names first last) in
+        let b = subst Bounded (w (a .given) (a .holds) .same) (bounded-entry (p .text) (p .refusal) first last (p .byte) (a .given) names) z in
+        (within-low 2 10 r b, within-high 2 10 r b)
+
+    pub body-refused : {n : ℕ} → n ≡ r → LineRefused g src at area after n
+    body-refused e = record {
+      refusal = λ c s gs h. outcome-refusal (charsOf g c s) gs ∙ w gs h .same ∙ sym e;
+      some = omega arith;
+      untouched = w (a .given) (a .holds) .untouched z;
+    }
 
 -- ## Which of the two it is
 

@@ -1,4 +1,5 @@
 pub mod OutcomeLaws
 pub mod FirstLaws
 pub mod PlainLaws
+mod BoundLaws
 pub mod BodyLaws

@@ -7,6 +7,7 @@ use lib.ListN.{length, drop}
 use Rattle.rules.specs.Lines as paper
 use Rattle.rules.specs.Lines.{Scan, lineOf}
 use Rattle.rules.specs.Charmap.{Given, Mapping, MapOutcome, leaves, bodyLine, mapSigns}
+use Rattle.base_units.specs.Numbers.{numberOf}
 use Rattle.text_lines.specs.declared.Signs.{Signs}
 use Rattle.charmap_body.specs.declared.BodyLine.{BodyLine}
 use Rattle.charmap_body.specs.declared.BodyLine.the-variants as body
@@ -60,7 +61,7 @@ pub record LineRefused (g : Signs) (src : List ℕ) (at : ℕ) (area after : Lis
 
 abbrev pub BodyIs : Signs → List ℕ → ℕ → List ℕ → List ℕ → BodyLine → Type 0
 BodyIs g src at area after (body.Line closed next feeds) = LineGoes g src at area after closed next feeds
-BodyIs g src at area after (body.Refused n) = LineRefused g src at area after n
+BodyIs g src at area after (body.Refused r) = LineRefused g src at area after (numberOf r)
 
 -- one that leaves every area as it is
 abbrev pub OtherIs : Signs → List ℕ → ℕ → BodyLine → Type 0

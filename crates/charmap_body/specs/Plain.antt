@@ -8,6 +8,7 @@ use lib.Dec.{eqb}
 use Rattle.rules.specs.Text.{bytes, same}
 use Rattle.rules.specs.Tokens.{word, Token, tokenAt, single, operands}
 use Rattle.rules.specs.Charmap.{Mapping, leaves, bodyLine}
+use Rattle.base_units.specs.Numbers.{numberOf}
 use Rattle.text_lines.specs.declared.Signs.{Signs}
 use Rattle.text_lines.specs.Stream.{lineLeft, marksLeft, endOf, lineStart}
 use Rattle.charmap_body.specs.declared.Kind.{Kind}
@@ -65,4 +66,4 @@ pub record BadLine (g : Signs) (src : List ℕ) (at n : ℕ) : Type 0 where
 abbrev pub PlainIs : Signs → List ℕ → ℕ → PlainLine → Type 0
 PlainIs g src at (plain.Blank next feeds) = BlankLine g src at next feeds
 PlainIs g src at (plain.End next feeds) = EndLine g src at next feeds
-PlainIs g src at (plain.Refused n) = BadLine g src at n
+PlainIs g src at (plain.Refused r) = BadLine g src at (numberOf r)

@@ -14,7 +14,9 @@ ghost use Rattle.charmap_body.specs.Outcomes.{Area, CharIs, CodesAre, Ra
 ghost use Rattle.charmap_body.specs.Body.{BodyIs, OtherIs};
 ghost use Rattle.charmap_body.specs.Plain.{soleWord, isEndLine, KindIs, PlainIs};
 use base_units::CodePoint;
+use base_units::Refusal;
 use base_units::is_character;
+use base_units::refusal_of;
 use charmap_entry::Entry;
 use charmap_entry::Parts;
 use charmap_entry::entry_at;
@@ -41,7 +43,7 @@ pub enum Codes {
     Other,
 }
 
-// What an entry gives: its first byte, the code of that, and how many bytes and codes in a row; or its refusal.
+// What an entry gives: its first byte, the code of that, and how many bytes and codes in a row; or its refusal's number, as the lowest of several is sought.
 pub enum Outcome {
     Gives(usize, CodePoint, usize),
     Refused(u8),
@@ -58,13 +60,13 @@ pub enum Kind {
 pub enum PlainLine {
     Blank(usize, usize),
     End(usize, usize),
-    Refused(u8),
+    Refused(Refusal),
 }
 
 // What a line does: whether it closes the charmap, the place after it, and its LFs; or its refusal.
 pub enum BodyLine {
     Line(bool, usize, usize),
-    Refused(u8),
+    Refused(Refusal),
 }
 
 // The code of a name that is a character's.
@@ -289,13 +291,13 @@ fn plain_line(src: &[u8], g: Signs, at: usize) -> PlainLine
             if e.text {
                 return PlainLine::End(e.next, e.feeds);
             }
-            return PlainLine::Refused(2);
+            return PlainLine::Refused(Refusal::BadByte);
         }
         Kind::Other => {
             if e.text {
-                return PlainLine::Refused(3);
+                return PlainLine::Refused(Refusal::Malformed);
             }
-            return PlainLine::Refused(2);
+            return PlainLine::Refused(Refusal::BadByte);
         }
     }
 }
@@ -309,7 +311,7 @@ fn other_line(src: &[u8], g: Signs, at: usize) -> BodyLine
     match s {
         PlainLine::Blank(next, feeds) => return BodyLine::Line(false, next, feeds),
         PlainLine::End(next, feeds) => return BodyLine::Line(true, next, feeds),
-        PlainLine::Refused(n) => return BodyLine::Refused(n),
+        PlainLine::Refused(r) => return BodyLine::Refused(r),
     }
 }
 
@@ -322,7 +324,7 @@ fn entry_line(src: &[u8], g: Signs, at: usize, p: Parts, area: &mut [u32]) -> Bo
     if n == 0 {
         return BodyLine::Line(false, p.next, p.feeds);
     }
-    BodyLine::Refused(n)
+    BodyLine::Refused(refusal_of(n))
 }
 
 // What a line between CHARMAP and END CHARMAP does, from its first place on.

@@ -9,6 +9,7 @@ use Rattle.rules.specs.Names.{isBlank}
 use Rattle.rules.specs.Tokens.{isText, name, Token, token, tokenAt, noPart, tokensFrom, tokensOf, operands}
 use Rattle.rules.specs.Lines.{inPlain, Scan, lineOf}
 use Rattle.rules.specs.Charmap.{Mapping, MapOutcome, leaves, isHeader, isWord, headerLine, mapSigns}
+use Rattle.base_units.specs.Numbers.{numberOf}
 use Rattle.text_lines.specs.declared.Signs.{Signs}
 use Rattle.text_lines.specs.declared.Spot.{Spot}
 use Rattle.text_lines.specs.Stream.{lineLeft, lineStart, marksLeft, Run, MarkIs}
@@ -55,7 +56,7 @@ pub record Stops (src : List ℕ) (h : Chars) (at n : ℕ) : Type 0 where
 
 abbrev pub HeadingIs : List ℕ → Chars → ℕ → Heading → Type 0
 HeadingIs src h at (Line c opened next feeds) = Leaves src h at c opened next feeds
-HeadingIs src h at (Refused n) = Stops src h at n
+HeadingIs src h at (Refused r) = Stops src h at (numberOf r)
 
 -- ## Lines in which no byte is taken as it stands
 

@@ -11,6 +11,7 @@ ghost use Rattle.text_tokens.specs.Left.{tokensLeft};
 ghost use Rattle.text_names.specs.Named.{nameLeft};
 ghost use Rattle.text_as_is.specs.Signed.{Visible, WordIs};
 ghost use Rattle.charmap_header.specs.Head.{signsOf, HeadingIs, isOpening, PassedOver, Malformed, Opening, NameOpens, SignNamed, SignOpened, SetBy};
+use base_units::Refusal;
 use text_as_is::Found;
 use text_as_is::Keyword;
 use text_as_is::after_blanks;
@@ -35,7 +36,7 @@ use text_tokens::word_is;
 // A header line: the two characters after it, whether it is CHARMAP, the place after it and how many LFs it has; or its refusal.
 pub enum Heading {
     Line(Chars, bool, usize, usize),
-    Refused(u8),
+    Refused(Refusal),
 }
 
 // The two characters, for the reader of lines.
@@ -107,9 +108,9 @@ fn malformed(src: &[u8], h: Chars, at: usize) -> Heading
 {
     let e = line_at(src, signs_of(h), at);
     if e.text {
-        return Heading::Refused(3);
+        return Heading::Refused(Refusal::Malformed);
     }
-    Heading::Refused(2)
+    Heading::Refused(Refusal::BadByte)
 }
 
 // A line that does not begin with `<`.
@@ -122,9 +123,9 @@ fn opening_line(src: &[u8], h: Chars, at: usize, q: Spot) -> Heading
         if is_opening(src, signs_of(h), q) {
             return Heading::Line(h, true, e.next, e.feeds);
         }
-        return Heading::Refused(3);
+        return Heading::Refused(Refusal::Malformed);
     }
-    Heading::Refused(2)
+    Heading::Refused(Refusal::BadByte)
 }
 
 // Whether the byte that is taken as it stands, and the rest of its line, are text.
@@ -148,11 +149,11 @@ fn set_line(src: &[u8], h: Chars, at: usize, comment: bool, c: u8, k: usize, res
             if may_set(h, comment, c) {
                 return Heading::Line(with_set(h, comment, c), false, e.next, k + e.feeds);
             }
-            return Heading::Refused(3);
+            return Heading::Refused(Refusal::Malformed);
         }
-        return Heading::Refused(3);
+        return Heading::Refused(Refusal::Malformed);
     }
-    Heading::Refused(2)
+    Heading::Refused(Refusal::BadByte)
 }
 
 // From the spot after the name and one blank on.

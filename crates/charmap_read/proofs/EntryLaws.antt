@@ -17,15 +17,14 @@ use Rattle.charmap_header.specs.Head.{signsOf}
 use Rattle.charmap_body.specs.declared.BodyLine.{BodyLine}
 use Rattle.charmap_body.specs.declared.BodyLine.the-variants as body
 use Rattle.charmap_body.specs.Outcomes.{Holds}
-use Rattle.charmap_body.specs.Body.{lineAt, LineGoes, LineRefused, BodyIs}
+use Rattle.charmap_body.specs.Body.{LineGoes, LineRefused, BodyIs}
 use Rattle.charmap_body.proofs.BodyLaws.{body-run, body-run-refused}
 use Rattle.charmap_read.specs.declared.Header.{Header}
 use Rattle.charmap_read.specs.declared.Header.the-variants as header
 use Rattle.charmap_read.specs.declared.Entries.{Entries}
 use Rattle.charmap_read.specs.declared.Entries.the-variants as entries
 use Rattle.charmap_read.specs.declared.BodyRead.{BodyRead}
-use Rattle.charmap_read.specs.Read.{OfLine, wholeRun, bodyRun, Opened, HeaderIs, Opens, Closes, RunIs, EntriesAre, bodyState, Reads, BodyStands, bodyReading}
-use Rattle.charmap_read.proofs.KindLaws.{Kind, body-kind, of-line}
+use Rattle.charmap_read.specs.Read.{wholeRun, bodyRun, Opened, HeaderIs, Opens, Closes, RunIs, EntriesAre, bodyState, Reads, BodyStands, bodyReading}
 
 reads-start : {src : List ℕ} {h : Chars} {from first : ℕ} {area : List ℕ} → Opens src from first area → Reads src h from first area from first
 reads-start o = record { given = []; holds = record { same = o .none; kept = kept-none }; same = refl; to = o .to; few = o .few }
@@ -72,21 +71,10 @@ module _ {src : List ℕ} {h : Chars} {from first : ℕ} {area : List ℕ} {at n
         holds = new-held .same;
       }
 
-    module _ {n : ℕ} (e : s ≡ body.Refused n) where
-      stops : LineRefused (signsOf h) src at area after n
-      stops = subst (BodyIs (signsOf h) src at area after) e w
-
-      pub reads-kind : OfLine n
-      reads-kind =
-          of-line n
-          (subst Kind (stops .refusal (h .commented) (h .escaped) (v .given) (v .holds)) (body-kind (bodyState h false (v .given)) (lineAt (signsOf h) src at .marks)))
-          (λ z. let p = stops .some in omega arith)
-
-      reads-refused : {k : ℕ} → k ≡ n → bodyRun src h from first ≡ mapEnded k number []
-      reads-refused {k} f =
-          v .same
-          ∙ body-run-refused (signsOf h) src at area after in-source (h .commented) (h .escaped) (v .given) (v .holds) number stops
-          ∙ ap (λ (x : ℕ). mapEnded x number []) (sym f)
+    reads-refused : {r : Refusal} → s ≡ body.Refused r → bodyRun src h from first ≡ mapEnded (numberOf r) number []
+    reads-refused {r} e =
+        let stops : LineRefused (signsOf h) src at area after (numberOf r) = subst (BodyIs (signsOf h) src at area after) e w in
+        v .same ∙ body-run-refused (signsOf h) src at area after in-source (h .commented) (h .escaped) (v .given) (v .holds) number stops
 
 -- ## The reading of the body
 
@@ -111,13 +99,13 @@ reading-used {src} {s} {t} v h =
 
 -- what the line at a place does to it
 module _ {src : List ℕ} {t : BodyRead} {area : List ℕ} {at number : ℕ} (h : at < length src) {after : List ℕ} {k : BodyLine} (w : BodyIs (signsOf (t .chars)) src at area after k) where
-  pub reading-refused : {n : ℕ} {r : Refusal} → k ≡ body.Refused n → numberOf r ≡ n
+  pub reading-refused : {r : Refusal} → k ≡ body.Refused r
       → Turns bodyReading src (t, area) at number (record { over = true; next = at; number = number; answer = entries.Refused r number; chars = t .chars }, after)
-  reading-refused {n} {r} e f =
+  reading-refused {r} e =
       record {
         further = λ g. absurd (true≢false g);
         goes = λ g. absurd (true≢false g);
-        stops = λ g s v. answer-at src (s .0) t after (entries.Refused r number) (v .chars) (reads-refused (v .read) h after w e f);
+        stops = λ g s v. answer-at src (s .0) t after (entries.Refused r number) (v .chars) (reads-refused (v .read) h after w e);
       }
 
   module _ {closed : Bool} {next feeds : ℕ} (e : k ≡ body.Line closed next feeds) where

@@ -20,8 +20,7 @@ use Rattle.charmap_header.specs.declared.Heading.the-variants as heading
 use Rattle.charmap_header.specs.Head.{headWith, lineAt, Leaves, Stops, HeadingIs}
 use Rattle.charmap_read.specs.declared.Header.the-variants as header
 use Rattle.charmap_read.specs.declared.HeaderRead.{HeaderRead}
-use Rattle.charmap_read.specs.Read.{OfLine, wholeRun, Opened, HeaderIs, Heads, HeaderStands, headerReading}
-use Rattle.charmap_read.proofs.KindLaws.{Kind, header-kind, of-line}
+use Rattle.charmap_read.specs.Read.{wholeRun, Opened, HeaderIs, Heads, HeaderStands, headerReading}
 
 abbrev withChars : paper.Chars → Mapping
 withChars c = record { chars = c; opened = false; closed = false; given = [] }
@@ -76,18 +75,12 @@ module _ {src : List ℕ} {h : Chars} {at number : ℕ} (v : Heads src h at numb
           few = counted;
         }
 
-      module _ {n : ℕ} (e : s ≡ heading.Refused n) where
-        stops : Stops src h at n
-        stops = subst (HeadingIs src h at) e w
-
-        pub heads-kind : OfLine n
-        heads-kind = of-line n (subst Kind (stops .refusal) (header-kind (headWith h false) (lineAt src h at .marks))) (stops .some)
-
-        heads-refused : {k : ℕ} → k ≡ n → wholeRun src ≡ mapEnded k number []
-        heads-refused {k} f =
-            v .same
-            ∙ map-run-refused (headWith h false) number (drop at src) some-left refl (λ z. stops .some (sym (stops .refusal) ∙ z))
-            ∙ ap (λ (x : ℕ). mapEnded x number []) (stops .refusal ∙ sym f)
+      heads-refused : {r : Refusal} → s ≡ heading.Refused r → wholeRun src ≡ mapEnded (numberOf r) number []
+      heads-refused {r} e =
+          let stops : Stops src h at (numberOf r) = subst (HeadingIs src h at) e w in
+          v .same
+          ∙ map-run-refused (headWith h false) number (drop at src) some-left refl (λ z. stops .some (sym (stops .refusal) ∙ z))
+          ∙ ap (λ (x : ℕ). mapEnded x number []) (stops .refusal)
 
 -- ## The reading of the header
 
@@ -103,10 +96,10 @@ reading-used {src} v h = subst (HeaderIs src) (sym (v .answer)) (heads-end (v .r
 
 -- what the line at a place does to it
 module _ {src : List ℕ} {t : HeaderRead} {at number : ℕ} (h : at < length src) {k : Heading} (w : HeadingIs src (t .chars) at k) where
-  pub reading-refused : {n : ℕ} {r : Refusal} → k ≡ heading.Refused n → numberOf r ≡ n
+  pub reading-refused : {r : Refusal} → k ≡ heading.Refused r
       → Turns headerReading src t at number (record { over = true; next = at; number = number; answer = header.Refused r number; chars = t .chars })
-  reading-refused e f =
-      record { further = λ g. absurd (true≢false g); goes = λ g. absurd (true≢false g); stops = λ g s v. heads-refused (v .read) h w e f }
+  reading-refused e =
+      record { further = λ g. absurd (true≢false g); goes = λ g. absurd (true≢false g); stops = λ g s v. heads-refused (v .read) h w e }
 
   module _ {c : Chars} {opened : Bool} {next feeds : ℕ} (e : k ≡ heading.Line c opened next feeds) where
     pub reading-opened : opened ≡ true

@@ -1,4 +1,3 @@
-pub mod KindLaws
 pub mod HeaderLaws
 pub mod EntryLaws
 pub mod EmptyLaws

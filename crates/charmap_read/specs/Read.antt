@@ -1,11 +1,9 @@
 -- The run over a charmap's lines, as far as its functions read it (Rattle.rules.specs.Charmap). No public contract cites this file.
 use mathlib.Core.Path.{_≡_}
 use mathlib.Core.Bool.{Bool, true, false}
-use mathlib.Core.List.{List, [], _∷_}
+use mathlib.Core.List.{List, []}
 use Prim.Native.Nat.{ℕ, suc, _≤_}
 use lib.ListN.{length, drop}
-use lib.Dec.{eqb}
-use Rattle.rules.specs.Text.{oneOf}
 use Rattle.rules.specs.Charmap.{Given, Mapping, MapEnded, mapEnded, mapStart, mapLinesFrom, areaOf}
 use Rattle.base_units.specs.Numbers.{numberOf}
 use Rattle.base_units.specs.declared.Refusal.the-variants as refusal
@@ -21,10 +19,6 @@ use Rattle.charmap_read.specs.declared.HeaderRead.{HeaderRead}
 use Rattle.charmap_read.specs.declared.Entries.{Entries}
 use Rattle.charmap_read.specs.declared.Entries.the-variants as entries
 use Rattle.charmap_read.specs.declared.BodyRead.{BodyRead}
-
--- a refusal that a charmap's line can have
-abbrev pub OfLine : ℕ → Type 0
-OfLine n = oneOf (eqb n) (2 ∷ 3 ∷ 6 ∷ 7 ∷ 10 ∷ []) ≡ true
 
 -- the run over all lines
 abbrev pub wholeRun : List ℕ → MapEnded

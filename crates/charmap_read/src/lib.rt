@@ -5,10 +5,9 @@ ghost use Prim.Native.Nat.{_≤_};
 ghost use lib.ListN.{length, replicate};
 ghost use Rattle.rules.specs.Charmap.{areaOf};
 ghost use Rattle.rules.specs.Calls.{charmapCall};
-ghost use Rattle.base_units.specs.Numbers.{numberOf};
 ghost use Rattle.charmap_read.specs.Answers.{readAs};
 ghost use Rattle.text_reader.specs.Turns.{AtLine, Turns};
-ghost use Rattle.charmap_read.specs.Read.{OfLine, HeaderIs, HeaderStands, headerReading, Opens, EntriesAre, BodyStands, bodyReading, SourceIs};
+ghost use Rattle.charmap_read.specs.Read.{HeaderIs, HeaderStands, headerReading, Opens, EntriesAre, BodyStands, bodyReading, SourceIs};
 use base_units::Refusal;
 use charmap_body::BodyLine;
 use charmap_body::body_line;
@@ -39,26 +38,6 @@ pub enum Entries {
     Refused(Refusal, usize),
 }
 
-// The refusal of a line, by its number.
-fn refusal_of(n: u8) -> Refusal
-    requires { ⌜ OfLine n ⌝ }
-    ensures { λ r. ⌜ numberOf r ≡ n ⌝ }
-{
-    if n == 2 {
-        return Refusal::BadByte;
-    }
-    if n == 3 {
-        return Refusal::Malformed;
-    }
-    if n == 6 {
-        return Refusal::Unknown;
-    }
-    if n == 7 {
-        return Refusal::TooMany;
-    }
-    Refusal::ByteTwice
-}
-
 // How far the header is read. As in every state of a loop that holds a reader (crates/text_reader), the first three fields are whether the loop is over,
 // and the place and the number of the line that comes next.
 struct HeaderRead {
@@ -79,8 +58,7 @@ fn header_turn(src: &[u8], s: HeaderRead, at: usize, number: usize) -> HeaderRea
     let h = s.chars;
     let t = header_line(src, h, at);
     match t {
-        Heading::Refused(n) => {
-            let r = refusal_of(n);
+        Heading::Refused(r) => {
             return HeaderRead {
                 over: true,
                 next: at,
@@ -169,8 +147,7 @@ fn body_turn(src: &[u8], s: BodyRead, at: usize, number: usize, area: &mut [u32]
     };
     let t = body_line(src, g, at, area);
     match t {
-        BodyLine::Refused(n) => {
-            let r = refusal_of(n);
+        BodyLine::Refused(r) => {
             return BodyRead {
                 over: true,
                 next: at,

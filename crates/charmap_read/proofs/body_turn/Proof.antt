@@ -1,5 +1,5 @@
 -- `charmap_read::body_turn` meets its contract: what each kind of line does to the reading.
-use Rattle.charmap_read.proofs.EntryLaws.{reads-kind, reads-fits, reading-refused, reading-closed, reading-more}
+use Rattle.charmap_read.proofs.EntryLaws.{reads-fits, reading-refused, reading-closed, reading-more}
 use borrow.Author.Needs.{needs}
 use Rattle.charmap_read.proofs.body_turn.Statement.{statement}
 use Rattle.charmap_read.proofs.body_turn.Tie as tie
@@ -9,9 +9,6 @@ body-line-requires c κs = search needs
 
 enum-known-t : tie.Need-enum-known-t
 enum-known-t c = search needs
-
-refusal-of-requires : tie.Need-refusal-of-requires
-refusal-of-requires c κs = search reads-kind
 
 same-length : tie.Need-same-length
 same-length c = search needs
@@ -43,7 +40,6 @@ body-turn-spec =
     (tie.spec
     body-line-requires
     enum-known-t
-    refusal-of-requires
     same-length
     returns
     enum-known-t-2

@@ -1,5 +1,5 @@
 -- `charmap_read::header_turn` meets its contract: what each kind of line does to the reading.
-use Rattle.charmap_read.proofs.HeaderLaws.{heads-kind, heads-fits, reading-refused, reading-opened, reading-more}
+use Rattle.charmap_read.proofs.HeaderLaws.{heads-fits, reading-refused, reading-opened, reading-more}
 use borrow.Author.Needs.{needs}
 use Rattle.charmap_read.proofs.header_turn.Statement.{statement}
 use Rattle.charmap_read.proofs.header_turn.Tie as tie
@@ -9,9 +9,6 @@ header-line-requires c κs = search needs
 
 enum-known-t : tie.Need-enum-known-t
 enum-known-t c = search needs
-
-refusal-of-requires : tie.Need-refusal-of-requires
-refusal-of-requires c κs = search heads-kind
 
 returns : tie.Need-returns
 returns c = search reading-refused
@@ -29,4 +26,4 @@ returns-3 : tie.Need-returns-3
 returns-3 c = search reading-more
 
 pub header-turn-spec : {M : Type 1} → statement M
-header-turn-spec = tie.close (tie.spec header-line-requires enum-known-t refusal-of-requires returns enum-known-t-2 add-m returns-2 returns-3)
+header-turn-spec = tie.close (tie.spec header-line-requires enum-known-t returns enum-known-t-2 add-m returns-2 returns-3)
