@@ -1,4 +1,4 @@
-/* Measures the product beside its peers and prints the tables: bench FOLDER TABLES LOCALEDEF..
+/* Measures the product beside its peers and prints the tables, the summary first: bench FOLDER TABLES LOCALEDEF..
  *
  * FOLDER is where sources and locales are kept; TABLES is one word that names the tables, with blanks between them, all if it is empty; the
  * other words are the command that runs localedef. All systems of a row take turns in one run, and the least time of each counts, in
@@ -16,10 +16,9 @@
 #include <time.h>
 #include <unistd.h>
 #include <wchar.h>
-#ifdef WITH_ICU
+
 #include <unicode/ucol.h>
 #include <unicode/ustring.h>
-#endif
 
 #include "bench.h"
 #include "zeharmeku.h"
@@ -102,9 +101,7 @@ static void measure(struct timing *timings, int count, int pairs)
 static uint32_t *table;
 static size_t table_count;
 static locale_t locale;
-#ifdef WITH_ICU
 static UCollator *collator;
-#endif
 
 enum { KEY_ROOM = 1060880 };
 static _Alignas(8) uint8_t key_room[4 * KEY_ROOM];
@@ -177,7 +174,6 @@ static long byte_key(int k)
     return (long)strxfrm_l((char *)key_room, first_strings[k].utf8, KEY_ROOM, locale);
 }
 
-#ifdef WITH_ICU
 static long icu_compare(int k)
 {
     const struct string *a = &first_strings[k], *b = &second_strings[k];
@@ -218,13 +214,6 @@ static void icu_primary(void)
 {
     ucol_setStrength(collator, UCOL_PRIMARY);
 }
-#else
-static const call icu_compare = NULL, icu_key = NULL, icu_directory = NULL;
-
-static void icu_primary(void)
-{
-}
-#endif
 
 /* ---- Compiling ---- */
 
@@ -252,7 +241,6 @@ static long product_charmap(int k)
     return (long)area[0];
 }
 
-#ifdef WITH_ICU
 static UCollator *icu_open(const struct source *source)
 {
     static UChar rules[1 << 20];
@@ -272,9 +260,6 @@ static long icu_compile(int k)
     ucol_close(icu_open(compiled));
     return 0;
 }
-#else
-static const call icu_compile = NULL;
-#endif
 
 /* Runs localedef on FOLDER/NAME.src with a charmap: the processor time that it took, or -1 where it failed. */
 static double run_localedef(const char *name, const char *charmap)
@@ -326,37 +311,160 @@ static void take_order(const struct source *source)
     locale = newlocale(LC_ALL_MASK, source->name, NULL);
     if (locale == NULL)
         fail("no locale", source->name);
-#ifdef WITH_ICU
     if (collator != NULL)
         ucol_close(collator);
     collator = icu_open(source);
-#endif
+}
+
+/* ---- What the systems take ---- */
+
+/* Nanoseconds for one call of each system, 0 where it has none; `check` is the check within ours, `pass` a plain pass over the table. */
+struct times {
+    double ours, check, localedef, wide, bytes, icu, pass;
+};
+
+static struct times check_times(void)
+{
+    struct timing timings[] = {{.call = plain_pass}, {.call = product_check}};
+    measure(timings, 2, 1);
+    return (struct times){.pass = timings[0].best, .ours = timings[1].best};
+}
+
+static int sign(long x)
+{
+    return (x > 0) - (x < 0);
+}
+
+/* All systems order each pair alike, or the row would say nothing. glibc calls strings equal that differ in ignorable characters alone. */
+static void same_order(int pairs)
+{
+    static const call peers[] = {wide_compare, byte_compare, icu_compare};
+    for (int k = 0; k < pairs; k++) {
+        int ours = sign(product_compare(k));
+        for (size_t s = 0; s < sizeof peers / sizeof *peers; s++) {
+            int theirs = sign(peers[s](k));
+            if (theirs != ours && theirs != 0)
+                fail("a pair is ordered otherwise", "the row after the last one printed");
+        }
+    }
+}
+
+/* The times of calls that glibc and ICU have too. */
+static struct times string_times(call wide, call bytes, call icu, call ours, int pairs)
+{
+    struct timing timings[] = {{.call = wide}, {.call = bytes}, {.call = icu}, {.call = product_check}, {.call = ours}};
+    measure(timings, 5, pairs);
+    return (struct times){.wide = timings[0].best, .bytes = timings[1].best, .icu = timings[2].best, .check = timings[3].best,
+                          .ours = timings[4].best};
+}
+
+static struct times compare_times(int pairs)
+{
+    same_order(pairs);
+    return string_times(wide_compare, byte_compare, icu_compare, product_compare, pairs);
+}
+
+static struct times key_times(int pairs)
+{
+    return string_times(wide_key, byte_key, icu_key, product_key, pairs);
+}
+
+/* Both systems put each topic under the same heading, or the row would say nothing. */
+static void same_headings(void)
+{
+    product_directory(0);
+    icu_directory(0);
+    if (memcmp(our_list, icu_list, (size_t)page.topics * sizeof *our_list) != 0)
+        fail("a topic stands under another heading", "the row after the last one printed");
+}
+
+static struct times directory_times(void)
+{
+    struct timing timings[] = {{.call = icu_directory}, {.call = product_check}, {.call = product_directory}};
+    same_headings();
+    measure(timings, 3, 1);
+    return (struct times){.icu = timings[0].best, .check = timings[1].best, .ours = timings[2].best};
+}
+
+/* The least time of localedef on a source, less that on the smallest with the same charmap; 0 where it refuses. */
+static double localedef_net(const struct source *source)
+{
+    enum { RUNS = 60 };
+    const double enough = 1.5e9;
+    double best = 1e18, least = 1e18, all = 0;
+    write_source(folder, source);
+    for (int k = 0; k < RUNS && all < enough; k++) {
+        double start = run_localedef("small", source->name), took = run_localedef(source->name, source->name);
+        if (start < 0 || took < 0)
+            return 0;
+        least = start < least ? start : least;
+        best = took < best ? took : best;
+        all += start + took;
+    }
+    return best - least;
+}
+
+static struct times compile_times(const struct source *source, int has_peer)
+{
+    compiled = source;
+    struct timing timings[] = {{.call = product_compile}, {.call = source->rules.count > 0 ? icu_compile : NULL}};
+    measure(timings, 2, 1);
+    return (struct times){.ours = timings[0].best, .icu = timings[1].best, .localedef = has_peer ? localedef_net(source) : 0};
 }
 
 /* ---- Tables of figures ---- */
 
-/* A whole number as a cell, thousands apart. */
-static void whole_cell(double x)
+enum { CELL = 64 };
+
+/* A whole number, thousands apart. */
+static void write_whole(char text[CELL], double x)
 {
     char digits[32];
     int count = snprintf(digits, sizeof digits, "%.0f", x);
-    printf(" ");
-    for (int k = 0; k < count; k++)
-        printf(k > 0 && (count - k) % 3 == 0 ? ",%c" : "%c", digits[k]);
-    printf(" |");
+    for (int k = 0; k < count; k++) {
+        if (k > 0 && (count - k) % 3 == 0)
+            *text++ = ',';
+        *text++ = digits[k];
+    }
+    *text = 0;
 }
 
-/* A figure as a cell: three digits, or a whole number; what is not measured is a dash. */
-static void cell(double x)
+/* A figure: three digits, or a whole number; what is not measured is a dash. */
+static void write_figure(char text[CELL], double x)
 {
     if (x <= 0)
-        printf(" - |");
+        snprintf(text, CELL, "-");
     else if (x < 9.995)
-        printf(" %.2f |", x);
+        snprintf(text, CELL, "%.2f", x);
     else if (x < 99.95)
-        printf(" %.1f |", x);
+        snprintf(text, CELL, "%.1f", x);
     else
-        whole_cell(x);
+        write_whole(text, x);
+}
+
+static void whole_cell(double x)
+{
+    char text[CELL];
+    write_whole(text, x);
+    printf(" %s |", text);
+}
+
+static void padded_cell(int width, double x)
+{
+    char text[CELL];
+    write_figure(text, x);
+    printf(" %*s |", width, text);
+}
+
+static void cell(double x)
+{
+    padded_cell(0, x);
+}
+
+static void end_row(void)
+{
+    printf("\n");
+    fflush(stdout);
 }
 
 /* The product's time, the check's part of it, what is left, and how often that takes what peers take. What is left says nothing where it is
@@ -379,55 +487,111 @@ enum { SIZES = 4, LENGTHS = 4 };
 static struct source forward_tables[SIZES], backward_table;
 static struct line lines[MOST_LINES];
 
+/* ---- The summary ---- */
+
+struct unit {
+    const char *name;
+    double nanoseconds;
+};
+
+static const struct unit nanoseconds = {"ns", 1}, microseconds = {"us", 1e3}, milliseconds = {"ms", 1e6};
+
+/* Our whole time and each peer's in this unit, and ours beside the least of theirs. The summary is read as it is printed, so each column has
+ * one width. */
+static void summary_row(const char *operation, const char *size, struct unit unit, struct times times)
+{
+    static const int widths[] = {8, 9, 10, 11, 8, 10};
+    const double figures[] = {times.ours, times.localedef, times.wide, times.bytes, times.icu, times.pass};
+    double best = 1e18;
+    printf("| %-14s | %-16s | %-4s |", operation, size, unit.name);
+    for (size_t k = 0; k < sizeof figures / sizeof *figures; k++) {
+        padded_cell(widths[k], figures[k] / unit.nanoseconds);
+        if (k > 0 && figures[k] > 0 && figures[k] < best)
+            best = figures[k];
+    }
+    padded_cell(6, times.ours / best);
+    end_row();
+}
+
+static void summary_compile(const char *size, const struct source *source)
+{
+    summary_row("compile", size, milliseconds, compile_times(source, 1));
+}
+
+static void summary_check(const char *size, const struct source *source)
+{
+    take_order(source);
+    summary_row("check", size, microseconds, check_times());
+}
+
+/* Comparisons or keys by the order at hand, which is of 100 lines. */
+static void summary_strings(const char *operation, struct times (*times_of)(int pairs), enum difference difference)
+{
+    static const int few[] = {8, 64, 4096};
+    static const char *const names[] = {"8 characters", "64 characters", "4,096 characters"};
+    int count = table_lines(lines, sizes[0], RISING);
+    for (int n = 0; n < 3; n++)
+        summary_row(operation, names[n], nanoseconds, times_of(make_pairs(difference, few[n], lines, count, 0)));
+}
+
+static void summary_directory(const char *size, int s)
+{
+    take_order(&forward_tables[s]);
+    icu_primary();
+    make_page(26, MOST_PARTS, 8, ALL, lines, table_lines(lines, sizes[s], RISING));
+    summary_row("directory", size, microseconds, directory_times());
+}
+
+static void summary_table(void)
+{
+    printf("## Summary\n\n"
+           "The time of one call. Ours is whole: every call checks its table. localedef's is without its start. Strings are of ASCII letters\n"
+           "and go by a table of 100 lines; of two that are compared, the last or the first letter differs. A directory has 26 headings and\n"
+           "1,000 topics of 8 letters; ICU halves over the headings. The ratio is of our time to the best peer's.\n\n"
+           "| operation      | size             | unit |     ours | localedef | glibc wide | glibc bytes |      ICU | plain pass |  ratio |\n"
+           "|----------------|------------------|------|---------:|----------:|-----------:|------------:|---------:|-----------:|-------:|\n");
+    summary_compile("100 lines", &forward_tables[0]);
+    summary_compile("1,000 lines", &forward_tables[1]);
+    summary_compile("32,000 lines", &forward_tables[SIZES - 1]);
+    summary_check("100 lines", &forward_tables[0]);
+    summary_check("1,000 lines", &forward_tables[1]);
+    summary_check("32,000 lines", &forward_tables[SIZES - 1]);
+    take_order(&forward_tables[0]);
+    summary_strings("compare, last", compare_times, LAST);
+    summary_strings("compare, first", compare_times, FIRST);
+    summary_strings("key", key_times, LAST);
+    summary_directory("100 lines", 0);
+    summary_directory("32,000 lines", SIZES - 1);
+}
+
+/* ---- The long tables ---- */
+
 static void check_table(void)
 {
     printf("## Check\n\nOne check of a table beside one plain pass that adds up the same numbers, in microseconds.\n\n");
     printf("| lines | numbers | plain pass | check | check / pass |\n|--:|--:|--:|--:|--:|\n");
     for (int s = 0; s < SIZES; s++) {
         take_order(&forward_tables[s]);
-        struct timing timings[] = {{.call = plain_pass}, {.call = product_check}};
-        measure(timings, 2, 1);
+        struct times times = check_times();
         printf("|");
         whole_cell(sizes[s]);
         whole_cell((double)table_count);
-        cell(timings[0].best / 1e3);
-        cell(timings[1].best / 1e3);
-        cell(timings[1].best / timings[0].best);
-        printf("\n");
+        cell(times.pass / 1e3);
+        cell(times.ours / 1e3);
+        cell(times.ours / times.pass);
+        end_row();
     }
 }
 
-static int sign(long x)
+/* The end of a row of strings: glibc, ICU and ours. */
+static void string_cells(struct times times)
 {
-    return (x > 0) - (x < 0);
-}
-
-/* All systems order each pair alike, or the row would say nothing. glibc calls strings equal that differ in ignorable characters alone. */
-static void same_order(const struct timing *timings, int count, int pairs)
-{
-    for (int k = 0; k < pairs; k++) {
-        int ours = sign(product_compare(k));
-        for (int s = 0; s < count; s++) {
-            int theirs = timings[s].call == NULL ? ours : sign(timings[s].call(k));
-            if (theirs != ours && theirs != 0)
-                fail("a pair is ordered otherwise", "the row after the last one printed");
-        }
-    }
-}
-
-static void compare_row(int pairs)
-{
-    struct timing timings[] = {{.call = wide_compare}, {.call = byte_compare}, {.call = icu_compare}, {.call = product_check},
-                               {.call = product_compare}};
-    same_order(timings, 3, pairs);
-    measure(timings, 5, pairs);
-    double peers[] = {timings[0].best, timings[2].best};
-    cell(timings[0].best);
-    cell(timings[1].best);
-    cell(timings[2].best);
-    cells_beside(timings[4].best, timings[3].best, peers, 2);
-    printf("\n");
-    fflush(stdout);
+    const double peers[] = {times.wide, times.icu};
+    cell(times.wide);
+    cell(times.bytes);
+    cell(times.icu);
+    cells_beside(times.ours, times.check, peers, 2);
+    end_row();
 }
 
 static void compare_rows(const struct source *source, int size, const char *second)
@@ -439,7 +603,7 @@ static void compare_rows(const struct source *source, int size, const char *seco
             int pairs = make_pairs((enum difference)d, lengths[n], lines, count, 0);
             printf("| %s | %s |", second, difference_names[d]);
             whole_cell(lengths[n]);
-            compare_row(pairs);
+            string_cells(compare_times(pairs));
         }
 }
 
@@ -470,7 +634,7 @@ static void growth_table(void)
                 whole_cell(sizes[s]);
                 printf(" %s |", whole ? "all" : "ASCII");
                 whole_cell(lengths[n]);
-                compare_row(pairs);
+                string_cells(compare_times(pairs));
             }
     }
 }
@@ -481,20 +645,11 @@ static void key_rows(const struct source *source, int size, const char *second)
     int count = table_lines(lines, size, RISING);
     for (int n = 0; n < LENGTHS; n++) {
         int pairs = make_pairs(LAST, lengths[n], lines, count, 0);
-        struct timing timings[] = {{.call = wide_key}, {.call = byte_key}, {.call = icu_key}, {.call = product_check},
-                                   {.call = product_key}};
-        measure(timings, 5, pairs);
-        double peers[] = {timings[0].best, timings[2].best};
         printf("|");
         whole_cell(size);
         printf(" %s |", second);
         whole_cell(lengths[n]);
-        cell(timings[0].best);
-        cell(timings[1].best);
-        cell(timings[2].best);
-        cells_beside(timings[4].best, timings[3].best, peers, 2);
-        printf("\n");
-        fflush(stdout);
+        string_cells(key_times(pairs));
     }
 }
 
@@ -508,38 +663,16 @@ static void key_table(void)
     key_rows(&backward_table, sizes[0], "backward");
 }
 
-/* The least time of localedef on a source, less that on the smallest with the same charmap; 0 where it refuses. */
-static double localedef_net(const struct source *source)
-{
-    enum { RUNS = 60 };
-    const double enough = 1.5e9;
-    double best = 1e18, least = 1e18, all = 0;
-    write_source(folder, source);
-    for (int k = 0; k < RUNS && all < enough; k++) {
-        double start = run_localedef("small", source->name), took = run_localedef(source->name, source->name);
-        if (start < 0 || took < 0)
-            return 0;
-        least = start < least ? start : least;
-        best = took < best ? took : best;
-        all += start + took;
-    }
-    return best - least;
-}
-
 static void compile_row(const char *what, const struct source *source, int has_peer)
 {
-    compiled = source;
-    struct timing timings[] = {{.call = product_compile}, {.call = source->rules.count > 0 ? icu_compile : NULL}};
-    measure(timings, 2, 1);
-    double peer = has_peer ? localedef_net(source) : 0;
+    struct times times = compile_times(source, has_peer);
     printf("| %s |", what);
     whole_cell((double)source->text.count);
-    cell(peer / 1e6);
-    cell(timings[1].best / 1e6);
-    cell(timings[0].best / 1e6);
-    cell(peer > 0 ? timings[0].best / peer : 0);
-    printf("\n");
-    fflush(stdout);
+    cell(times.localedef / 1e6);
+    cell(times.icu / 1e6);
+    cell(times.ours / 1e6);
+    cell(times.localedef > 0 ? times.ours / times.localedef : 0);
+    end_row();
 }
 
 static void compile_table(void)
@@ -548,8 +681,6 @@ static void compile_table(void)
     printf("## Compile\n\nOne source, in milliseconds; localedef without its start. It refuses conditionals within conditionals, and lines "
            "that are nothing but a join.\n\n");
     printf("| source | bytes | localedef | ICU | ours | ours / localedef |\n|---|--:|--:|--:|--:|--:|\n");
-    struct source small = small_source();
-    write_source(folder, &small);
     for (int s = 0; s < SIZES; s++)
         compile_row(names[s], &forward_tables[s], 1);
     struct source source = table_source("falling", 32000, FALLING, 0);
@@ -580,15 +711,8 @@ static void compile_table(void)
     compile_row("100 lines that name a symbol joined over 512 KiB", &source, 0);
 }
 
-/* How many times smaller than the largest the hostile sources are: 1, or what the variable PART says. */
-static size_t part(void)
-{
-    const char *word = getenv("PART");
-    long number = word == NULL ? 1 : strtol(word, NULL, 10);
-    if (number < 1 || number > 64)
-        fail("PART is 1 to 64, not", word);
-    return (size_t)number;
-}
+/* How many times smaller than the largest the hostile sources are. */
+static size_t part = 1;
 
 static double time_of(call call, const struct source *source)
 {
@@ -636,8 +760,7 @@ static void hostile_row(const struct hostile *row, size_t size)
     time_cells(honest, &twin);
     cell(ours / honest);
     cell(peer / 1e6);
-    printf("\n");
-    fflush(stdout);
+    end_row();
     free(source.text.bytes);
     free(twin.text.bytes);
 }
@@ -647,8 +770,7 @@ static void charmap_row(const char *what, struct source source)
     printf("| %s |", what);
     whole_cell((double)source.text.count);
     time_cells(time_of(product_charmap, &source), &source);
-    printf("\n");
-    fflush(stdout);
+    end_row();
     free(source.text.bytes);
 }
 
@@ -664,12 +786,10 @@ static void hostile_charmaps(size_t size)
 static void hostile_table(void)
 {
     static const struct hostile small_chains = {"the same, in 16 KiB", chained_source, 1};
-    size_t size = MOST_SOURCE / part();
-    struct source small = small_source();
-    write_source(folder, &small);
+    size_t size = MOST_SOURCE / part;
     printf("## Hostile sources\n\nOne source, in milliseconds, beside its honest twin: as many bytes in the same lines, without what makes "
            "the source slow. Sources are of up to 1 MiB, 8,000 elements and 9,000 names, divided by %zu. localedef without its start; it "
-           "refuses lines that are nothing but a join, or never ends on them.\n\n", part());
+           "refuses lines that are nothing but a join, or never ends on them.\n\n", part);
     printf("| source | bytes | ours | ns a byte | honest twin | ns a byte | ours / twin | localedef |\n|---|--:|--:|--:|--:|--:|--:|--:|\n");
     for (size_t r = 0; r < sizeof hostile_sources / sizeof *hostile_sources; r++)
         hostile_row(&hostile_sources[r], size);
@@ -677,27 +797,12 @@ static void hostile_table(void)
     hostile_charmaps(size);
 }
 
-/* Both systems put each topic under the same heading, or the row would say nothing. */
-static void same_headings(call theirs)
+static void directory_cells(struct times times)
 {
-    product_directory(0);
-    if (theirs == NULL)
-        return;
-    theirs(0);
-    if (memcmp(our_list, icu_list, (size_t)page.topics * sizeof *our_list) != 0)
-        fail("a topic stands under another heading", "the row after the last one printed");
-}
-
-static void directory_row(void)
-{
-    struct timing timings[] = {{.call = icu_directory}, {.call = product_check}, {.call = product_directory}};
-    same_headings(icu_directory);
-    measure(timings, 3, 1);
-    double peers[] = {timings[0].best / 1e3};
+    const double peers[] = {times.icu / 1e3};
     cell(peers[0]);
-    cells_beside(timings[2].best / 1e3, timings[1].best / 1e3, peers, 1);
-    printf("\n");
-    fflush(stdout);
+    cells_beside(times.ours / 1e3, times.check / 1e3, peers, 1);
+    end_row();
 }
 
 static void directory_rows(const struct source *source, int size, int headings)
@@ -714,7 +819,7 @@ static void directory_rows(const struct source *source, int size, int headings)
             whole_cell(page.topics);
             printf(" %s |", topic_names[t]);
             whole_cell(lengths[n]);
-            directory_row();
+            directory_cells(directory_times());
         }
 }
 
@@ -733,9 +838,8 @@ static void directory_table(void)
 static const struct {
     const char *name;
     void (*print)(void);
-} tables[] = {{"check", check_table}, {"compare", compare_table}, {"growth", growth_table},
-              {"key", key_table},     {"compile", compile_table}, {"hostile", hostile_table},
-              {"directory", directory_table}};
+} tables[] = {{"summary", summary_table}, {"check", check_table},     {"compare", compare_table}, {"growth", growth_table},
+              {"key", key_table},         {"compile", compile_table}, {"hostile", hostile_table}, {"directory", directory_table}};
 enum { TABLES = sizeof tables / sizeof *tables };
 
 /* Prints the tables that are named, all if none is. */
@@ -760,6 +864,17 @@ static void print_tables(char *names)
     }
 }
 
+/* Takes the part from the variable PART. */
+static void take_part(void)
+{
+    const char *word = getenv("PART");
+    if (word == NULL)
+        return;
+    part = strtoul(word, NULL, 10);
+    if (part < 1 || part > 64)
+        fail("PART is 1 to 64, not", word);
+}
+
 int main(int count, char **words)
 {
     if (count < 4)
@@ -768,10 +883,13 @@ int main(int count, char **words)
     localedef = words + 3;
     localedef_words = count - 3;
     setenv("LOCPATH", folder, 1);
+    take_part();
     static const char *const names[] = {"lines100", "lines1000", "lines10000", "lines32000"};
     for (int s = 0; s < SIZES; s++)
         forward_tables[s] = table_source(names[s], sizes[s], RISING, 0);
     backward_table = table_source("backward100", sizes[0], RISING, 1);
+    struct source small = small_source();
+    write_source(folder, &small);
     print_tables(words[2]);
     return 0;
 }
