@@ -8,35 +8,29 @@ use lib.Dec.{eqb}
 use Rattle.base_lists.proofs.Bools.{by}
 use Rattle.rules.specs.Text.{bytes, is, same}
 use Rattle.rules.specs.Tokens as kind
-use Rattle.rules.specs.Tokens.{token, noPart, inWord, tokensFrom, withoutOpeningGaps, operands}
+use Rattle.rules.specs.Tokens.{Token, token, noPart, inWord, tokensFrom, withoutBlanks, withoutOpeningGaps, operands}
 use Rattle.rules.proofs.TextLaws.{same-true}
 use Rattle.text_lines.specs.declared.Signs.{Signs}
 use Rattle.text_lines.specs.declared.Spot.{Spot}
-use Rattle.text_lines.specs.declared.Step.{Step}
-use Rattle.text_lines.specs.declared.Step.the-variants as step
-use Rattle.text_lines.specs.Stream.{marksLeft, MarkIs, StepIs}
-use Rattle.text_tokens.specs.Left.{tokensLeft, wordIn, afterWord, WordEnds, Skips}
+use Rattle.text_lines.specs.Stream.{marksLeft}
+use Rattle.text_tokens.specs.Left.{tokensLeft, wordIn, afterWord, WordEnds, isNone, onlyBlanks, RestIs}
 use Rattle.text_tokens.proofs.TokenLaws.{first-word, word-whole, tokensFrom-none}
+use Rattle.text_tokens.proofs.GapLaws.{opening-gaps}
 use Rattle.charmap_header.specs.Head.{isOpening}
 use Rattle.charmap_header.proofs.FirstLaws.{first-token, some, operands-none}
 
 -- ## Whether only blanks come
 
-module _ {g : Signs} {src : List ℕ} {p q : Spot} (v : Skips g src p q) {s : Step} (w : StepIs g src q s) where
-  pub ends-none : s ≡ step.End → true ≡ eqb (length (withoutOpeningGaps (tokensLeft g src p))) 0
-  unfolding tokensLeft
-  ends-none e =
-      let n : marksLeft g src q ≡ [] = subst (StepIs g src q) e w in
-      let t : tokensLeft g src q ≡ [] = rw n tokensFrom-none in
-      rw (sym (v .tokens) ∙ t)
+blank-tokens : (ms : List ℕ) → onlyBlanks ms ≡ eqb (length (withoutOpeningGaps (tokensFrom (noPart []) ms))) 0
+blank-tokens ms = go (withoutBlanks ms) (opening-gaps ms)
+  where
+    go : (ns : List ℕ) {ts : List Token} → tokensFrom (noPart []) ns ≡ ts → isNone ns ≡ eqb (length ts) 0
+    go [] e = rw (sym e ∙ tokensFrom-none)
+    go (n ∷ ns) e = let f = first-token n ns in rw (sym e ∙ f .is) (sym (some (f .first) (f .more)))
 
-  pub ends-more : {m : ℕ} {r : Spot} → s ≡ step.Mark m r → false ≡ eqb (length (withoutOpeningGaps (tokensLeft g src p))) 0
-  unfolding tokensLeft
-  ends-more {m} {r} e =
-      let k : MarkIs g src q m r = subst (StepIs g src q) e w in
-      let f = first-token m (marksLeft g src r) in
-      let t : tokensLeft g src q ≡ f .first ∷ f .more = ap (tokensFrom (noPart [])) (k .marks) ∙ f .is in
-      rw (sym (v .tokens) ∙ t) (sym (some (f .first) (f .more)))
+pub ends-told : (g : Signs) (src : List ℕ) (p : Spot) {r : Bool} → RestIs g src p r → r ≡ eqb (length (withoutOpeningGaps (tokensLeft g src p))) 0
+unfolding tokensLeft
+ends-told g src p v = v .blanks ∙ blank-tokens (marksLeft g src p)
 
 -- ## The first word
 

@@ -22,6 +22,7 @@ use text_lines::Step;
 use text_lines::is_text;
 use text_lines::line_end;
 use text_lines::next_mark;
+use text_lines::wide;
 use text_names::name_is;
 use text_reader::line_at;
 use text_specials::Chars;
@@ -30,6 +31,7 @@ use text_specials::with_set;
 use text_tokens::Closing;
 use text_tokens::end_of_name;
 use text_tokens::end_of_word;
+use text_tokens::only_blanks;
 use text_tokens::skip_gaps;
 use text_tokens::word_is;
 
@@ -60,24 +62,12 @@ fn start_of(at: usize) -> Spot
     }
 }
 
-// A byte as a mark.
-fn wide(b: u8) -> u16
-    ensures { λ r. ⌜ (r ≡ b) × (r < 256) ⌝ }
-{
-    b as u16
-}
-
 // Whether no token but blanks is still to come.
 fn ends(src: &[u8], g: Signs, p: Spot) -> bool
     requires { ⌜ (p .at ≤ length (now src)) × (p .mode ≡ inPlain) ⌝ }
     ensures { λ r. ⌜ r ≡ eqb (length (withoutOpeningGaps (tokensLeft g (now (src .entry)) p))) 0 ⌝ }
 {
-    let q = skip_gaps(src, g, p);
-    let s = next_mark(src, g, q);
-    match s {
-        Step::End => return true,
-        Step::Mark(_, _) => return false,
-    }
+    only_blanks(src, g, p)
 }
 
 // Whether CHARMAP stands alone from a spot on.

@@ -10,10 +10,9 @@ use borrow.Author.Tests.{leb-true, leb-false, ne-eqb, not-true}
 use Rattle.base_lists.proofs.Bools.{by, cond-both, and-left, and-right, clash}
 use Rattle.rules.specs.Names.{isBlank}
 use Rattle.rules.specs.Tokens.{gap, semi, comma, broken, word, name, quote, asIs, Token, token, single, noPart, inWord, tokensFrom, withoutBlanks, isSolid, withoutGaps, operands}
-use Rattle.text_tokens.specs.Left.{wordIn, afterWord}
+use Rattle.text_tokens.specs.Left.{wordIn, afterWord, onlyBlanks, NoneTaken}
 use Rattle.text_tokens.proofs.TokenLaws.{tokensFrom-none, first-gap, first-word, word-whole}
 use Rattle.text_operands.proofs.FirstLaws.{starts, starts-first}
-use Rattle.locale_outside.specs.Outside.{onlyBlanks, NoneTaken}
 
 -- ## A line's first token
 
@@ -59,14 +58,14 @@ other-operands (t ∷ ts) h =
 
 -- only blanks: no token
 pub none-rest : (glued : Bool) (ms : List ℕ) → onlyBlanks ms ≡ true → withoutGaps glued (tokensFrom (noPart []) ms) ≡ []
-unfolding onlyBlanks withoutBlanks withoutGaps
+unfolding withoutBlanks withoutGaps
 none-rest glued [] h = rw tokensFrom-none
 none-rest glued (m ∷ ms) h =
     by (isBlank m) (λ b. rw (first-gap m ms b) (none-rest false ms (rw b at h))) (λ b. let z : false ≡ true = rw b at h in absurd (false≢true z))
 
 -- more than blanks
 pub some-rest : (glued : Bool) (ms : List ℕ) → onlyBlanks ms ≡ false → NoneTaken ms → starts isOther (withoutGaps glued (tokensFrom (noPart []) ms)) ≡ true
-unfolding onlyBlanks withoutBlanks withoutGaps
+unfolding withoutBlanks withoutGaps
 some-rest glued [] h d = absurd (false≢true (sym h))
 some-rest glued (m ∷ ms) h d =
     by (isBlank m)
@@ -75,13 +74,13 @@ some-rest glued (m ∷ ms) h d =
 
 -- a line's operands
 pub none-operands : (ms : List ℕ) → onlyBlanks ms ≡ true → operands (tokensFrom (noPart []) ms) ≡ []
-unfolding onlyBlanks withoutBlanks operands
+unfolding withoutBlanks operands
 none-operands [] h = rw tokensFrom-none
 none-operands (m ∷ ms) h =
     by (isBlank m) (λ b. rw (first-gap m ms b) (none-rest false ms (rw b at h))) (λ b. let z : false ≡ true = rw b at h in absurd (false≢true z))
 
 pub some-operands : (ms : List ℕ) → onlyBlanks ms ≡ false → NoneTaken ms → starts isOther (operands (tokensFrom (noPart []) ms)) ≡ true
-unfolding onlyBlanks withoutBlanks operands
+unfolding withoutBlanks operands
 some-operands [] h d = absurd (false≢true (sym h))
 some-operands (m ∷ ms) h d =
     by (isBlank m)

@@ -21,12 +21,12 @@ use Rattle.text_lines.specs.declared.Step.{Step}
 use Rattle.text_lines.specs.declared.Step.the-variants as step
 use Rattle.text_lines.specs.Stream.{outsideSigns, lineStart, marksLeft, freshThrough, MarkIs, StepIs, LineIs}
 use Rattle.text_lines.proofs.LineLaws.{run-marks}
-use Rattle.text_tokens.specs.Left.{wordIn, afterWord, Skips}
+use Rattle.text_tokens.specs.Left.{wordIn, afterWord, Skips, onlyBlanks}
 use Rattle.text_tokens.proofs.TokenLaws.{tokensFrom-none}
 use Rattle.text_operands.proofs.BlankLaws.{blanks-text}
 use Rattle.text_as_is.proofs.OpenLaws.{opening-blank}
 use Rattle.text_specials.specs.declared.Chars.{Chars}
-use Rattle.locale_outside.specs.Outside.{isCategory, onlyBlanks, AloneIs, signsOf, Stands, Changes, openedBy, OpenedAt, RefusedWith, PlainAt, CategoryAt}
+use Rattle.locale_outside.specs.Outside.{isCategory, AloneIs, signsOf, Stands, Changes, openedBy, OpenedAt, RefusedWith, PlainAt, CategoryAt}
 use Rattle.locale_outside.proofs.OperandLaws.{no-word, word-first, none-operands, some-operands, other-single, other-some}
 use Rattle.locale_outside.proofs.OutcomeLaws.{read-whole, line-foul, line-clean, line-none, line-no-word, word-refused, word-accepted, outside-refused, category-operands, category-other-word, category-again, category-opens, word-alone}
 

@@ -25,7 +25,8 @@ use Rattle.text_as_is.specs.declared.Sign.{Sign}
 use Rattle.text_as_is.specs.declared.Sign.the-variants.{Plain, Taken}
 use Rattle.text_as_is.specs.Signed.{Visible, keyword, SignIs}
 use Rattle.text_as_is.proofs.LineTokenLaws.{LineTokens, line-tokens, line-text}
-use Rattle.locale_outside.specs.Outside.{RestIs, signsOf, Stands, Changes, SignedBy, RefusedWith, PlainAt, TakenAt}
+use Rattle.text_tokens.specs.Left.{RestIs}
+use Rattle.locale_outside.specs.Outside.{signsOf, Stands, Changes, SignedBy, RefusedWith, PlainAt, TakenAt}
 use Rattle.locale_outside.proofs.OperandLaws.{none-rest, some-rest, other-more}
 use Rattle.locale_outside.proofs.OutcomeLaws.{sign-three, line-foul, line-clean, word-refused, word-accepted, outside-sign, sign-not-one, sign-late, sign-refused, sign-set, keyword-operand}
 use Rattle.locale_outside.proofs.PlainLaws.{line-signs, outcome-marks}

@@ -2,12 +2,11 @@
 -- line may stand.
 use mathlib.Core.Path.{_≡_}
 use mathlib.Core.Bool.{Bool, true, false, _&&_, _||_}
-use mathlib.Core.List.{List, [], _∷_}
+use mathlib.Core.List.{List, []}
 use Prim.Native.Nat.{ℕ, _+_, _≤_, _<_}
 use lib.ListN.{length, drop}
 use lib.Dec.{eqb}
 use Rattle.rules.specs.Text.{if_then_else_, bytes, within, every, is, begins}
-use Rattle.rules.specs.Tokens.{withoutBlanks}
 use Rattle.rules.specs.Lines.{lineOf}
 use Rattle.rules.specs.State.{beforeCategories, inOtherCategory, beforeOrder, State, withChars, withPlace, inPhase, isOutside, gives}
 use Rattle.rules.specs.Source.{isCapital, lineOutcome, signs}
@@ -15,7 +14,7 @@ use Rattle.text_lines.specs.declared.Signs.{Signs}
 use Rattle.text_lines.specs.declared.Spot.{Spot}
 use Rattle.text_lines.specs.declared.LineEnd.{LineEnd}
 use Rattle.text_lines.specs.Stream.{outsideSigns, lineLeft, lineStart, marksLeft, LineIs}
-use Rattle.text_tokens.specs.Left.{wordIn, afterWord, Skips}
+use Rattle.text_tokens.specs.Left.{wordIn, afterWord, Skips, onlyBlanks, NoneTaken}
 use Rattle.text_specials.specs.declared.Chars.{Chars}
 use Rattle.text_specials.specs.Force.{charsAs}
 use Rattle.text_as_is.specs.Signed.{Visible, TakenIs}
@@ -31,23 +30,6 @@ isCategory w = begins (bytes "LC_") w && within 4 32 (length w) && every isCapit
 -- how many bytes a word of capitals and underscores has; 0 for any other
 unfoldable pub capitalsIn : List ℕ → ℕ
 capitalsIn w = if every isCapital w then length w else 0
-
--- nothing but blanks
-abbrev pub isEmpty : List ℕ → Bool
-isEmpty [] = true
-isEmpty (m ∷ ms) = false
-
-unfoldable pub onlyBlanks : List ℕ → Bool
-onlyBlanks ms = isEmpty (withoutBlanks ms)
-
--- no byte is taken as it stands where something but blanks comes first
-abbrev pub NoneTaken : List ℕ → Type 0
-NoneTaken ms = (m : ℕ) (ns : List ℕ) → withoutBlanks ms ≡ m ∷ ns → 256 ≤ m → 512 ≤ m
-
--- Whether nothing but blanks is left from a spot on.
-pub record RestIs (g : Signs) (src : List ℕ) (p : Spot) (r : Bool) : Type 0 where
-  pub blanks : r ≡ onlyBlanks (marksLeft g src p)
-  pub dead : NoneTaken (marksLeft g src p)
 
 -- Whether the word at a spot is a category's and stands alone.
 pub record AloneIs (g : Signs) (src : List ℕ) (p : Spot) (r : Bool) : Type 0 where

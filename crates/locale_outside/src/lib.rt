@@ -8,7 +8,7 @@ ghost use Rattle.rules.specs.Source.{isCapital};
 ghost use Rattle.text_lines.specs.Stream.{marksLeft};
 ghost use Rattle.text_tokens.specs.Left.{wordIn};
 ghost use Rattle.text_as_is.specs.Signed.{Visible};
-ghost use Rattle.locale_outside.specs.Outside.{isCategory, capitalsIn, RestIs, AloneIs, signsOf, OuterIs, PlainOuter, TakenOuter, PlainAt, TakenAt, CategoryAt};
+ghost use Rattle.locale_outside.specs.Outside.{isCategory, capitalsIn, AloneIs, signsOf, OuterIs, PlainOuter, TakenOuter, PlainAt, TakenAt, CategoryAt};
 use text_as_is::Sign;
 use text_as_is::sign_line;
 use text_lines::IN_PLAIN;
@@ -24,6 +24,7 @@ use text_specials::may_set;
 use text_specials::with_set;
 use text_tokens::WordStep;
 use text_tokens::end_of_word;
+use text_tokens::only_blanks;
 use text_tokens::skip_gaps;
 use text_tokens::word_byte;
 use text_tokens::word_is;
@@ -113,19 +114,6 @@ fn is_category(src: &[u8], g: Signs, p: Spot) -> bool
         return n <= 32;
     }
     false
-}
-
-// Whether nothing but blanks is left.
-fn only_blanks(src: &[u8], g: Signs, p: Spot) -> bool
-    requires { ⌜ (p .at ≤ length (now src)) × (p .mode ≡ inPlain) ⌝ }
-    ensures { λ r. ⌜ RestIs g (now (src .entry)) p r ⌝ }
-{
-    let q = skip_gaps(src, g, p);
-    let s = next_mark(src, g, q);
-    match s {
-        Step::End => return true,
-        Step::Mark(_, _) => return false,
-    }
 }
 
 // Whether a category's word stands at a spot, and nothing but blanks after it.

@@ -1,7 +1,7 @@
 -- Runs of lines that are passed over (Rattle.rules.specs.Source), for every state of the paper in which they stand.
 use mathlib.Core.Path.{_≡_}
 use mathlib.Core.Bool.{Bool, true, false, _||_}
-use mathlib.Core.List.{List, _++_}
+use mathlib.Core.List.{List}
 use Prim.Native.Nat.{ℕ, _+_, _-_, _≤_, _<_}
 use lib.ListN.{length, drop}
 use lib.Dec.{eqb}

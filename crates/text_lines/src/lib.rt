@@ -129,7 +129,7 @@ pub fn is_text(m: u16) -> bool
 }
 
 // A byte as a mark.
-fn wide(b: u8) -> u16
+pub fn wide(b: u8) -> u16
     ensures { λ r. ⌜ (r ≡ b) × (r < 256) ⌝ }
 {
     b as u16

@@ -8,3 +8,4 @@ pub mod StandLaws
 pub mod PlainLaws
 pub mod AheadLaws
 pub mod CopyLaws
+pub mod RestLaws

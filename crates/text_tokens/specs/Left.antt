@@ -282,3 +282,21 @@ pub record Skips (g : Signs) (src : List ℕ) (p q : Spot) : Type 0 where
   pub from : p .at ≤ q .at
   pub walk : Walk g src p q
   pub to : q .at ≤ length src
+
+-- there is none
+abbrev pub isNone : List ℕ → Bool
+isNone [] = true
+isNone (m ∷ ms) = false
+
+-- nothing but blanks
+abbrev pub onlyBlanks : List ℕ → Bool
+onlyBlanks ms = isNone (withoutBlanks ms)
+
+-- no byte is taken as it stands where something but blanks comes first
+abbrev pub NoneTaken : List ℕ → Type 0
+NoneTaken ms = (m : ℕ) (ns : List ℕ) → withoutBlanks ms ≡ m ∷ ns → 256 ≤ m → 512 ≤ m
+
+-- Whether nothing but blanks is left from a spot on.
+pub record RestIs (g : Signs) (src : List ℕ) (p : Spot) (r : Bool) : Type 0 where
+  pub blanks : r ≡ onlyBlanks (marksLeft g src p)
+  pub dead : NoneTaken (marksLeft g src p)

@@ -9,7 +9,7 @@ ghost use Rattle.rules.specs.Names.{isVisible};
 ghost use Rattle.rules.specs.Tokens.{inWord};
 ghost use Rattle.rules.specs.Lines.{inPlain, quoted};
 ghost use Rattle.text_lines.specs.Stream.{marksLeft};
-ghost use Rattle.text_tokens.specs.Left.{wordIn, isInside, isPlain, PlainTo, PlainAt, WordStepIs, WordEnds, CopiesWord, NameStepIs, ClosingAfter, ClosingIs, QuotesIs, bareAt, namedAt, NextIs, Skips};
+ghost use Rattle.text_tokens.specs.Left.{wordIn, isInside, isPlain, PlainTo, PlainAt, WordStepIs, WordEnds, CopiesWord, NameStepIs, ClosingAfter, ClosingIs, QuotesIs, bareAt, namedAt, NextIs, Skips, RestIs};
 use text_lines::IN_NAME;
 use text_lines::IN_PLAIN;
 use text_lines::Signs;
@@ -532,6 +532,19 @@ pub fn skip_gaps(src: &[u8], g: Signs, p: Spot) -> Spot
         }
     }
     skip_all(src, g, p)
+}
+
+// Whether nothing but blanks is left from a spot on.
+pub fn only_blanks(src: &[u8], g: Signs, p: Spot) -> bool
+    requires { ⌜ (p .at ≤ length (now src)) × (p .mode ≡ inPlain) ⌝ }
+    ensures { λ r. ⌜ RestIs g (now (src .entry)) p r ⌝ }
+{
+    let q = skip_gaps(src, g, p);
+    let s = next_mark(src, g, q);
+    match s {
+        Step::End => return true,
+        Step::Mark(_, _) => return false,
+    }
 }
 
 // The same by the next marks.

@@ -5,7 +5,7 @@
 ghost use mathlib.Core.Path.{_≡_};
 ghost use mathlib.Core.List.{[]};
 ghost use Prim.Native.Nat.{_+_, _/_, _≤_, _<_};
-ghost use lib.ListN.{length, replicate};
+ghost use lib.ListN.{length};
 ghost use Rattle.text_lines.specs.Stream.{lineStart};
 ghost use Rattle.rules.specs.Text.{same, oneOf};
 ghost use Rattle.rules.specs.Conditionals.{isToggleByte, isToggle, isOn};

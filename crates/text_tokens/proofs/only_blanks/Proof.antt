@@ -1,8 +1,8 @@
--- `locale_outside::only_blanks` meets its contract: a mark after the blanks, or none.
-use Rattle.locale_outside.proofs.RestLaws.{rest-none, rest-some}
+-- `text_tokens::only_blanks` meets its contract: a mark after the blanks, or none.
+use Rattle.text_tokens.proofs.RestLaws.{rest-none, rest-some}
 use borrow.Author.Needs.{needs}
-use Rattle.locale_outside.proofs.only_blanks.Statement.{statement}
-use Rattle.locale_outside.proofs.only_blanks.Tie as tie
+use Rattle.text_tokens.proofs.only_blanks.Statement.{statement}
+use Rattle.text_tokens.proofs.only_blanks.Tie as tie
 
 skip-gaps-requires : tie.Need-skip-gaps-requires
 skip-gaps-requires c κs = search needs
