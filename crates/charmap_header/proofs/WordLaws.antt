@@ -1,5 +1,5 @@
 -- CHARMAP alone, from a spot on.
-use mathlib.Core.Path.{_≡_, refl, sym, ap, _∙_, subst}
+use mathlib.Core.Path.{_≡_, refl, sym, _∙_}
 use mathlib.Core.Bool.{Bool, true, false, and-true, and-false}
 use mathlib.Core.List.{List, [], _∷_, cons-ne-nil}
 use Prim.Native.Nat.{ℕ}

@@ -13,7 +13,7 @@ use Rattle.rules.specs.Tokens.{word, name, Token, tokenAt, theName, sing
 use Rattle.rules.specs.Lines.{lineOf}
 use Rattle.rules.specs.State.{betweenCategories, inOtherCategory, beforeOrder, inOrder, afterOrder, inBlock, undefined, Subject, State, start, withOrdered, inPhase, toPhase, inCollate, gives}
 use Rattle.rules.specs.Conditionals.{defineLine, ifLine, elifLine, isUnused}
-use Rattle.rules.specs.OrderLines.{rankOf, subjectOf, reorderAfterLine, reorderEndLine}
+use Rattle.rules.specs.OrderLines.{subjectOf, reorderAfterLine, reorderEndLine}
 use Rattle.rules.specs.Source.{categoryLine, signLine, outsideLine, orderEndLine, endLine, collateLine, tokenLine, wholeLine, otherLine, unusedLine, lineOutcome, Ended, signs, linesFrom}
 use Rattle.rules.proofs.TextLaws.{unless-none, lower-none, lowest-unless}
 use Rattle.rules.proofs.StateLaws.{IsSound, LeavesSound, symbolLine-sound, elementLine-sound, orderStartLine-sound, orderLine-sound}

@@ -14,7 +14,7 @@ use Rattle.rules.specs.Tokens.{semi, Token, tokenAt, theName}
 use Rattle.rules.specs.Meaning.{Rule}
 use Rattle.rules.specs.State.{beforeOrder, inOrder, inBlock, Place, Declaration, symbol, element, Subject, character, named, undefined, OrderLine, Ordered, State, inPhase, Outcome}
 use Rattle.rules.specs.Declarations.{declares, declaresChars, isNew, mayDeclare, symbolLine, elementFormed, elementLine}
-use Rattle.rules.specs.OrderLines.{splitAt, operandList, ruleCodes, rulesFormed, orderStartLine, stands, isSymbol, subjectOf, sameSubject, isNames, weightRefusal, weightsRefusal, weightOf, weightsOf, rankOf, takenOut, putAfter, placed, blockWith, again, orderLine, reorderAfterLine, reorderEndLine}
+use Rattle.rules.specs.OrderLines.{splitAt, operandList, ruleCodes, rulesFormed, orderStartLine, stands, isSymbol, subjectOf, sameSubject, isNames, weightRefusal, weightsRefusal, weightOf, weightsOf, takenOut, putAfter, placed, again, orderLine}
 use Rattle.rules.proofs.TextLaws.{every-cons, oneOf-head-false, oneOf-tail-false, oneOf-append, lowest-none, lowest-unless, within-low, within-high, within-intro}
 use Rattle.rules.proofs.RankLaws.{isLineOf, rankFrom-zero, sameSubject-swap-false}
 use Rattle.rules.proofs.PlacedLaws.{takenOut-none, takenOut-without, takenOut-same, putAfter-length, putAfter-without}
