@@ -1,16 +1,26 @@
 /* The driver: answers the requests of ../reference/README.md through the product's C interface.
  *
- * Every area that a call is lent lies between guards and is filled with a pattern, or with the
- * request's numbers, before the call. Afterwards all of it must be as before, save the result in
- * front of the area that receives it, and save the work area, which must be all zero. Where that
- * fails the answer is `touched`. A line that is no request is answered `bad request`. */
+ *   driver [guards | end | start]
+ *
+ * Every area that a call is lent is filled with a pattern, or with the request's numbers, before
+ * the call. Afterwards all of it must be as before, save the result in front of the area that
+ * receives it, and save the work area, which must be all zero. Where that fails the answer is
+ * `touched`. A line that is no request is answered `bad request`.
+ *
+ * What lies beside an area is said by the argument. `guards`, or none: bytes with a pattern, which
+ * must be as before too. `end` and `start`: forbidden pages on both sides, where one byte read or
+ * written ends the program; the area's last byte stands right before such a page with `end`, its
+ * first byte right behind one with `start`. `outside`, a request of no arguments, reads the byte
+ * behind an area with `end` and the byte before one otherwise: a test of the forbidden pages. */
 
-#define _POSIX_C_SOURCE 200809L
+#define _DEFAULT_SOURCE
 #include <errno.h>
 #include <inttypes.h>
 #include <stdio.h>
 #include <stdlib.h>
 #include <string.h>
+#include <sys/mman.h>
+#include <unistd.h>
 
 #include "zeharmeku.h"
 
@@ -18,33 +28,73 @@
 
 enum { GUARD = 256, MOST_AREAS = 8, MOST_LENT = 1 << 26 };
 
-/* `count` units of `unit` bytes each at `now`, and what they and the guards held before. */
+/* `count` units of `unit` bytes each at `now`. They lie in `whole` bytes at `all` that may be read
+ * and written; `before` is what those held. */
 struct area {
     size_t count, unit;
     unsigned char *all, *before;
+    size_t whole;
     void *now;
 };
 
-/* How many numbers more than needed an answer is lent; these must stay as they are. */
-enum { SPARE = 2 };
+/* What lies beside an area. */
+static enum { GUARDS, PAGE_AT_END, PAGE_AT_START } beside = GUARDS;
+
+/* How many numbers more than needed an answer is lent; these must stay as they are. At a forbidden
+ * page there are none, so that a step behind the answer ends the program. */
+static size_t spare(void)
+{
+    return beside == GUARDS ? 2 : 0;
+}
 
 /* The areas of the request at hand. */
 static struct area areas[MOST_AREAS];
 static int area_count;
 
+static void out_of_memory(void)
+{
+    fputs("driver: out of memory\n", stderr);
+    exit(2);
+}
+
 static void *reserve(size_t size)
 {
-    void *memory = malloc(size);
-    if (memory == NULL) {
-        fputs("driver: out of memory\n", stderr);
-        exit(2);
-    }
+    void *memory = malloc(size == 0 ? 1 : size);
+    if (memory == NULL)
+        out_of_memory();
     return memory;
 }
 
-static size_t whole(const struct area *area)
+static size_t bytes_of(const struct area *area)
 {
-    return GUARD + area->count * area->unit + GUARD;
+    return area->count * area->unit;
+}
+
+static void put_between_guards(struct area *area)
+{
+    area->whole = GUARD + bytes_of(area) + GUARD;
+    area->all = reserve(area->whole);
+    area->now = area->all + GUARD;
+}
+
+static size_t page_size(void)
+{
+    return (size_t)sysconf(_SC_PAGESIZE);
+}
+
+/* As many whole pages as the area needs, none for an empty one, between two forbidden pages. */
+static void put_between_pages(struct area *area)
+{
+    size_t page = page_size();
+    area->whole = (bytes_of(area) + page - 1) / page * page;
+    unsigned char *first = mmap(NULL, page + area->whole + page, PROT_NONE,
+                                MAP_PRIVATE | MAP_ANONYMOUS, -1, 0);
+    if (first == MAP_FAILED)
+        out_of_memory();
+    area->all = first + page;
+    if (area->whole != 0 && mprotect(area->all, area->whole, PROT_READ | PROT_WRITE) != 0)
+        out_of_memory();
+    area->now = beside == PAGE_AT_START ? area->all : area->all + area->whole - bytes_of(area);
 }
 
 /* A new area, filled with a pattern. */
@@ -53,20 +103,29 @@ static struct area *lend(size_t count, size_t unit)
     struct area *area = &areas[area_count++];
     area->count = count;
     area->unit = unit;
-    area->all = reserve(whole(area));
     area->before = NULL;
-    area->now = area->all + GUARD;
-    for (size_t k = 0; k < whole(area); k++)
+    if (beside == GUARDS)
+        put_between_guards(area);
+    else
+        put_between_pages(area);
+    for (size_t k = 0; k < area->whole; k++)
         area->all[k] = (unsigned char)(k * 37 + 165);
     return area;
 }
 
+static void release(struct area *area)
+{
+    if (beside == GUARDS)
+        free(area->all);
+    else
+        munmap(area->all - page_size(), page_size() + area->whole + page_size());
+    free(area->before);
+}
+
 static void release_all(void)
 {
-    for (int k = 0; k < area_count; k++) {
-        free(areas[k].all);
-        free(areas[k].before);
-    }
+    for (int k = 0; k < area_count; k++)
+        release(&areas[k]);
     area_count = 0;
 }
 
@@ -74,24 +133,26 @@ static void release_all(void)
 static void note_all(void)
 {
     for (int k = 0; k < area_count; k++) {
-        areas[k].before = reserve(whole(&areas[k]));
-        memcpy(areas[k].before, areas[k].all, whole(&areas[k]));
+        areas[k].before = reserve(areas[k].whole);
+        memcpy(areas[k].before, areas[k].all, areas[k].whole);
     }
 }
 
-/* Whether an area and its guards are as before, its first `written` units not looked at. */
+/* Whether an area and what may be read beside it are as before, its first `written` units not
+ * looked at. */
 static int kept_after(const struct area *area, size_t written)
 {
-    size_t from = GUARD + written * area->unit;
-    return memcmp(area->all, area->before, GUARD) == 0
-        && memcmp(area->all + from, area->before + from, whole(area) - from) == 0;
+    size_t front = (size_t)((unsigned char *)area->now - area->all);
+    size_t from = front + written * area->unit;
+    return memcmp(area->all, area->before, front) == 0
+        && memcmp(area->all + from, area->before + from, area->whole - from) == 0;
 }
 
-/* Whether an area is all zero and its guards are as before. */
+/* Whether an area is all zero and what may be read beside it is as before. */
 static int cleared(const struct area *area)
 {
     const unsigned char *bytes = area->now;
-    for (size_t k = 0; k < area->count * area->unit; k++)
+    for (size_t k = 0; k < bytes_of(area); k++)
         if (bytes[k] != 0)
             return 0;
     return kept_after(area, area->count);
@@ -108,7 +169,7 @@ static int only_written(const struct area *result, uint64_t size,
         if (area == work)
             good = cleared(area);
         else if (area == answer)
-            good = kept_after(area, area->count - SPARE);
+            good = kept_after(area, area->count - spare());
         else
             good = kept_after(area, area == result ? (size_t)size : 0);
         if (!good)
@@ -248,10 +309,10 @@ static void print_result(const struct area *answer, const uint64_t *line,
 
 enum { CHARMAP_SIZE = 512 };
 
-/* Room for an answer of `told` numbers. */
+/* An area for an answer of `told` numbers. */
 static struct area *lend_answer(size_t told)
 {
-    return lend(told + SPARE, sizeof(uint64_t));
+    return lend(told + spare(), sizeof(uint64_t));
 }
 
 static void do_check(void)
@@ -314,13 +375,13 @@ static void do_compare(void)
 static void do_key(void)
 {
     struct area *table = read_numbers(), *string = read_numbers();
-    struct area *room = lend(read_size(), sizeof(uint8_t));
+    struct area *result = lend(read_size(), sizeof(uint8_t));
     struct area *answer = lend_answer(2);
     if (!ready())
         return;
-    zeharmeku_key(NUMBERS(table), NUMBERS(string), LENT(uint8_t, room), ANSWER(answer));
+    zeharmeku_key(NUMBERS(table), NUMBERS(string), LENT(uint8_t, result), ANSWER(answer));
     const uint64_t *said = answer->now;
-    print_result(answer, NULL, room, said[1], NULL);
+    print_result(answer, NULL, result, said[1], NULL);
 }
 
 static void do_compile(void)
@@ -352,25 +413,25 @@ static void do_charmap(void)
 static void do_decode(void)
 {
     struct area *map = read_numbers(), *bytes = read_bytes();
-    struct area *room = lend(read_size(), sizeof(uint32_t));
+    struct area *result = lend(read_size(), sizeof(uint32_t));
     struct area *answer = lend_answer(2);
     if (!ready())
         return;
-    zeharmeku_decode(NUMBERS(map), BYTES(bytes), LENT(uint32_t, room), ANSWER(answer));
+    zeharmeku_decode(NUMBERS(map), BYTES(bytes), LENT(uint32_t, result), ANSWER(answer));
     const uint64_t *said = answer->now;
-    print_result(answer, NULL, room, said[1], NULL);
+    print_result(answer, NULL, result, said[1], NULL);
 }
 
 static void do_encode(void)
 {
     struct area *map = read_numbers(), *string = read_numbers();
-    struct area *room = lend(read_size(), sizeof(uint8_t));
+    struct area *result = lend(read_size(), sizeof(uint8_t));
     struct area *answer = lend_answer(2);
     if (!ready())
         return;
-    zeharmeku_encode(NUMBERS(map), NUMBERS(string), LENT(uint8_t, room), ANSWER(answer));
+    zeharmeku_encode(NUMBERS(map), NUMBERS(string), LENT(uint8_t, result), ANSWER(answer));
     const uint64_t *said = answer->now;
-    print_result(answer, NULL, room, said[1], NULL);
+    print_result(answer, NULL, result, said[1], NULL);
 }
 
 static void do_directory(void)
@@ -391,6 +452,16 @@ static void do_directory(void)
     print_array(list, size);
 }
 
+/* ---- The forbidden pages themselves ---- */
+
+static void do_outside(void)
+{
+    struct area *area = lend(1, sizeof(uint32_t));
+    const volatile unsigned char *bytes = area->now;
+    if (ready())
+        printf("read %d\n", beside == PAGE_AT_END ? bytes[sizeof(uint32_t)] : bytes[-1]);
+}
+
 /* ---- The loop over requests ---- */
 
 static const struct {
@@ -400,7 +471,7 @@ static const struct {
     {"check", do_check},     {"step", do_step},       {"compare", do_compare},
     {"key", do_key},         {"compile", do_compile}, {"charmap", do_charmap},
     {"area", do_area},       {"decode", do_decode},   {"encode", do_encode},
-    {"directory", do_directory},
+    {"directory", do_directory}, {"outside", do_outside},
 };
 
 static void answer_request(char *line)
@@ -418,8 +489,28 @@ static void answer_request(char *line)
     puts("bad request");
 }
 
-int main(void)
+/* Whether the arguments are understood. */
+static int read_arguments(int count, char **arguments)
 {
+    if (count > 2)
+        return 0;
+    if (count < 2 || strcmp(arguments[1], "guards") == 0)
+        beside = GUARDS;
+    else if (strcmp(arguments[1], "end") == 0)
+        beside = PAGE_AT_END;
+    else if (strcmp(arguments[1], "start") == 0)
+        beside = PAGE_AT_START;
+    else
+        return 0;
+    return 1;
+}
+
+int main(int count, char **arguments)
+{
+    if (!read_arguments(count, arguments)) {
+        fputs("driver: the argument is guards, end or start\n", stderr);
+        return 2;
+    }
     char *line = NULL;
     size_t room = 0;
     while (getline(&line, &room, stdin) >= 0) {
