@@ -63,7 +63,8 @@ extern "C" {
 /* A charmap area; numbers behind it are not read. */
 #define ZEHARMEKU_CHARMAP_AREA 512
 
-/* The most stack, in bytes, that a call takes of its thread, whatever the input. */
+/* The most stack, in bytes, that a call takes of its thread, whatever the input (docs/ANSWERS.md). Not counted is what the dynamic linker takes
+ * where it binds memcpy or memset at their first call. */
 #define ZEHARMEKU_STACK_COMPILE 81920
 #define ZEHARMEKU_STACK_CHECK 1024
 #define ZEHARMEKU_STACK_STEP 1024

@@ -1,6 +1,6 @@
 /* The table area that the header publishes, against the sources whose tables are the largest for their length. For each it prints the bytes
- * of the source, the numbers of its table, and how many thousandths of a number each byte gave. A line ends with `too short` where the
- * table does not fit ZEHARMEKU_TABLE_AREA; the exit status is then 1. */
+ * of the source, the numbers of its table, and how many of these each byte gave. Where a table does not fit ZEHARMEKU_TABLE_AREA the line
+ * ends with the refusal, and the exit status is 1. What it prints stands in docs/LINKING.md. */
 #include <stdarg.h>
 #include <stdio.h>
 #include <stdlib.h>
@@ -50,9 +50,9 @@ static void measure(const char *what)
         exit(2);
     }
     zeharmeku_compile_answer made = zeharmeku_do_compile((const uint8_t *)source, length, area, area_count, work, work_count);
-    printf("%s: %zu bytes, %zu numbers, %zu thousandths a byte", what, length, made.size, made.size * 1000 / length);
+    printf("%-38s%9zu%9zu%9.3f", what, length, made.size, (double)made.size / (double)length);
     if (made.refusal != ZEHARMEKU_NONE) {
-        printf(", refusal %d, line %zu%s", (int)made.refusal, made.line, made.refusal == ZEHARMEKU_SHORT_AREA ? ", too short" : "");
+        printf(" line %zu: %s", made.line, zeharmeku_refusal_text(made.refusal));
         failed = 1;
     }
     printf("\n");
@@ -161,6 +161,7 @@ static void moved(const char *what)
 
 int main(void)
 {
+    printf("%-38s%9s%9s%9s\n", "source", "bytes", "numbers", "a byte");
     bare("one level, no line", 1, 0);
     bare("8 levels, no line", 8, 0);
     bare("8 levels, one character", 8, 1);
@@ -170,8 +171,8 @@ int main(void)
     bare("8 levels, 32,767 characters", 8, 32767);
     bare("one level, 32,767 characters", 1, 32767);
     empty_operands("8 levels, empty operands");
-    quoted("8 levels, one of 8 names in quotes", 8, 1);
-    quoted("8 levels, all of 8 names in quotes", 8, 8);
+    quoted("8 levels, one with 8 names in quotes", 8, 1);
+    quoted("8 levels, all with 8 names in quotes", 8, 8);
     elements("8 levels, elements with short names", 0);
     elements("8 levels, elements of a block", 1);
     stated("8 levels, UNDEFINED stated");
