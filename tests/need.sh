@@ -11,9 +11,9 @@ take_install() {
     install=(--install)
 }
 
-# need COMMAND PACKAGE..: notes a command that is missing, with the packages that have what is needed of it.
+# need COMMAND-OR-FILE PACKAGE..: notes what is missing, with the packages that have what is needed of it.
 need() {
-    command -v "$1" >/dev/null && return
+    if [ -e "$1" ] || command -v "$1" >/dev/null; then return; fi
     echo "$0: $1 is missing. Debian's packages for it: ${*:2}" >&2
     missing+=("${@:2}")
 }
