@@ -10,6 +10,8 @@ use Rattle.base_lists.proofs.Lists.{length-zero}
 use Rattle.rules.specs.Text.{every, oneOf, _unless_, lower}
 use Rattle.rules.specs.Tokens.{isText}
 use Rattle.rules.specs.State.{beforeOrder, State, Blocks, Ordered, Outcome, start}
+use Rattle.base_units.specs.declared.Refusal.{Refusal}
+use Rattle.base_units.specs.Numbers.{numberOf}
 use Rattle.text_lines.specs.declared.Signs.{Signs}
 use Rattle.text_lines.specs.declared.LineEnd.{LineEnd}
 use Rattle.text_lines.specs.Stream.{marksLeft, lineStart, LineIs}
@@ -24,7 +26,7 @@ use Rattle.locale_chains.specs.declared.Read.{Read}
 use Rattle.locale_chains.specs.declared.Read.the-variants as read
 use Rattle.locale_chains.specs.Blocks.{Starts, SomeUsed, BranchRead, ClosedRead, RefusedRead, ReadIs}
 use Rattle.locale_category.specs.Category.{firstSheet, strayRefusal, Begun, Ready, ClosedAt, RefusedAt}
-use Rattle.locale_category.proofs.StrayLaws.{stray-line, stray-low, stray-high}
+use Rattle.locale_category.proofs.StrayLaws.{stray-line, stray-some}
 
 -- ## Before the first line
 
@@ -102,10 +104,10 @@ module _ {src w : List ℕ} {at number : ℕ} (v : Ready src w at number) (g : S
           let y : ClosedRead g src w sh at number 0 w′ x next n = subst (ReadIs g src w sh at number 0 w′) f q in
           record { reached = y .reached; behind = y .behind; runs = λ s b. y .runs [] s (held s b) refl refl }
 
-      pub category-refused : {c l : ℕ} → r ≡ read.Refused c l → RefusedAt g src at number c l
+      pub category-refused : {c : Refusal} {l : ℕ} → r ≡ read.Refused c l → RefusedAt g src at number (numberOf c) l
       category-refused {c} {l} f =
-          let y : RefusedRead g src w sh at number 0 c l = subst (ReadIs g src w sh at number 0 w′) f q in
-          record { runs = λ s b. y .runs [] s (held s b) refl refl; low = y .low; high = y .high }
+          let y : RefusedRead g src w sh at number 0 (numberOf c) l = subst (ReadIs g src w sh at number 0 w′) f q in
+          record { runs = λ s b. y .runs [] s (held s b) refl refl }
 
       module _ {x : Sheet} {i n : ℕ} (f : r ≡ read.Branch x i n) where
         there : BranchRead g src w sh at number 0 w′ x i n
@@ -117,7 +119,6 @@ module _ {src w : List ℕ} {at number : ℕ} (v : Ready src w at number) (g : S
         pub category-stray : {c : ℕ} → c ≡ strayRefusal g src i → RefusedAt g src at number c n
         category-stray {c} h =
             let marks = marksLeft g src (lineStart i) in
-            let low : 2 ≤ c = rw h (stray-low (every isText marks)) in
             record {
               runs = λ s b.
                   let a = there .runs [] s (held s b) refl refl in
@@ -127,9 +128,7 @@ module _ {src w : List ℕ} {at number : ℕ} (v : Ready src w at number) (g : S
                   (ap (λ (z : Outcome). z .refusal) (read-whole g src w′ x [] i (a .after) o refl n marks)
                   ∙ stray-line (a .after) n (o .chains) (o .inside) marks (there .own .either)
                   ∙ sym h)
-                  (λ z. omega (arith, z, low)));
-              low = low;
-              high = rw h (stray-high (every isText marks));
+                  (λ z. stray-some (every isText marks) (sym h ∙ z)));
             }
 
 -- the refusal of the line at a place

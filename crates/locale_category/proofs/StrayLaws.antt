@@ -3,7 +3,7 @@ use mathlib.Core.Path.{_≡_, refl, ap, _∙_}
 use mathlib.Core.Logic.{_⊎_, inl, inr}
 use mathlib.Core.Bool.{Bool, true, false, not, _&&_, and-false, false≢true}
 use mathlib.Core.List.{List, [], _∷_}
-use Prim.Native.Nat.{ℕ, _≤_}
+use Prim.Native.Nat.{ℕ}
 use Prim.Native.String.{String}
 use native.Mathlib.Omega.{arith}
 use lib.ListN.{length, getD}
@@ -72,12 +72,7 @@ module _ (s : State) (number : ℕ) (none : s .blocks .chains ≡ []) where
 
 -- ## Its refusal
 
-pub stray-low : (text : Bool) → 2 ≤ lower (2 unless text) 3
+pub stray-some : (text : Bool) → lower (2 unless text) 3 ≡ 0 → ⊥
 unfolding lower
-stray-low true = omega arith
-stray-low false = omega arith
-
-pub stray-high : (text : Bool) → lower (2 unless text) 3 ≤ 7
-unfolding lower
-stray-high true = omega arith
-stray-high false = omega arith
+stray-some true e = omega (arith, e)
+stray-some false e = omega (arith, e)

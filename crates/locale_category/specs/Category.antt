@@ -2,13 +2,14 @@
 use mathlib.Core.Path.{_≡_}
 use mathlib.Core.Bool.{true, false}
 use mathlib.Core.List.{List, []}
-use Prim.Native.Nat.{ℕ, _≤_}
+use Prim.Native.Nat.{ℕ}
 use lib.ListN.{length, drop, replicate}
 use lib.Dec.{eqb}
 use Rattle.rules.specs.Text.{every, _unless_, lower}
 use Rattle.rules.specs.Tokens.{isText}
 use Rattle.rules.specs.State.{beforeOrder, State, start}
 use Rattle.rules.specs.Source.{linesFrom}
+use Rattle.base_units.specs.Numbers.{numberOf}
 use Rattle.text_lines.specs.declared.Signs.{Signs}
 use Rattle.text_lines.specs.Stream.{marksLeft, lineStart}
 use Rattle.locale_skips.specs.Passing.{Refuses}
@@ -58,9 +59,7 @@ pub record ClosedAt (g : Signs) (src : List ℕ) (at number : ℕ) (w′ : List 
 -- A line is refused, or END LC_COLLATE is missing.
 pub record RefusedAt (g : Signs) (src : List ℕ) (at number r l : ℕ) : Type 0 where
   pub runs : (s : State) → Begun g s → Refuses (linesFrom s number 0 (drop at src)) r l
-  pub low : 2 ≤ r
-  pub high : r ≤ 7
 
 abbrev pub CategoryIs : Signs → List ℕ → ℕ → ℕ → List ℕ → Category → Type 0
 CategoryIs g src at number w′ (category.Closed sh next n) = ClosedAt g src at number w′ sh next n
-CategoryIs g src at number w′ (category.Refused r l) = RefusedAt g src at number r l
+CategoryIs g src at number w′ (category.Refused r l) = RefusedAt g src at number (numberOf r) l

@@ -2,10 +2,12 @@
 ghost use mathlib.Core.Path.{_≡_};
 ghost use Prim.Native.Nat.{_≤_};
 ghost use lib.ListN.{length};
+ghost use Rattle.base_units.specs.Numbers.{numberOf};
 ghost use Rattle.locale_category.specs.Category.{firstSheet, strayRefusal, Ready, CategoryIs};
+use base_units::Refusal;
 use locale_chains::Read;
 use locale_chains::block;
-use locale_opening::refusal_with;
+use locale_opening::malformed;
 use locale_sheet::BEFORE_ORDER;
 use locale_sheet::Block;
 use locale_sheet::Sheet;
@@ -19,7 +21,7 @@ use work_order::Order;
 // its line.
 pub enum Category {
     Closed(Sheet, usize, usize),
-    Refused(u8, usize),
+    Refused(Refusal, usize),
 }
 
 // The sheet before the first line.
@@ -45,9 +47,9 @@ fn first_sheet() -> Sheet
 }
 
 // The refusal of a line of elif, else or endif outside every chain.
-fn stray_refusal(src: &[u8], g: Signs, at: usize) -> u8
+fn stray_refusal(src: &[u8], g: Signs, at: usize) -> Refusal
     requires { ⌜ at ≤ length (now src) ⌝ }
-    ensures { λ r. ⌜ r ≡ strayRefusal g (now (src .entry)) at ⌝ }
+    ensures { λ r. ⌜ numberOf r ≡ strayRefusal g (now (src .entry)) at ⌝ }
 {
     let p = Spot {
         at: at,
@@ -55,7 +57,7 @@ fn stray_refusal(src: &[u8], g: Signs, at: usize) -> u8
         fresh: true,
     };
     let e = line_end(src, g, p);
-    refusal_with(e.text, 3)
+    malformed(e.text)
 }
 
 // The lines from a place on, with an empty work area.

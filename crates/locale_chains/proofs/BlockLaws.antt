@@ -10,6 +10,9 @@ use Rattle.rules.specs.State.{betweenCategories, beforeOrder, Chain, State, toP
 use Rattle.rules.specs.Lines.{Scan}
 use Rattle.rules.specs.Source.{linesFrom, lineOutcome}
 use Rattle.rules.proofs.RunLaws.{lineAt, outcomeAt, run-at}
+use Rattle.base_units.specs.declared.Refusal.{Refusal}
+use Rattle.base_units.specs.Numbers.{numberOf}
+use Rattle.base_units.proofs.NumberLaws.{numberOf-some}
 use Rattle.text_lines.specs.declared.Signs.{Signs}
 use Rattle.text_lines.specs.Stream.{lineStart, marksLeft, endOf}
 use Rattle.locale_skips.proofs.LineRuns.{collate-signs, some-left, line-there, outcome-there, run-refuses, run-unended, refuses-from}
@@ -105,16 +108,14 @@ module _ {g : Signs} {src w₀ : List ℕ} {sh : Sheet} {at number depth : ℕ} 
         let y : NextIs g src w s i n depth w′ x next k = subst (StepIs g src w s i n depth w′) e q in
         let a = y .moves .on in let b = y .moves .to in omega (arith, a, b)
 
-    pub going-refused : {r : ℕ} → i < length src → t ≡ step.Refused r → RefusedRead g src w₀ sh at number depth r n
+    pub going-refused : {r : Refusal} → i < length src → t ≡ step.Refused r → RefusedRead g src w₀ sh at number depth (numberOf r) n
     going-refused {r} h e =
-        let y : RefusedIs g src w s i n depth r = subst (StepIs g src w s i n depth w′) e q in
+        let y : RefusedIs g src w s i n depth (numberOf r) = subst (StepIs g src w s i n depth w′) e q in
         record {
           runs = λ cs t o d u. let a = v .runs cs t o d u in
               refuses-from (a .run)
-              (run-refuses g src i n (a .after) (collate-signs g (a .after) (a .held .comment) (a .held .escape) (a .held .inside)) r h
-              (y .refusal cs (a .after) (a .held) d u) (λ z. let l = y .low in omega (arith, z, l)));
-          low = y .low;
-          high = y .high;
+              (run-refuses g src i n (a .after) (collate-signs g (a .after) (a .held .comment) (a .held .escape) (a .held .inside)) (numberOf r) h
+              (y .refusal cs (a .after) (a .held) d u) (numberOf-some r));
         }
 
     pub going-branch : i < length src → t ≡ step.Branch → BranchRead g src w₀ sh at number depth w′ s i n
@@ -192,14 +193,12 @@ module _ {g : Signs} {src w₀ : List ℕ} {sh : Sheet} {at number depth : ℕ} 
             let u : ChainNext g src w′ x next (n + k) depth holds w″ y j m = subst (ChainedIs g src w′ x next (n + k) depth holds w″) f z in
             let a = opens .moves .on in let b = u .reached .from in let d = u .reached .to in omega (arith, a, b, d)
 
-        pub going-chain-refused : {r l : ℕ} → c ≡ chained.Refused r l → RefusedRead g src w₀ sh at number depth r l
+        pub going-chain-refused : {r : Refusal} {l : ℕ} → c ≡ chained.Refused r l → RefusedRead g src w₀ sh at number depth (numberOf r) l
         going-chain-refused {r} {l} f =
-            let u : ChainRefused g src w′ x next (n + k) depth holds r l = subst (ChainedIs g src w′ x next (n + k) depth holds w″) f z in
+            let u : ChainRefused g src w′ x next (n + k) depth holds (numberOf r) l = subst (ChainedIs g src w′ x next (n + k) depth holds w″) f z in
             record {
               runs = λ cs t o d i′. let a = v .runs cs t o d i′ in let h = opens .leaves cs (a .after) (a .held) d i′ in
                   refuses-from (a .run ∙ run-moved g src w s cs i n next k (a .after) (h .after) (a .held) (opens .moves) (h .outcome)) (u .runs cs (h .after) (h .held) d);
-              low = u .low;
-              high = u .high;
             }
 
   -- the source ends inside LC_COLLATE
@@ -209,6 +208,4 @@ module _ {g : Signs} {src w₀ : List ℕ} {sh : Sheet} {at number depth : ℕ} 
         refuses-from (a .run)
         (run-unended src i n (a .after)
         (ne-eqb (a .after .place .phase) betweenCategories (λ z. let l = leb-true beforeOrder (a .after .place .phase) (a .held .inside) in omega (arith, z, l))) h);
-    low = omega arith;
-    high = omega arith;
   }

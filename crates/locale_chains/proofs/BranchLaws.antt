@@ -1,15 +1,14 @@
 -- The end of a branch of a chain: of one that is read, and of one that is passed over.
 use mathlib.Core.Path.{_≡_, refl, _∙_, subst}
-use mathlib.Core.Bool.{Bool, true, false, _||_}
+use mathlib.Core.Bool.{Bool, true, false}
 use mathlib.Core.List.{List, _∷_}
-use Prim.Native.Nat.{ℕ, _+_, _≤_, _<_}
+use Prim.Native.Nat.{ℕ, _+_, _<_}
 use native.Mathlib.Omega.{arith}
 use lib.ListN.{length}
-use lib.Dec.{eqb}
-use borrow.Author.Tests.{eqb-true}
-use Rattle.base_lists.proofs.Bools.{by}
 use Rattle.rules.specs.State.{Chain, State}
 use Rattle.rules.specs.Conditionals.{chain}
+use Rattle.base_units.specs.declared.Refusal.{Refusal}
+use Rattle.base_units.specs.Numbers.{numberOf}
 use Rattle.text_lines.specs.declared.Signs.{Signs}
 use Rattle.text_lines.specs.Stream.{lineStart, marksLeft}
 use Rattle.locale_skips.specs.declared.Skip.{Skip}
@@ -47,10 +46,10 @@ module _ {g : Signs} {src w : List ℕ} {sh : Sheet} {at number depth : ℕ} {us
   used-some u = record { used = u; some = used-open }
 
   module _ (w′ : List ℕ) (r : Read) (q : ReadIs g src w sh at number (depth + 1) w′ r) (u : used ≡ true) where
-    pub used-refused : {c l : ℕ} → r ≡ read.Refused c l → EndRefused g src w sh at number depth used c l
+    pub used-refused : {c : Refusal} {l : ℕ} → r ≡ read.Refused c l → EndRefused g src w sh at number depth used (numberOf c) l
     used-refused {c} {l} e =
-        let y : RefusedRead g src w sh at number (depth + 1) c l = subst (ReadIs g src w sh at number (depth + 1) w′) e q in
-        record { runs = λ t k cs s o d. y .runs (chain t used k ∷ cs) s o (let z = d in omega (arith, z)) u; low = y .low; high = y .high }
+        let y : RefusedRead g src w sh at number (depth + 1) (numberOf c) l = subst (ReadIs g src w sh at number (depth + 1) w′) e q in
+        record { runs = λ t k cs s o d. y .runs (chain t used k ∷ cs) s o (let z = d in omega (arith, z)) u }
 
     pub used-closed : {x : Sheet} {j m c l : ℕ} → r ≡ read.Closed x j m → EndRefused g src w sh at number depth used c l
     used-closed {x} {j} {m} e =
@@ -75,17 +74,10 @@ module _ {g : Signs} {src w : List ℕ} {sh : Sheet} {at number depth : ℕ} {us
       unused-chain g (depth + 1) s t k cs (o .comment) (o .escape) (o .inside) (o .inner) (o .chains ∙ rw n) (omega (arith, d))
 
   module _ (p : Skip) (q : BranchIs g src at number (depth + 1) p) (u : used ≡ false) where
-    pub passed-refused : {c l : ℕ} → p ≡ skip.Refused c l → EndRefused g src w sh at number depth used c l
+    pub passed-refused : {c : Refusal} {l : ℕ} → p ≡ skip.Refused c l → EndRefused g src w sh at number depth used (numberOf c) l
     passed-refused {c} {l} e =
-        let y : BranchRefused g src at number (depth + 1) c l = subst (BranchIs g src at number (depth + 1)) e q in
-        let b : (2 ≤ c) × (c ≤ 7) = kinds-in c (y .kinds) in
-        record { runs = λ t k cs s o d. y .run s (unused at t k cs s u o d); low = b .0; high = b .1 }
-      where
-        kinds-in : (c : ℕ) → (eqb c 3 || eqb c 7) ≡ true → (2 ≤ c) × (c ≤ 7)
-        kinds-in c h =
-            by (eqb c 3)
-            (λ t. let e = eqb-true c 3 t in (omega (arith, e), omega (arith, e)))
-            (λ t. let e = eqb-true c 7 (rw t at h) in (omega (arith, e), omega (arith, e)))
+        let y : BranchRefused g src at number (depth + 1) (numberOf c) l = subst (BranchIs g src at number (depth + 1)) e q in
+        record { runs = λ t k cs s o d. y .run s (unused at t k cs s u o d) }
 
     pub passed-stop : {j m : ℕ} → p ≡ skip.Stop j m → EndedAt g src w sh at number depth used w sh j m
     passed-stop {j} {m} e =

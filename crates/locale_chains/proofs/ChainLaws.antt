@@ -7,6 +7,9 @@ use native.Mathlib.Omega.{arith}
 use lib.ListN.{length}
 use Rattle.rules.specs.State.{Chain, State, Outcome}
 use Rattle.rules.specs.Conditionals.{chain}
+use Rattle.base_units.specs.declared.Refusal.{Refusal}
+use Rattle.base_units.specs.Numbers.{numberOf}
+use Rattle.base_units.proofs.NumberLaws.{numberOf-some}
 use Rattle.text_lines.specs.declared.Signs.{Signs}
 use Rattle.text_lines.specs.Stream.{lineStart, marksLeft}
 use Rattle.locale_skips.proofs.LineRuns.{collate-signs, run-refuses, refuses-from}
@@ -70,10 +73,10 @@ module _ {g : Signs} {src w₀ : List ℕ} {sh : Sheet} {at number depth : ℕ} 
   chaining-long = v .long
 
   module _ (w′ : List ℕ) (e : Ended) (q : EndedIs g src w s i n depth used w′ e) where
-    pub chain-refused : {r l : ℕ} → e ≡ ended.Refused r l → ChainRefused g src w₀ sh at number depth holds r l
+    pub chain-refused : {r : Refusal} {l : ℕ} → e ≡ ended.Refused r l → ChainRefused g src w₀ sh at number depth holds (numberOf r) l
     chain-refused {r} {l} f =
-        let y : EndRefused g src w s i n depth used r l = subst (EndedIs g src w s i n depth used w′) f q in
-        record { runs = λ cs t o d. let a = v .runs cs t o d in refuses-from (a .run) (y .runs taken closed cs (a .after) (a .held) d); low = y .low; high = y .high }
+        let y : EndRefused g src w s i n depth used (numberOf r) l = subst (EndedIs g src w s i n depth used w′) f q in
+        record { runs = λ cs t o d. let a = v .runs cs t o d in refuses-from (a .run) (y .runs taken closed cs (a .after) (a .held) d) }
 
     module _ {x : Sheet} {j m : ℕ} (f : e ≡ ended.At x j m) where
       there : EndedAt g src w s i n depth used w′ x j m
@@ -97,17 +100,15 @@ module _ {g : Signs} {src w₀ : List ℕ} {sh : Sheet} {at number depth : ℕ} 
           record { after = b .after; run = a .run ∙ b .run; held = b .held; chars = b .chars ∙ a .chars }
 
       module _ (w″ : List ℕ) (t : Turn) (z : TurnIs g src w′ x j m taken closed w″ t) where
-        pub turn-refused : {r : ℕ} → t ≡ turn.Refused r → ChainRefused g src w₀ sh at number depth holds r m
+        pub turn-refused : {r : Refusal} → t ≡ turn.Refused r → ChainRefused g src w₀ sh at number depth holds (numberOf r) m
         turn-refused {r} h =
-            let y : TurnRefused g src w′ x j m taken closed r = subst (TurnIs g src w′ x j m taken closed w″) h z in
+            let y : TurnRefused g src w′ x j m taken closed (numberOf r) = subst (TurnIs g src w′ x j m taken closed w″) h z in
             record {
               runs = λ cs t o d. let a = to-line cs t o d in
                   refuses-from (a .run)
-                  (run-refuses g src j m (a .after) (collate-signs g (a .after) (a .held .comment) (a .held .escape) (a .held .inside)) r (there .inside)
+                  (run-refuses g src j m (a .after) (collate-signs g (a .after) (a .held .comment) (a .held .escape) (a .held .inside)) (numberOf r) (there .inside)
                   (ap (λ (o : Outcome). o .refusal) (there .whole taken closed cs (a .after) (a .held) d m) ∙ y .refusal used cs (a .after) (a .held))
-                  (λ e. let l = y .low in omega (arith, e, l)));
-              low = y .low;
-              high = y .high;
+                  (numberOf-some r));
             }
 
         pub turn-ends : {y : Sheet} {next k : ℕ} → t ≡ turn.Ends y next k → ChainNext g src w₀ sh at number depth holds w″ y next (m + k)

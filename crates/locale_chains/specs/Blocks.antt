@@ -8,6 +8,7 @@ use lib.Dec.{eqb}
 use Rattle.rules.specs.State.{beforeOrder, betweenCategories, Chain, State, toPhase}
 use Rattle.rules.specs.Conditionals.{chain}
 use Rattle.rules.specs.Source.{wholeLine, lineOutcome, linesFrom}
+use Rattle.base_units.specs.Numbers.{numberOf}
 use Rattle.text_lines.specs.declared.Signs.{Signs}
 use Rattle.text_lines.specs.Stream.{marksLeft, lineStart}
 use Rattle.locale_skips.specs.Passing.{Refuses}
@@ -68,13 +69,11 @@ pub record ClosedRead (g : Signs) (src w : List ℕ) (sh : Sheet) (at number dep
 
 pub record RefusedRead (g : Signs) (src w : List ℕ) (sh : Sheet) (at number depth r l : ℕ) : Type 0 where
   pub runs : Every g src w sh at depth (λ (cs : List Chain) (s : State). Refuses (linesFrom s number 0 (drop at src)) r l)
-  pub low : 2 ≤ r
-  pub high : r ≤ 7
 
 abbrev pub ReadIs : Signs → List ℕ → List ℕ → Sheet → ℕ → ℕ → ℕ → List ℕ → Read → Type 0
 ReadIs g src w sh at number depth w′ (read.Branch sh′ next n) = BranchRead g src w sh at number depth w′ sh′ next n
 ReadIs g src w sh at number depth w′ (read.Closed sh′ next n) = ClosedRead g src w sh at number depth w′ sh′ next n
-ReadIs g src w sh at number depth w′ (read.Refused r l) = RefusedRead g src w sh at number depth r l
+ReadIs g src w sh at number depth w′ (read.Refused r l) = RefusedRead g src w sh at number depth (numberOf r) l
 
 -- ## A chain
 
@@ -107,12 +106,10 @@ pub record EndedAt (g : Signs) (src w : List ℕ) (sh : Sheet) (at number depth 
 
 pub record EndRefused (g : Signs) (src w : List ℕ) (sh : Sheet) (at number depth : ℕ) (used : Bool) (r l : ℕ) : Type 0 where
   pub runs : (taken closed : Bool) → EveryIn g src w sh at depth taken used closed (λ (cs : List Chain) (s : State). Refuses (linesFrom s number 0 (drop at src)) r l)
-  pub low : 2 ≤ r
-  pub high : r ≤ 7
 
 abbrev pub EndedIs : Signs → List ℕ → List ℕ → Sheet → ℕ → ℕ → ℕ → Bool → List ℕ → Ended → Type 0
 EndedIs g src w sh at number depth used w′ (ended.At sh′ next n) = EndedAt g src w sh at number depth used w′ sh′ next n
-EndedIs g src w sh at number depth used w′ (ended.Refused r l) = EndRefused g src w sh at number depth used r l
+EndedIs g src w sh at number depth used w′ (ended.Refused r l) = EndRefused g src w sh at number depth used (numberOf r) l
 
 -- Some state is held with a chain just opened.
 pub record ChainBegins (g : Signs) (src w : List ℕ) (sh : Sheet) (at number depth : ℕ) (holds : Bool) : Type 0 where
@@ -131,9 +128,7 @@ pub record ChainNext (g : Signs) (src w : List ℕ) (sh : Sheet) (at number dept
 
 pub record ChainRefused (g : Signs) (src w : List ℕ) (sh : Sheet) (at number depth : ℕ) (holds : Bool) (r l : ℕ) : Type 0 where
   pub runs : EveryIn g src w sh at depth holds holds false (λ (cs : List Chain) (s : State). Refuses (linesFrom s number 0 (drop at src)) r l)
-  pub low : 2 ≤ r
-  pub high : r ≤ 7
 
 abbrev pub ChainedIs : Signs → List ℕ → List ℕ → Sheet → ℕ → ℕ → ℕ → Bool → List ℕ → Chained → Type 0
 ChainedIs g src w sh at number depth holds w′ (chained.Next sh′ next n) = ChainNext g src w sh at number depth holds w′ sh′ next n
-ChainedIs g src w sh at number depth holds w′ (chained.Refused r l) = ChainRefused g src w sh at number depth holds r l
+ChainedIs g src w sh at number depth holds w′ (chained.Refused r l) = ChainRefused g src w sh at number depth holds (numberOf r) l

@@ -1,5 +1,6 @@
 // The lines of LC_COLLATE: the reader of a block and the reader of one conditional chain call each other, the unread bytes of the source falling.
 ghost use Rattle.locale_chains.specs.Blocks.{Starts, SomeUsed, ReadIs, InBranch, EndedIs, ChainBegins, ChainedIs};
+use base_units::Refusal;
 use locale_conditionals::Turn;
 use locale_conditionals::branch_line;
 use locale_dispatch::line_step;
@@ -16,19 +17,19 @@ pub enum Read {
     // after END LC_COLLATE: the sheet before it, and the place and the number of the line after it
     Closed(Sheet, usize, usize),
     // a refusal, and its line
-    Refused(u8, usize),
+    Refused(Refusal, usize),
 }
 
 // Where a branch ends: at a line of its chain, or at a refusal.
 pub enum Ended {
     At(Sheet, usize, usize),
-    Refused(u8, usize),
+    Refused(Refusal, usize),
 }
 
 // Where a chain ends: after its endif, or at a refusal.
 pub enum Chained {
     Next(Sheet, usize, usize),
-    Refused(u8, usize),
+    Refused(Refusal, usize),
 }
 
 // The lines of a block, from a place on: to a line of the chain that it stands in, to END LC_COLLATE, or to a refusal.
@@ -71,7 +72,7 @@ pub fn block(
             }
         }
     }
-    Read::Refused(3, n)
+    Read::Refused(Refusal::Malformed, n)
 }
 
 // The end of the present branch of a chain: a used one is read, another one passed over.
@@ -92,7 +93,7 @@ fn branch_end(
         let b = block(src, g, work, sh, at, number, depth + 1);
         match b {
             Read::Refused(r, l) => return Ended::Refused(r, l),
-            Read::Closed(_, _, m) => return Ended::Refused(3, m),
+            Read::Closed(_, _, m) => return Ended::Refused(Refusal::Malformed, m),
             Read::Branch(x, j, m) => return Ended::At(x, j, m),
         }
     }

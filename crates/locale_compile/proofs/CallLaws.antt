@@ -16,6 +16,7 @@ use Rattle.rules.specs.Calls.{cleared, compiledAs, compileCall}
 use Rattle.base_units.specs.Numbers.{numberOf}
 use Rattle.base_units.specs.declared.Refusal.{Refusal}
 use Rattle.base_units.specs.declared.Refusal.the-variants.{TooLong}
+use Rattle.base_units.proofs.NumberLaws.{numberOf-some}
 use Rattle.text_lines.specs.declared.Signs.{Signs}
 use Rattle.work_rows.specs.Cells.{cell}
 use Rattle.locale_sheet.specs.declared.Sheet.{Sheet}
@@ -34,20 +35,10 @@ module _ (src w : List ℕ) (v : Source) (k : SourceIs src w v) where
   pub source-whole : {g : Signs} {sh : Sheet} → v ≡ source.Lines g sh → WholeSource src w g sh
   source-whole i = subst (SourceIs src w) i k
 
-  module _ (n l : ℕ) (i : v ≡ source.Refused n l) where
-    told : RefusedSource src n l
-    told = subst (SourceIs src w) i k
-
-    pub refused-low : 2 ≤ n
-    refused-low = told .low
-
-    pub refused-high : n ≤ 7
-    refused-high = told .high
-
-    pub refused-line : (area : List ℕ) (r : Refusal) → numberOf r ≡ n → AnswerIs src area area (Refused r l)
-    refused-line area r e =
-        answer-refused src area r l
-        (finish-refused (length area) (linesFrom start 1 0 src) (numberOf r) l (record { refusal = told .run .refusal ∙ sym e; line = told .run .line }) (let h = told .low in omega (arith, h, e)))
+  pub refused-line : (r : Refusal) (l : ℕ) → v ≡ source.Refused r l → (area : List ℕ) → AnswerIs src area area (Refused r l)
+  refused-line r l i area =
+      let told : RefusedSource src (numberOf r) l = subst (SourceIs src w) i k in
+      answer-refused src area r l (finish-refused (length area) (linesFrom start 1 0 src) (numberOf r) l (told .run) (numberOf-some r))
 
 -- ## The call
 

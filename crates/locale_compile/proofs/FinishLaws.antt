@@ -24,9 +24,9 @@ use Rattle.locale_compile.specs.Finishing.{AnswerIs}
 
 module _ (area : ℕ) (e : Ended) where
   -- a line is refused
-  pub finish-refused : (r l : ℕ) → Refuses e r l → 2 ≤ r → finish area e ≡ refused r l
+  pub finish-refused : (r l : ℕ) → Refuses e r l → (r ≡ 0 → ⊥) → finish area e ≡ refused r l
   finish-refused r l f h =
-      finish-line area e (λ z. let y = f .refusal in omega (arith, z, y, h)) ∙ ap (λ (x : ℕ). refused x (e .line)) (f .refusal) ∙ ap (refused r) (f .line)
+      finish-line area e (λ z. h (sym (f .refusal) ∙ z)) ∙ ap (λ (x : ℕ). refused x (e .line)) (f .refusal) ∙ ap (refused r) (f .line)
 
   module _ (s : State) (i : e ≡ ended 0 0 s) where
     -- a weight has no rank

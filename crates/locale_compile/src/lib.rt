@@ -4,7 +4,6 @@ ghost use Prim.Native.Nat.{_+_, _≤_};
 ghost use lib.ListN.{length};
 ghost use lib.Dec.{eqb};
 ghost use Rattle.rules.specs.Calls.{compileCall};
-ghost use Rattle.base_units.specs.Numbers.{numberOf};
 ghost use Rattle.work_rows.specs.Cells.{cell};
 ghost use Rattle.work_order.specs.Listed.{placeNumber};
 ghost use Rattle.work_store.specs.Store.{undefinedMark};
@@ -31,29 +30,6 @@ use work_store::undefined_mark;
 pub enum Compiled {
     Done(usize),
     Refused(Refusal, usize),
-}
-
-// The refusal of a line of a locale source, by its number.
-fn refusal_of(n: u8) -> Refusal
-    requires { ⌜ (2 ≤ n) × (n ≤ 7) ⌝ }
-    ensures { λ r. ⌜ numberOf r ≡ n ⌝ }
-{
-    if n == 2 {
-        return Refusal::BadByte;
-    }
-    if n == 3 {
-        return Refusal::Malformed;
-    }
-    if n == 4 {
-        return Refusal::BadRule;
-    }
-    if n == 5 {
-        return Refusal::Twice;
-    }
-    if n == 6 {
-        return Refusal::Unknown;
-    }
-    Refusal::TooMany
 }
 
 // Whether UNDEFINED has no order line, so that it is supplied: its row is the one behind those of the source.
@@ -126,7 +102,7 @@ fn compile_lines(src: &[u8], area: &mut [u32], work: &mut [u32]) -> Compiled
 {
     let s = source_lines(src, work);
     match s {
-        Source::Refused(r, line) => return Compiled::Refused(refusal_of(r), line),
+        Source::Refused(r, line) => return Compiled::Refused(r, line),
         Source::Lines(g, sh) => return finish(src, g, work, sh, area),
     }
 }

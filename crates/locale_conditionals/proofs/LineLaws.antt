@@ -1,5 +1,5 @@
 -- Which line an open chain reads: how it begins, and its word.
-use mathlib.Core.Path.{_≡_, refl, sym, ap, _∙_, subst}
+use mathlib.Core.Path.{_≡_, sym, ap, _∙_, subst}
 use mathlib.Core.Logic.{_⊎_, inl, inr}
 use mathlib.Core.Bool.{Bool, true, false}
 use mathlib.Core.List.{List}
@@ -23,7 +23,6 @@ use Rattle.locale_opening.specs.Begun.{operandsAfter, refusedWith, BlankLine, F
 use Rattle.locale_sheet.specs.declared.Sheet.{Sheet}
 use Rattle.locale_sheet.specs.Words.{isTurn, turnsFirst, Malformed, TurnLine, WordLine}
 use Rattle.locale_conditionals.specs.Turns.{TurnRefused, MayTurn, WordTurn, KeyTurn}
-use Rattle.locale_conditionals.proofs.StepLaws.{with-low, with-high}
 
 -- ## A line that opens with a word
 
@@ -68,8 +67,6 @@ module _ {g : Signs} {src work : List ℕ} {sh : Sheet} {at : ℕ} (m : MayTurn 
       go (inr h) =
           record {
             refusal = λ used cs s o. h s number (o .inside) ∙ ap (λ (b : Bool). lower (2 unless b) 3) (l .text) ∙ sym y;
-            low = rw y (with-low (e .text) 3 (inl refl));
-            high = rw y (with-high (e .text) 3 (inl refl));
           }
 
   module _ {o : Opening} (v : OpeningIs g src at o) where
@@ -81,8 +78,6 @@ module _ {g : Signs} {src work : List ℕ} {sh : Sheet} {at : ℕ} (m : MayTurn 
         let b : FoulLine g src at e = subst (OpeningIs g src at) h v in
         record {
           refusal = λ used cs s o. b .refusal s number (o .inside) ∙ sym y;
-          low = rw y (with-low (e .text) 3 (inl refl));
-          high = rw y (with-high (e .text) 3 (inl refl));
         }
 
     pub opens-name : {q : Spot} {t : Tok} {e : LineEnd} {x : ℕ} → o ≡ opening.Name q t e → x ≡ lower (2 unless e .text) 3 → TurnRefused g src work sh at number taken closed x

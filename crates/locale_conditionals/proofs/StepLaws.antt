@@ -37,20 +37,24 @@ use Rattle.locale_conditionals.specs.Turned.{defining, setFor, testing, 
 
 -- ## Refusals
 
--- a refusal of the operands, beside that of bytes that are no text
-pub with-low : (t : Bool) (r : ℕ) → (r ≡ 3) ⊎ (r ≡ 7) → 2 ≤ lower (2 unless t) r
-unfolding lower
-with-low true r (inl e) = rw e (omega arith)
-with-low true r (inr e) = rw e (omega arith)
-with-low false r (inl e) = rw e (omega arith)
-with-low false r (inr e) = rw e (omega arith)
+-- a refusal of the operand is one of those that a line has
+which-low : (r : ℕ) → (r ≡ 3) ⊎ (r ≡ 7) → 2 ≤ r
+which-low r (inl e) = omega (arith, e)
+which-low r (inr e) = omega (arith, e)
 
-pub with-high : (t : Bool) (r : ℕ) → (r ≡ 3) ⊎ (r ≡ 7) → lower (2 unless t) r ≤ 7
-unfolding lower
-with-high true r (inl e) = rw e (omega arith)
-with-high true r (inr e) = rw e (omega arith)
-with-high false r (inl e) = rw e (omega arith)
-with-high false r (inr e) = rw e (omega arith)
+which-high : (r : ℕ) → (r ≡ 3) ⊎ (r ≡ 7) → r ≤ 7
+which-high r (inl e) = omega (arith, e)
+which-high r (inr e) = omega (arith, e)
+
+module _ (g : Signs) (src work after : List ℕ) (base n : ℕ) (os : List Token) (set : Set) (t : Toggled) (v : ToggledIs g src work after base n os set t) (r : ℕ) (f : t ≡ toggled.Refused r) where
+  told : named.RefusedIs g src work after base n os r
+  told = subst (ToggledIs g src work after base n os set) f v
+
+  pub toggled-low : 2 ≤ r
+  toggled-low = which-low r (told .which)
+
+  pub toggled-high : r ≤ 7
+  toggled-high = which-high r (told .which)
 
 -- an outcome, and the refusals of bytes that are no text and of tokens
 abbrev pub withRefusals : Bool → ℕ → Outcome → Outcome
@@ -99,8 +103,6 @@ module _ {g : Signs} {src work : List ℕ} {sh : Sheet} {at depth : ℕ} {p : Sp
         refusal = λ cs s o d u.
             ap (λ (x : Outcome). x .refusal) (outcome-of number cs s o u)
             ∙ rw f (two-first (lower (tokensRefusal os) (collateLine s number w os .refusal)) (late-lower (tokensRefusal os) _ (late-tokens os) (late-collate s number w os)));
-        low = omega arith;
-        high = omega arith;
       }
 
 -- ## define and undef
@@ -142,8 +144,6 @@ module _ {g : Signs} {src work : List ℕ} {sh : Sheet} {at depth : ℕ} {p : Sp
             ∙ ap (λ (x : Outcome). lower (2 unless e .text) (lower (tokensRefusal os) (x .refusal))) (collate-define s number os on)
             ∙ ap (lower (2 unless e .text)) (define-refused z s (o .toggles) on)
             ∙ sym y;
-        low = rw y (with-low (e .text) r (z .which));
-        high = rw y (with-high (e .text) r (z .which));
       }
 
 -- ## ifdef and ifndef
@@ -187,8 +187,6 @@ module _ {g : Signs} {src work : List ℕ} {sh : Sheet} {at depth : ℕ} {p : Sp
   if-deep f h l =
       record {
         refusal = λ cs s o d u. ap (λ (x : Outcome). x .refusal) (if-outcome f h cs s o u) ∙ rw (d, le-ltb depth 8 l);
-        low = omega arith;
-        high = omega arith;
       }
 
   pub if-refuses : {r x : ℕ} → t ≡ toggled.Refused r → x ≡ lower (2 unless e .text) r → RefusedIs g src work sh at number depth x
@@ -202,6 +200,4 @@ module _ {g : Signs} {src work : List ℕ} {sh : Sheet} {at depth : ℕ} {p : Sp
             ∙ ap (λ (x : Outcome). lower (2 unless e .text) (lower (tokensRefusal os) (x .refusal))) (collate-if s number os wanted)
             ∙ ap (lower (2 unless e .text)) (if-refused z s (o .toggles) wanted)
             ∙ sym y;
-        low = rw y (with-low (e .text) r (z .which));
-        high = rw y (with-high (e .text) r (z .which));
       }

@@ -1,6 +1,5 @@
 -- The lines of elif, else and endif as the open chain reads them: from what is told of their operands to what the area and the sheet hold.
 use mathlib.Core.Path.{_≡_, refl, sym, ap, _∙_, subst}
-use mathlib.Core.Logic.{_⊎_, inl}
 use mathlib.Core.Bool.{Bool, true, false, not, _&&_, _||_, and-false}
 use mathlib.Core.List.{List, [], _∷_}
 use Prim.Native.Nat.{ℕ, _≤_, _<_}
@@ -33,7 +32,7 @@ use Rattle.locale_sheet.specs.Words.{WordLine}
 use Rattle.locale_sheet.proofs.SheetLaws.{open-turned}
 use Rattle.locale_conditionals.specs.Turned.{withToggles}
 use Rattle.locale_conditionals.specs.Turns.{EveryChain, GoesIs, EndsIs, TurnRefused, KeyTurn}
-use Rattle.locale_conditionals.proofs.StepLaws.{with-low, with-high, withRefusals, with-none, line-moves}
+use Rattle.locale_conditionals.proofs.StepLaws.{withRefusals, with-none, line-moves}
 
 -- ## Refusals
 
@@ -74,19 +73,15 @@ module _ {g : Signs} {src : List ℕ} {at : ℕ} {p : Spot} {e : LineEnd} {w : L
         refusal = λ used cs s o.
             ap (λ (x : Outcome). x .refusal) (l .whole s number (o .inside))
             ∙ rw f (two-first (lower (tokensRefusal os) (collateLine s number w os .refusal)) (late-lower (tokensRefusal os) _ (late-tokens os) (late-collate s number w os)));
-        low = omega arith;
-        high = omega arith;
       }
 
   -- its operands or its place are refused
   turn-refused : {r x : ℕ}
       → EveryChain g src work sh at taken closed (λ (cs : List Chain) (s : State). lower (tokensRefusal (operands (tokensLeft g src p))) (collateLine s number w (operands (tokensLeft g src p)) .refusal) ≡ r)
-      → (r ≡ 3) ⊎ (r ≡ 7) → x ≡ lower (2 unless e .text) r → TurnRefused g src work sh at number taken closed x
-  turn-refused {r} h k y =
+      → x ≡ lower (2 unless e .text) r → TurnRefused g src work sh at number taken closed x
+  turn-refused h y =
       record {
         refusal = λ used cs s o. ap (λ (x : Outcome). x .refusal) (l .whole s number (o .inside)) ∙ ap (lower (2 unless e .text)) (h used cs s o) ∙ sym y;
-        low = rw y (with-low (e .text) r k);
-        high = rw y (with-high (e .text) r k);
       }
 
 -- ## elif
@@ -106,7 +101,7 @@ module _ {g : Signs} {src work : List ℕ} {sh : Sheet} {at : ℕ} {p : Spot} {e
         turn-refused (m .line) work sh number taken closed
         (λ used cs s o.
         ap (λ (x : Outcome). lower (tokensRefusal os) (x .refusal)) (at-elif s number (bytes "elif") os refl) ∙ elif-closed s os taken used cs (o .chains) c)
-        (inl refl) y
+        y
 
     module _ {t : Toggled} (after : List ℕ) (c : closed ≡ false)
         (v : ToggledIs g src work after (togglesAt (length src)) (sh .toggles) (operands (tokensLeft g src p)) set.Keep t) where
@@ -121,7 +116,7 @@ module _ {g : Signs} {src work : List ℕ} {sh : Sheet} {at : ℕ} {p : Spot} {e
           ∙ elif-refused z s (o .toggles)
           ∙ ap (λ (x : List Chain). lower (3 unless not (getD x 0 noChain .closed)) r) (o .chains)
           ∙ three-none r c)
-          (z .which) y
+          y
 
       pub elif-goes : {was taken′ used′ : Bool} {n : ℕ} {sh′ : Sheet} → t ≡ toggled.Named was n → e .text ≡ true → taken′ ≡ (taken || was) → used′ ≡ (not taken && was)
           → sh′ ≡ withToggles sh n → GoesIs g src work sh at number taken closed after taken′ used′ false sh′ (e .next) (e .feeds)
@@ -172,7 +167,7 @@ module _ {g : Signs} {src : List ℕ} {at : ℕ} {p : Spot} {e : LineEnd} (l : W
       ap (λ (x : Outcome). lower (tokensRefusal os) (x .refusal)) (at-else s number (bytes "else") os refl)
       ∙ ap (λ (z : List Chain). lower (tokensRefusal os) (3 unless (eqb (length os) 0 && not (getD z 0 noChain .closed)))) (o .chains)
       ∙ rw n (three-tokens os))
-      (inl refl) y
+      y
 
   pub else-late : (work : List ℕ) {x : ℕ} → closed ≡ true → x ≡ lower (2 unless e .text) 3 → TurnRefused g src work sh at number taken closed x
   else-late work c y = else-refused work (rw c (and-false (eqb (length (operands (tokensLeft g src p))) 0))) y
@@ -216,7 +211,7 @@ module _ {g : Signs} {src : List ℕ} {at : ℕ} {p : Spot} {e : LineEnd} (l : W
       let some : eqb (length os) 0 ≡ false = sym a ∙ n in
       turn-refused l work sh number taken closed
       (λ used cs s o. ap (λ (x : Outcome). lower (tokensRefusal os) (x .refusal)) (at-endif s number (bytes "endif") os refl) ∙ rw some (three-tokens os))
-      (inl refl) y
+      y
 
   pub endif-ends : (work : List ℕ) {b : Bool} → b ≡ eqb (length (operands (tokensLeft g src p))) 0 → b ≡ true → e .text ≡ true
       → EndsIs g src work sh at number taken closed work sh (e .next) (e .feeds)

@@ -3,11 +3,12 @@
 use mathlib.Core.Path.{_≡_}
 use mathlib.Core.Bool.{Bool}
 use mathlib.Core.List.{List, _∷_}
-use Prim.Native.Nat.{ℕ, _≤_, _<_}
+use Prim.Native.Nat.{ℕ, _<_}
 use lib.ListN.{length}
 use Rattle.rules.specs.State.{Chain, State, Outcome, gives}
 use Rattle.rules.specs.Conditionals.{chain}
 use Rattle.rules.specs.Source.{wholeLine}
+use Rattle.base_units.specs.Numbers.{numberOf}
 use Rattle.text_lines.specs.declared.Signs.{Signs}
 use Rattle.text_lines.specs.declared.Spot.{Spot}
 use Rattle.text_lines.specs.declared.LineEnd.{LineEnd}
@@ -50,13 +51,11 @@ pub record EndsIs (g : Signs) (src w : List ℕ) (sh : Sheet) (at number : ℕ) 
 -- It is refused.
 pub record TurnRefused (g : Signs) (src w : List ℕ) (sh : Sheet) (at number : ℕ) (taken closed : Bool) (r : ℕ) : Type 0 where
   pub refusal : EveryChain g src w sh at taken closed (λ (cs : List Chain) (s : State). wholeOf g src at s number .refusal ≡ r)
-  pub low : 2 ≤ r
-  pub high : r ≤ 7
 
 abbrev pub TurnIs : Signs → List ℕ → List ℕ → Sheet → ℕ → ℕ → Bool → Bool → List ℕ → Turn → Type 0
 TurnIs g src w sh at number taken closed w′ (Goes taken′ used′ closed′ sh′ next k) = GoesIs g src w sh at number taken closed w′ taken′ used′ closed′ sh′ next k
 TurnIs g src w sh at number taken closed w′ (Ends sh′ next k) = EndsIs g src w sh at number taken closed w′ sh′ next k
-TurnIs g src w sh at number taken closed w′ (Refused r) = TurnRefused g src w sh at number taken closed r
+TurnIs g src w sh at number taken closed w′ (Refused r) = TurnRefused g src w sh at number taken closed (numberOf r)
 
 -- so it is of a line that leaves the area as it is
 abbrev pub StillIs : Signs → List ℕ → Sheet → ℕ → ℕ → Bool → Bool → Turn → Type 0

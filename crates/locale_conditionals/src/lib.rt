@@ -11,7 +11,9 @@ ghost use Rattle.locale_sheet.specs.Sheets.{togglesAt, StepIs};
 ghost use Rattle.locale_conditionals.specs.Turned.{defining, setFor, testing, holdsFor, withToggles, MayRead};
 ghost use Rattle.locale_sheet.specs.Words.{WordLine};
 ghost use Rattle.locale_conditionals.specs.Turns.{TurnIs, StillIs, MayTurn, WordTurn, KeyTurn};
+use base_units::Refusal;
 use locale_opening::Opening;
+use locale_opening::malformed;
 use locale_opening::open_line;
 use locale_opening::refusal_with;
 use locale_sheet::Sheet;
@@ -33,7 +35,7 @@ pub enum Turn {
     Goes(bool, bool, bool, Sheet, usize, usize),
     // endif
     Ends(Sheet, usize, usize),
-    Refused(u8),
+    Refused(Refusal),
 }
 
 // The sheet with so many toggles named.
@@ -103,7 +105,7 @@ pub fn define_line(
             if e.text {
                 return Step::Next(with_toggles(sh, m), e.next, e.feeds);
             }
-            return Step::Refused(2);
+            return Step::Refused(Refusal::BadByte);
         }
     }
 }
@@ -137,9 +139,9 @@ pub fn if_line(
                         e.feeds,
                     );
                 }
-                return Step::Refused(7);
+                return Step::Refused(Refusal::TooMany);
             }
-            return Step::Refused(2);
+            return Step::Refused(Refusal::BadByte);
         }
     }
 }
@@ -181,7 +183,7 @@ fn elif_line(
     ensures { λ r. ⌜ TurnIs g (now (src .entry)) (now (work .entry)) sh at number taken closed (now (work .exit)) r ⌝ }
 {
     if closed {
-        return Turn::Refused(refusal_with(e.text, 3));
+        return Turn::Refused(malformed(e.text));
     }
     let t = named_at(src, g, work, sh.toggles, p, Set::Keep);
     match t {
@@ -197,7 +199,7 @@ fn elif_line(
                     e.feeds,
                 );
             }
-            return Turn::Refused(2);
+            return Turn::Refused(Refusal::BadByte);
         }
     }
 }
@@ -218,15 +220,15 @@ fn else_line(
     ensures { λ r. ⌜ StillIs g (now (src .entry)) sh at number taken closed r ⌝ }
 {
     if closed {
-        return Turn::Refused(refusal_with(e.text, 3));
+        return Turn::Refused(malformed(e.text));
     }
     if no_operand(src, g, p) {
         if e.text {
             return Turn::Goes(true, !taken, true, sh, e.next, e.feeds);
         }
-        return Turn::Refused(2);
+        return Turn::Refused(Refusal::BadByte);
     }
-    Turn::Refused(refusal_with(e.text, 3))
+    Turn::Refused(malformed(e.text))
 }
 
 // The line of endif.
@@ -248,9 +250,9 @@ fn endif_line(
         if e.text {
             return Turn::Ends(sh, e.next, e.feeds);
         }
-        return Turn::Refused(2);
+        return Turn::Refused(Refusal::BadByte);
     }
-    Turn::Refused(refusal_with(e.text, 3))
+    Turn::Refused(malformed(e.text))
 }
 
 // The line of a chain that opens with the word t, at the spot q.
@@ -280,7 +282,7 @@ fn word_turn(
     if word_is(src, g, q, b"endif") {
         return endif_line(src, g, sh, at, number, p, e, taken, closed);
     }
-    Turn::Refused(refusal_with(e.text, 3))
+    Turn::Refused(malformed(e.text))
 }
 
 // The line at a place, which the open chain reads itself. Taken: a branch of the chain was used; closed: `else` has stood.
@@ -299,9 +301,9 @@ pub fn branch_line(
 {
     let o = open_line(src, g, at);
     match o {
-        Opening::Blank(e) => return Turn::Refused(refusal_with(e.text, 3)),
-        Opening::Foul(e) => return Turn::Refused(refusal_with(e.text, 3)),
-        Opening::Name(_, _, e) => return Turn::Refused(refusal_with(e.text, 3)),
+        Opening::Blank(e) => return Turn::Refused(malformed(e.text)),
+        Opening::Foul(e) => return Turn::Refused(malformed(e.text)),
+        Opening::Name(_, _, e) => return Turn::Refused(malformed(e.text)),
         Opening::Word(q, t, e) => {
             return word_turn(src, g, work, sh, at, number, q, t, e, taken, closed);
         }

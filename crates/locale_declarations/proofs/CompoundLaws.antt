@@ -16,6 +16,9 @@ use Rattle.rules.specs.State.{beforeOrder, afterOrder, Chain, Declaration, elem
 use Rattle.rules.specs.Declarations.{elementFormed, elementLine}
 use Rattle.rules.specs.Source.{collateLine}
 use Rattle.rules.proofs.TextLaws.{lower-none, lowest-unless}
+use Rattle.base_units.specs.declared.Refusal.{Refusal}
+use Rattle.base_units.specs.declared.Refusal.the-variants.{BadByte}
+use Rattle.base_units.specs.Numbers.{numberOf}
 use Rattle.text_lines.specs.declared.Signs.{Signs}
 use Rattle.text_lines.specs.declared.Spot.{Spot}
 use Rattle.text_lines.specs.declared.LineEnd.{LineEnd}
@@ -39,12 +42,13 @@ use Rattle.locale_elements.specs.declared.Element.the-variants as answer
 use Rattle.locale_elements.specs.Compounds.{elementRefusal, charsIn, DeclaresBoth, ElementAt, ElementNot, ElementIs}
 use Rattle.locale_elements.proofs.PaperLaws.{element-paper, element-misplaced}
 use Rattle.locale_keywords.proofs.KeywordLaws.{at-element}
+use Rattle.locale_opening.proofs.OpenLaws.{with-text}
 use Rattle.locale_sheet.specs.declared.Sheet.{Sheet}
 use Rattle.locale_sheet.specs.declared.Step.the-variants.{Next, Refused}
 use Rattle.locale_sheet.specs.Sheets.{Open}
 use Rattle.locale_sheet.proofs.OrderLaws.{open-declared}
 use Rattle.locale_declarations.specs.Worded.{Opened, Writes}
-use Rattle.locale_declarations.proofs.RefusalLaws.{Fair, bounded-clean, bounded-three, fair-element}
+use Rattle.locale_declarations.proofs.RefusalLaws.{Fair, fair-low, fair-element}
 use Rattle.locale_declarations.proofs.OpenedLaws.{line-moves, line-accepted, line-refused, line-foul}
 use Rattle.locale_declarations.proofs.DeclareLaws.{says-alike, first-none, new-unknown, first-declarable, positive, line-reaches}
 
@@ -147,6 +151,20 @@ element-new ds os h =
 
 -- ## collating-element
 
+-- the refusal of its operands
+module _ (g : Signs) (src : List ℕ) (p : Spot) (w w′ : List ℕ) (i : Sound (keyAt g src) (length src) w) (y : Element) (a : ElementIs g src p w w′ y) (r : ℕ) (z : y ≡ answer.Refused r) where
+  told : ElementNot g src p w r
+  told = subst (ElementIs g src p w w′) z a .0
+
+  fair : Fair r
+  fair = subst Fair (told .refusal .is (i .n) (i .ds) (i .holds)) (fair-element (i .ds) (operands (tokensLeft g src p)))
+
+  pub element-low : 2 ≤ r
+  element-low = fair-low r fair (positive r (told .some))
+
+  pub element-high : r ≤ 10
+  element-high = let h = fair .high in omega (arith, h)
+
 module _ (g : Signs) (src : List ℕ) (at : ℕ) (p : Spot) (e : LineEnd) (l : Opened g src at p e "collating-element") where
   abbrev left : List Token
   left = operands (tokensLeft g src p)
@@ -170,14 +188,14 @@ module _ (g : Signs) (src : List ℕ) (at : ℕ) (p : Spot) (e : LineEnd) (l : O
     abbrev may : Bool
     may = eqb (sh .phase) beforeOrder || eqb (sh .phase) afterOrder
 
-    pub element-misplaced-step : {x : ℕ} → x ≡ lower (2 unless e .text) 3 → {t : Bool} → t ≡ may → t ≡ false → Writes g src w sh at w′ (Refused x)
+    pub element-misplaced-step : {x : Refusal} → numberOf x ≡ lower (2 unless e .text) 3 → {t : Bool} → t ≡ may → t ≡ false → Writes g src w sh at w′ (Refused x)
     element-misplaced-step b z n =
         record {
-          is = λ number depth. line-refused l w sh number depth (bounded-three (e .text) b) (λ cs s o d u.
+          is = λ number depth. line-refused l w sh number depth b (λ cs s o d u.
               element-fault s number ∙ element-misplaced s left (rw (o .phase) (sym z ∙ n)));
         }
 
-    pub element-foul : e .text ≡ false → Writes g src w sh at w′ (Refused 2)
+    pub element-foul : e .text ≡ false → Writes g src w sh at w′ (Refused BadByte)
     element-foul x = record { is = λ number depth. line-foul l w sh number depth x }
 
     module _ {t : Bool} (m : t ≡ may) (f : t ≡ true) (x : e .text ≡ true) where
@@ -192,14 +210,10 @@ module _ (g : Signs) (src : List ℕ) (at : ℕ) (p : Spot) (e : LineEnd) (l : O
           element-fault s number ∙ sym (element-paper s left (k .ds) (says-alike (k .says)) (rw (o .phase) declares)) ∙ h (o .n) (k .ds) (k .holds)
 
       module _ {y : Element} (a : ElementIs g src p w w′ y) where
-        pub element-refused-step : Sound (keyAt g src) (length src) w → {r : ℕ} → y ≡ answer.Refused r → Writes g src w sh at w′ (Refused r)
-        element-refused-step i {r} z =
+        pub element-refused-step : {r : ℕ} {v : Refusal} → y ≡ answer.Refused r → numberOf v ≡ r → Writes g src w sh at w′ (Refused v)
+        element-refused-step {r} z c =
             let b : ElementNot g src p w r = subst (ElementIs g src p w w′) z a .0 in
-            let c = b .refusal .is (i .n) (i .ds) (i .holds) in
-            record {
-              is = λ number depth. line-refused l w sh number depth
-                  (bounded-clean x (subst Fair c (fair-element (i .ds) left)) (positive r (b .some))) (λ cs s o d u. paper (b .refusal .is) number o);
-            }
+            record { is = λ number depth. line-refused l w sh number depth (with-text (e .text) r c x) (λ cs s o d u. paper (b .refusal .is) number o) }
 
         pub element-done : {v q : ℕ} → y ≡ answer.Declared v q → Writes g src w sh at w′ (Next sh (e .next) (e .feeds))
         element-done {v} {q} z =

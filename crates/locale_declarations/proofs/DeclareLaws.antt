@@ -16,11 +16,14 @@ use Rattle.rules.specs.State.{beforeOrder, afterOrder, Chain, Declaration, symb
 use Rattle.rules.specs.Declarations.{symbolLine}
 use Rattle.rules.specs.Source.{collateLine}
 use Rattle.rules.proofs.TextLaws.{lower-none, lowest-none, lowest-unless}
+use Rattle.base_units.specs.declared.Refusal.{Refusal}
+use Rattle.base_units.specs.declared.Refusal.the-variants.{BadByte}
+use Rattle.base_units.specs.Numbers.{numberOf}
 use Rattle.text_lines.specs.declared.Signs.{Signs}
 use Rattle.text_lines.specs.declared.Spot.{Spot}
 use Rattle.text_lines.specs.declared.LineEnd.{LineEnd}
 use Rattle.text_tokens.specs.Left.{tokensLeft}
-use Rattle.locale_opening.proofs.OpenLaws.{left-some}
+use Rattle.locale_opening.proofs.OpenLaws.{with-text, left-some}
 use Rattle.text_names.specs.Packed.{isPlain}
 use Rattle.work_subjects.specs.Keys.{Key, item, chars, keyAt}
 use Rattle.work_subjects.specs.Numbers.{isDeclarable, kindOf}
@@ -40,7 +43,7 @@ use Rattle.locale_sheet.specs.declared.Step.the-variants.{Next, Refused}
 use Rattle.locale_sheet.specs.Sheets.{Open}
 use Rattle.locale_sheet.proofs.OrderLaws.{open-declared}
 use Rattle.locale_declarations.specs.Worded.{Opened, Writes}
-use Rattle.locale_declarations.proofs.RefusalLaws.{Fair, bounded-clean, bounded-three, fair-symbol}
+use Rattle.locale_declarations.proofs.RefusalLaws.{Fair, fair-low, fair-symbol}
 use Rattle.locale_declarations.proofs.OpenedLaws.{line-moves, line-accepted, line-refused, line-foul}
 
 -- ## What is declared
@@ -106,6 +109,20 @@ symbol-new ds os h =
     let b = lowest-unless 3 (single name os) (5 unless new ∷ []) (omega arith) (a .1) .1 in
     (lowest-unless 5 new [] (omega arith) b .0, first-declarable os (a .0))
 
+-- the refusal of its operands
+module _ (g : Signs) (src : List ℕ) (p : Spot) (w w′ : List ℕ) (i : Sound (keyAt g src) (length src) w) (y : Symbol) (a : SymbolIs g src p w w′ y) (r : ℕ) (z : y ≡ answer.Refused r) where
+  told : SymbolNot g src p w r
+  told = subst (SymbolIs g src p w w′) z a .0
+
+  fair : Fair r
+  fair = subst Fair (told .refusal .is (i .n) (i .ds) (i .holds)) (fair-symbol (i .ds) (operands (tokensLeft g src p)))
+
+  pub symbol-low : 2 ≤ r
+  symbol-low = fair-low r fair (positive r (told .some))
+
+  pub symbol-high : r ≤ 10
+  symbol-high = let h = fair .high in omega (arith, h)
+
 module _ (g : Signs) (src : List ℕ) (at : ℕ) (p : Spot) (e : LineEnd) (l : Opened g src at p e "collating-symbol") where
   abbrev left : List Token
   left = operands (tokensLeft g src p)
@@ -128,14 +145,14 @@ module _ (g : Signs) (src : List ℕ) (at : ℕ) (p : Spot) (e : LineEnd) (l : O
     abbrev may : Bool
     may = eqb (sh .phase) beforeOrder || eqb (sh .phase) afterOrder
 
-    pub symbol-misplaced-step : {x : ℕ} → x ≡ lower (2 unless e .text) 3 → {t : Bool} → t ≡ may → t ≡ false → Writes g src w sh at w′ (Refused x)
+    pub symbol-misplaced-step : {x : Refusal} → numberOf x ≡ lower (2 unless e .text) 3 → {t : Bool} → t ≡ may → t ≡ false → Writes g src w sh at w′ (Refused x)
     symbol-misplaced-step b z n =
         record {
-          is = λ number depth. line-refused l w sh number depth (bounded-three (e .text) b) (λ cs s o d u.
+          is = λ number depth. line-refused l w sh number depth b (λ cs s o d u.
               symbol-fault s number ∙ symbol-misplaced s left (rw (o .phase) (sym z ∙ n)));
         }
 
-    pub symbol-foul : e .text ≡ false → Writes g src w sh at w′ (Refused 2)
+    pub symbol-foul : e .text ≡ false → Writes g src w sh at w′ (Refused BadByte)
     symbol-foul x = record { is = λ number depth. line-foul l w sh number depth x }
 
     module _ {t : Bool} (m : t ≡ may) (f : t ≡ true) (x : e .text ≡ true) where
@@ -150,14 +167,10 @@ module _ (g : Signs) (src : List ℕ) (at : ℕ) (p : Spot) (e : LineEnd) (l : O
           symbol-fault s number ∙ sym (symbol-paper s left (k .ds) (says-alike (k .says)) (rw (o .phase) declares)) ∙ h (o .n) (k .ds) (k .holds)
 
       module _ {y : Symbol} (a : SymbolIs g src p w w′ y) where
-        pub symbol-refused-step : Sound (keyAt g src) (length src) w → {r : ℕ} → y ≡ answer.Refused r → Writes g src w sh at w′ (Refused r)
-        symbol-refused-step i {r} z =
+        pub symbol-refused-step : {r : ℕ} {v : Refusal} → y ≡ answer.Refused r → numberOf v ≡ r → Writes g src w sh at w′ (Refused v)
+        symbol-refused-step {r} z c =
             let b : SymbolNot g src p w r = subst (SymbolIs g src p w w′) z a .0 in
-            let c = b .refusal .is (i .n) (i .ds) (i .holds) in
-            record {
-              is = λ number depth. line-refused l w sh number depth
-                  (bounded-clean x (subst Fair c (fair-symbol (i .ds) left)) (positive r (b .some))) (λ cs s o d u. paper (b .refusal .is) number o);
-            }
+            record { is = λ number depth. line-refused l w sh number depth (with-text (e .text) r c x) (λ cs s o d u. paper (b .refusal .is) number o) }
 
         pub symbol-done : {v : ℕ} → y ≡ answer.Declared v → Writes g src w sh at w′ (Next sh (e .next) (e .feeds))
         symbol-done {v} z =

@@ -12,6 +12,9 @@ use Rattle.rules.specs.Text.{bytes, same, is, _unless_, lower}
 use Rattle.rules.specs.Tokens.{word, Token, tokenAt, single, operands, tokensRefusal}
 use Rattle.rules.specs.State.{inOrder, afterOrder, betweenCategories, Chain, State, inPhase, toPhase, Outcome}
 use Rattle.rules.specs.Source.{endLine, collateLine}
+use Rattle.base_units.specs.declared.Refusal.{Refusal}
+use Rattle.base_units.specs.declared.Refusal.the-variants.{BadByte}
+use Rattle.base_units.specs.Numbers.{numberOf}
 use Rattle.text_lines.specs.declared.Signs.{Signs}
 use Rattle.text_lines.specs.declared.Spot.{Spot}
 use Rattle.text_lines.specs.declared.LineEnd.{LineEnd}
@@ -27,7 +30,7 @@ use Rattle.locale_sheet.specs.declared.Step.the-variants.{Next, Closes, Refused
 use Rattle.locale_sheet.specs.Sheets.{Open}
 use Rattle.locale_sheet.proofs.SheetLaws.{open-ended}
 use Rattle.locale_declarations.specs.Worded.{Opened, StillAt, Still, CollateIs}
-use Rattle.locale_declarations.proofs.RefusalLaws.{bounded-three, tokens-three, tokens-none}
+use Rattle.locale_declarations.proofs.RefusalLaws.{tokens-three, tokens-none}
 use Rattle.locale_declarations.proofs.OpenedLaws.{line-moves, line-accepted, line-refused, line-foul}
 
 -- ## Operands
@@ -63,21 +66,21 @@ module _ {g : Signs} {src : List ℕ} {at : ℕ} {p : Spot} {e : LineEnd} (l : O
   order-end-fault s number = ap (λ (o : Outcome). lower (tokensRefusal left) (o .refusal)) (at-order-end s number (bytes "order_end") left refl)
 
   module _ (sh : Sheet) where
-    pub order-end-misplaced : {x : ℕ} → x ≡ lower (2 unless e .text) 3 → (sh .phase ≡ 4 → ⊥) → Still g src sh at (Refused x)
+    pub order-end-misplaced : {x : Refusal} → numberOf x ≡ lower (2 unless e .text) 3 → (sh .phase ≡ 4 → ⊥) → Still g src sh at (Refused x)
     order-end-misplaced b n =
         record {
           is = λ depth. record {
-            is = λ w number. line-refused l w sh number depth (bounded-three (e .text) b) (λ cs s o d u.
+            is = λ w number. line-refused l w sh number depth b (λ cs s o d u.
                 order-end-fault s number ∙ tokens-three left (inPhase inOrder s && eqb (length left) 0) (rw (o .phase, ne-eqb (sh .phase) 4 n)));
           };
         }
 
     module _ (f : sh .phase ≡ 4) {t : Bool} (z : t ≡ eqb (length left) 0) where
-      pub order-end-more : {x : ℕ} → x ≡ lower (2 unless e .text) 3 → t ≡ false → Still g src sh at (Refused x)
+      pub order-end-more : {x : Refusal} → numberOf x ≡ lower (2 unless e .text) 3 → t ≡ false → Still g src sh at (Refused x)
       order-end-more b h =
           record {
             is = λ depth. record {
-              is = λ w number. line-refused l w sh number depth (bounded-three (e .text) b) (λ cs s o d u.
+              is = λ w number. line-refused l w sh number depth b (λ cs s o d u.
                   order-end-fault s number ∙ tokens-three left (inPhase inOrder s && eqb (length left) 0) (rw (o .phase, f, ← z, h)));
             };
           }
@@ -87,7 +90,7 @@ module _ {g : Signs} {src : List ℕ} {at : ℕ} {p : Spot} {e : LineEnd} (l : O
             → lower (tokensRefusal left) (collateLine s number (bytes "order_end") left .refusal) ≡ 0
         fine s number i = order-end-fault s number ∙ tokens-none (inPhase inOrder s && eqb (length left) 0) (none-refused left (sym z ∙ h)) (rw (i, f, ← z, h))
 
-        pub order-end-foul : e .text ≡ false → Still g src sh at (Refused 2)
+        pub order-end-foul : e .text ≡ false → Still g src sh at (Refused BadByte)
         order-end-foul x =
             record { is = λ depth. record { is = λ w number. line-foul l w sh number depth x } }
 
@@ -127,26 +130,26 @@ module _ {g : Signs} {src : List ℕ} {at : ℕ} {p : Spot} {e : LineEnd} (l : O
   end-state s number = ap (λ (o : Outcome). o .state) (at-end s number (bytes "END") after-end refl)
 
   module _ {sh : Sheet} {depth : ℕ} where
-    refused-three : {x : ℕ} → x ≡ lower (2 unless e .text) 3
+    refused-three : {x : Refusal} → numberOf x ≡ lower (2 unless e .text) 3
         → ((w : List ℕ) (cs : List Chain) (s : State) → Open g src w sh cs at s → length cs ≡ depth → mayEnd s ≡ false) → StillAt g src sh at depth (Refused x)
     refused-three b h =
         record {
-          is = λ w number. line-refused l w sh number depth (bounded-three (e .text) b) (λ cs s o d u.
+          is = λ w number. line-refused l w sh number depth b (λ cs s o d u.
               end-fault s number ∙ tokens-three after-end (mayEnd s) (h w cs s o d));
         }
 
-    pub end-misplaced : {x : ℕ} → x ≡ lower (2 unless e .text) 3 → (sh .phase ≡ 5 → ⊥) → StillAt g src sh at depth (Refused x)
+    pub end-misplaced : {x : Refusal} → numberOf x ≡ lower (2 unless e .text) 3 → (sh .phase ≡ 5 → ⊥) → StillAt g src sh at depth (Refused x)
     end-misplaced b n = refused-three b (λ w cs s o d. rw (o .phase, ne-eqb (sh .phase) 5 n))
 
     module _ (f : sh .phase ≡ 5) where
-      pub end-inside : {x : ℕ} → x ≡ lower (2 unless e .text) 3 → (depth ≡ 0 → ⊥) → StillAt g src sh at depth (Refused x)
+      pub end-inside : {x : Refusal} → numberOf x ≡ lower (2 unless e .text) 3 → (depth ≡ 0 → ⊥) → StillAt g src sh at depth (Refused x)
       end-inside b n = refused-three b (λ w cs s o d. rw (o .phase, f, o .chains, d, ne-eqb depth 0 n))
 
       module _ (k : depth ≡ 0) {t : Bool} (c : CollateIs after-end t) where
         asked : (w : List ℕ) (cs : List Chain) (s : State) → Open g src w sh cs at s → length cs ≡ depth → mayEnd s ≡ t
         asked w cs s o d = rw (o .phase, f, o .chains, d, k) (sym (c .same))
 
-        pub end-other : {x : ℕ} → x ≡ lower (2 unless e .text) 3 → t ≡ false → StillAt g src sh at depth (Refused x)
+        pub end-other : {x : Refusal} → numberOf x ≡ lower (2 unless e .text) 3 → t ≡ false → StillAt g src sh at depth (Refused x)
         end-other b h = refused-three b (λ w cs s o d. asked w cs s o d ∙ h)
 
         module _ (h : t ≡ true) where
@@ -154,7 +157,7 @@ module _ {g : Signs} {src : List ℕ} {at : ℕ} {p : Spot} {e : LineEnd} (l : O
               → lower (tokensRefusal after-end) (collateLine s number (bytes "END") after-end .refusal) ≡ 0
           ends w cs s number o d = end-fault s number ∙ tokens-none (mayEnd s) (c .whole h) (asked w cs s o d ∙ h)
 
-          pub end-foul : e .text ≡ false → StillAt g src sh at depth (Refused 2)
+          pub end-foul : e .text ≡ false → StillAt g src sh at depth (Refused BadByte)
           end-foul x = record { is = λ w number. line-foul l w sh number depth x }
 
           pub end-done : e .text ≡ true → StillAt g src sh at depth (Closes (e .next) (e .feeds))

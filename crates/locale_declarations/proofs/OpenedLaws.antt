@@ -3,7 +3,6 @@ use mathlib.Core.Path.{_≡_, sym, ap, _∙_}
 use mathlib.Core.Bool.{Bool, true, false}
 use mathlib.Core.List.{List}
 use Prim.Native.Nat.{ℕ}
-use native.Mathlib.Omega.{arith}
 use Prim.Native.String.{String}
 use Rattle.rules.specs.Text.{bytes, _unless_, lower}
 use Rattle.rules.specs.Tokens.{operands, tokensRefusal}
@@ -21,7 +20,6 @@ use Rattle.locale_sheet.specs.declared.Sheet.{Sheet}
 use Rattle.locale_sheet.specs.Sheets.{Open, isUsed, Moves, outcomeOf, Every, RefusedIs}
 use Rattle.locale_sheet.proofs.SheetLaws.{read-whole}
 use Rattle.locale_declarations.specs.Worded.{Opened}
-use Rattle.locale_declarations.proofs.RefusalLaws.{Bounded}
 
 gives-both : (a b : ℕ) (x y : State) → a ≡ b → x ≡ y → gives a x ≡ gives b y
 gives-both a b x y h k = rw (h, k)
@@ -56,13 +54,11 @@ module _ {g : Signs} {src : List ℕ} {at : ℕ} {p : Spot} {e : LineEnd} {key :
           (ap (λ (b : Bool). lower (2 unless b) (faultOf s number)) t ∙ lower-none-left (faultOf s number) ∙ f) a
 
     -- whatever is held, it is refused
-    pub line-refused : (depth : ℕ) {f r : ℕ} → Bounded (e .text) f r
+    pub line-refused : (depth : ℕ) {f r : ℕ} → r ≡ lower (2 unless e .text) f
         → Every g src w sh at depth (λ (cs : List Chain) (s : State). faultOf s number ≡ f)
         → RefusedIs g src w sh at number depth r
     line-refused depth b h = record {
-      refusal = λ cs s o d u. ap (λ (x : Outcome). x .refusal) (line-outcome o u) ∙ ap (lower (2 unless e .text)) (h cs s o d u) ∙ sym (b .is);
-      low = b .low;
-      high = b .high;
+      refusal = λ cs s o d u. ap (λ (x : Outcome). x .refusal) (line-outcome o u) ∙ ap (lower (2 unless e .text)) (h cs s o d u) ∙ sym b;
     }
 
     -- bytes that are no text: whatever else the line is refused for
@@ -72,6 +68,4 @@ module _ {g : Signs} {src : List ℕ} {at : ℕ} {p : Spot} {e : LineEnd} {key :
           ap (λ (x : Outcome). x .refusal) (line-outcome o u) ∙ ap (λ (b : Bool). lower (2 unless b) (faultOf s number)) t
           ∙ two-first (faultOf s number) (late-lower (tokensRefusal (operands (tokensLeft g src p))) (collateLine s number (bytes key) (operands (tokensLeft g src p)) .refusal)
           (late-tokens (operands (tokensLeft g src p))) (late-collate s number (bytes key) (operands (tokensLeft g src p))));
-      low = omega arith;
-      high = omega arith;
     }

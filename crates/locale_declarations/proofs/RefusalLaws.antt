@@ -1,5 +1,5 @@
 -- Between which numbers a line's refusal is.
-use mathlib.Core.Path.{_≡_, sym, _∙_}
+use mathlib.Core.Path.{_≡_}
 use mathlib.Core.Logic.{inl, inr}
 use mathlib.Core.Bool.{Bool, true, false, not, _&&_}
 use mathlib.Core.List.{List, [], _∷_, map}
@@ -15,11 +15,10 @@ use Rattle.rules.specs.Names.{codeOf, isCharName}
 use Rattle.rules.specs.Tokens.{name, Token, tokenAt, theName, single, tokensRefusal}
 use Rattle.rules.specs.Declarations.{elementFormed}
 use Rattle.rules.specs.OrderLines.{ruleCodes, rulesFormed}
-use Rattle.text_operands.proofs.LateLaws.{Late, late-lower, late-none, late-by, late-unless, late-tokens}
+use Rattle.text_operands.proofs.LateLaws.{Late, late-lower, late-none, late-by, late-tokens}
 use Rattle.text_operands.proofs.LineLaws.{Known, refusal-known}
 use Rattle.text_tokens.proofs.RefusalLaws.{lower-none-left}
 use Rattle.locale_levels.specs.Levels.{startRefusal}
-use Rattle.locale_opening.proofs.OpenLaws.{with-late}
 use Rattle.work_subjects.specs.Keys.{chars}
 use Rattle.work_store.specs.Store.{Decl, knownIn}
 use Rattle.locale_symbols.specs.Symbols.{isNewIn, symbolRefusal}
@@ -59,14 +58,7 @@ high-known r (inr (inr e)) = omega arith
 pub fair-tokens : (os : List Token) → Fair (tokensRefusal os)
 fair-tokens os = record { late = late-tokens os; high = high-known (tokensRefusal os) (refusal-known os) }
 
--- ## Of a line
-
--- What it is refused for, f, and its refusal.
-pub record Bounded (text : Bool) (f r : ℕ) : Type 0 where
-  pub is : r ≡ lower (2 unless text) f
-  pub low : 2 ≤ r
-  pub high : r ≤ 7
-
+-- where it is not none
 not-none : (r : ℕ) → Late r → 1 ≤ r → 3 ≤ r
 unfolding Late lower
 not-none r h k =
@@ -74,22 +66,10 @@ not-none r h k =
     (λ t. let e : r ≡ 3 = rw (ne-eqb r 0 (λ z. omega (arith, z, k)), t) at h in omega arith)
     (λ t. ltb-false r 3 t)
 
-pub bounded : (text : Bool) (f : ℕ) {r : ℕ} → Fair f → 1 ≤ f → r ≡ lower (2 unless text) f → Bounded text f r
-bounded true f l s e =
-    let i = e ∙ with-late true f (l .late) in
-    let n = not-none f (l .late) s in
-    let h = l .high in
-    record { is = e; low = omega (arith, i, n); high = omega (arith, i, h) }
-bounded false f l s e =
-    let i = e ∙ with-late false f (l .late) in
-    record { is = e; low = omega (arith, i); high = omega (arith, i) }
+pub fair-low : (r : ℕ) → Fair r → 1 ≤ r → 2 ≤ r
+fair-low r h k = let n = not-none r (h .late) k in omega (arith, n)
 
--- a line that holds only text
-pub bounded-clean : {text : Bool} {r : ℕ} → text ≡ true → Fair r → 1 ≤ r → Bounded text r r
-bounded-clean {text} {r} t l s = bounded text r l s (rw t (sym (lower-none-left r)))
-
-pub bounded-three : (text : Bool) {r : ℕ} → r ≡ lower (2 unless text) 3 → Bounded text 3 r
-bounded-three text e = bounded text 3 (record { late = late-unless false; high = omega arith }) (omega arith) e
+-- ## Of a line
 
 -- operands that do not pass a test
 pub tokens-three : (os : List Token) (t : Bool) → t ≡ false → lower (tokensRefusal os) (3 unless t) ≡ 3

@@ -11,6 +11,9 @@ use Rattle.rules.specs.Tokens.{Token, operands, tokensRefusal}
 use Rattle.rules.specs.State.{inOrder, State, withOrdered, toPhase, Outcome}
 use Rattle.rules.specs.OrderLines.{ruleOf, ruleCodes, orderStartLine}
 use Rattle.rules.specs.Source.{collateLine}
+use Rattle.base_units.specs.declared.Refusal.{Refusal}
+use Rattle.base_units.specs.declared.Refusal.the-variants.{BadByte}
+use Rattle.base_units.specs.Numbers.{numberOf}
 use Rattle.text_lines.specs.declared.Signs.{Signs}
 use Rattle.text_lines.specs.declared.Spot.{Spot}
 use Rattle.text_lines.specs.declared.LineEnd.{LineEnd}
@@ -27,8 +30,22 @@ use Rattle.locale_sheet.specs.Sheets.{rulesAt}
 use Rattle.locale_sheet.proofs.SheetLaws.{spot-behind}
 use Rattle.locale_sheet.proofs.OrderLaws.{open-ordered}
 use Rattle.locale_declarations.specs.Worded.{Opened, Still}
-use Rattle.locale_declarations.proofs.RefusalLaws.{Fair, bounded, bounded-three, fair-start}
+use Rattle.locale_declarations.proofs.RefusalLaws.{Fair, fair-low, fair-start}
 use Rattle.locale_declarations.proofs.OpenedLaws.{line-moves, line-accepted, line-refused, line-foul}
+
+-- the refusal of its operands
+module _ (os : List Token) (v : Levels) (k : LevelsIs os v) (m : ℕ) (i : v ≡ levels.Refused m) where
+  told : LevelsRefused os m
+  told = subst (LevelsIs os) i k
+
+  fair : Fair m
+  fair = subst Fair (told .refusal) (fair-start os)
+
+  pub start-low : 2 ≤ m
+  start-low = fair-low m fair (told .some)
+
+  pub start-high : m ≤ 7
+  start-high = fair .high
 
 module _ {g : Signs} {src : List ℕ} {at : ℕ} {p : Spot} {e : LineEnd} (l : Opened g src at p e "order_start") where
   abbrev left : List Token
@@ -58,22 +75,22 @@ module _ {g : Signs} {src : List ℕ} {at : ℕ} {p : Spot} {e : LineEnd} (l : O
       omega (arith, a, d)
 
   module _ (sh : Sheet) where
-    pub start-misplaced : {x : ℕ} → x ≡ lower (2 unless e .text) 3 → (sh .phase ≡ 3 → ⊥) → Still g src sh at (Refused x)
+    pub start-misplaced : {x : Refusal} → numberOf x ≡ lower (2 unless e .text) 3 → (sh .phase ≡ 3 → ⊥) → Still g src sh at (Refused x)
     start-misplaced b n =
         record {
           is = λ depth. record {
-            is = λ w number. line-refused l w sh number depth (bounded-three (e .text) b) (λ cs s o d u.
+            is = λ w number. line-refused l w sh number depth b (λ cs s o d u.
                 start-fault s number ∙ start-elsewhere s left (rw (o .phase, ne-eqb (sh .phase) 3 n)));
           };
         }
 
     module _ (f : sh .phase ≡ 3) {v : Levels} (k : LevelsIs left v) where
-      pub start-refused : {m x : ℕ} → v ≡ levels.Refused m → x ≡ lower (2 unless e .text) m → Still g src sh at (Refused x)
+      pub start-refused : {m : ℕ} {x : Refusal} → v ≡ levels.Refused m → numberOf x ≡ lower (2 unless e .text) m → Still g src sh at (Refused x)
       start-refused {m} i b =
           let r : LevelsRefused left m = subst (LevelsIs left) i k in
           record {
             is = λ depth. record {
-              is = λ w number. line-refused l w sh number depth (bounded (e .text) m (subst Fair (r .refusal) (fair-start left)) (r .some) b) (λ cs s o d u.
+              is = λ w number. line-refused l w sh number depth b (λ cs s o d u.
                   start-fault s number ∙ start-line s left (rw (o .phase, f)) ∙ r .refusal);
             };
           }
@@ -86,7 +103,7 @@ module _ {g : Signs} {src : List ℕ} {at : ℕ} {p : Spot} {e : LineEnd} (l : O
             → lower (tokensRefusal left) (collateLine s number (bytes "order_start") left .refusal) ≡ 0
         fine s number z = start-fault s number ∙ start-line s left (rw (z, f)) ∙ are .accepted
 
-        pub start-foul : e .text ≡ false → Still g src sh at (Refused 2)
+        pub start-foul : e .text ≡ false → Still g src sh at (Refused BadByte)
         start-foul x =
             record { is = λ depth. record { is = λ w number. line-foul l w sh number depth x } }
 

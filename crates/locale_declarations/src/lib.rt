@@ -12,10 +12,13 @@ ghost use Rattle.text_tokens.specs.Left.{tokensLeft};
 ghost use Rattle.work_subjects.specs.Keys.{keyAt};
 ghost use Rattle.work_store.specs.Store.{Sound};
 ghost use Rattle.locale_declarations.specs.Worded.{Opened, StillAt, Still, Writes, CollateIs};
+use base_units::Refusal;
+use base_units::refusal_of;
 use locale_elements::Element;
 use locale_elements::element_line;
 use locale_levels::Levels;
 use locale_levels::levels_of;
+use locale_opening::malformed;
 use locale_opening::refusal_with;
 use locale_sheet::AFTER_ORDER;
 use locale_sheet::BEFORE_ORDER;
@@ -55,11 +58,11 @@ pub fn order_start_line(src: &[u8], g: Signs, sh: Sheet, at: usize, p: Spot, e: 
                     };
                     return Step::Next(next, e.next, e.feeds);
                 }
-                return Step::Refused(2);
+                return Step::Refused(Refusal::BadByte);
             }
         }
     }
-    Step::Refused(refusal_with(e.text, 3))
+    Step::Refused(malformed(e.text))
 }
 
 // order_end, in the order and with no operand.
@@ -82,11 +85,11 @@ pub fn order_end_line(src: &[u8], g: Signs, sh: Sheet, at: usize, p: Spot, e: Li
                 };
                 return Step::Next(next, e.next, e.feeds);
             }
-            return Step::Refused(2);
+            return Step::Refused(Refusal::BadByte);
         }
-        return Step::Refused(refusal_with(e.text, 3)); // an operand
+        return Step::Refused(malformed(e.text)); // an operand
     }
-    Step::Refused(refusal_with(e.text, 3))
+    Step::Refused(malformed(e.text))
 }
 
 // Whether a line's operands are the word LC_COLLATE, from the spot after its first token on.
@@ -120,13 +123,13 @@ pub fn end_line(
                 if e.text {
                     return Step::Closes(e.next, e.feeds);
                 }
-                return Step::Refused(2);
+                return Step::Refused(Refusal::BadByte);
             }
-            return Step::Refused(refusal_with(e.text, 3));
+            return Step::Refused(malformed(e.text));
         }
-        return Step::Refused(refusal_with(e.text, 3)); // in a chain
+        return Step::Refused(malformed(e.text)); // in a chain
     }
-    Step::Refused(refusal_with(e.text, 3))
+    Step::Refused(malformed(e.text))
 }
 
 // Whether a declaration may stand in this phase: before order_start, or after the order and outside every block.
@@ -161,12 +164,12 @@ pub fn symbol_step(
             let s = symbol_line(src, g, work, p);
             match s {
                 Symbol::Declared(_) => return Step::Next(sh, e.next, e.feeds),
-                Symbol::Refused(r) => return Step::Refused(r),
+                Symbol::Refused(r) => return Step::Refused(refusal_of(r)),
             }
         }
-        return Step::Refused(2);
+        return Step::Refused(Refusal::BadByte);
     }
-    Step::Refused(refusal_with(e.text, 3))
+    Step::Refused(malformed(e.text))
 }
 
 // collating-element, where a declaration may stand: a collating element is declared.
@@ -188,10 +191,10 @@ pub fn element_step(
             let s = element_line(src, g, work, p);
             match s {
                 Element::Declared(_, _) => return Step::Next(sh, e.next, e.feeds),
-                Element::Refused(r) => return Step::Refused(r),
+                Element::Refused(r) => return Step::Refused(refusal_of(r)),
             }
         }
-        return Step::Refused(2);
+        return Step::Refused(Refusal::BadByte);
     }
-    Step::Refused(refusal_with(e.text, 3))
+    Step::Refused(malformed(e.text))
 }

@@ -1,6 +1,6 @@
 -- The dispatcher over a line's first word: what each function requires follows from the word, and what the others answer is the step.
 use mathlib.Core.Path.{_≡_, refl, sym, ap, _∙_, subst}
-use mathlib.Core.Bool.{Bool, true, false}
+use mathlib.Core.Bool.{true, false}
 use mathlib.Core.List.{List}
 use Prim.Native.Nat.{ℕ, _+_, _≤_, _<_}
 use Prim.Native.String.{String}
@@ -61,12 +61,6 @@ late-three : (r : ℕ) → Late r → lower r 3 ≡ 3
 unfolding Late
 late-three r l = l
 
--- 2 or 3
-with-three : (t : Bool) → (2 ≤ lower (2 unless t) 3) × (lower (2 unless t) 3 ≤ 7)
-unfolding lower
-with-three true = (omega arith, omega arith)
-with-three false = (omega arith, omega arith)
-
 module _ {g : Signs} {src w : List ℕ} {sh : Sheet} {at number depth : ℕ} (v : LineAt g src w sh at number depth) where
   pub step-blank : (o : Opening) (e : LineEnd) → begun.OpeningIs g src at o → o ≡ opens.Blank e → NextIs g src w sh at number depth w sh (e .next) (e .feeds)
   step-blank o e h f =
@@ -84,11 +78,8 @@ module _ {g : Signs} {src w : List ℕ} {sh : Sheet} {at number depth : ℕ} (v 
   pub step-foul : (o : Opening) (e : LineEnd) (r : ℕ) → begun.OpeningIs g src at o → o ≡ opens.Foul e → r ≡ lower (2 unless e .text) 3 → RefusedIs g src w sh at number depth r
   step-foul o e r h f z =
       let b : begun.FoulLine g src at e = subst (begun.OpeningIs g src at) f h in
-      let i = with-three (e .text) in
       record {
         refusal = λ cs s k d u. ap (λ (x : Outcome). x .refusal) (read-whole g src w sh cs at s k u number (marksLeft g src (lineStart at))) ∙ b .refusal s number (k .inside) ∙ sym z;
-        low = rw z (i .0);
-        high = rw z (i .1);
       }
 
   pub step-word : (o : Opening) (q : Spot) (t : Tok) (e : LineEnd) → begun.OpeningIs g src at o → o ≡ opens.Word q t e → WordAt g src w sh at number depth q t e
@@ -189,7 +180,6 @@ module _ {g : Signs} {src w : List ℕ} {sh : Sheet} {at number depth : ℕ} {q 
 
   pub step-other : (r : ℕ) → k ≡ key.Other → r ≡ lower (2 unless e .text) 3 → RefusedIs g src w sh at number depth r
   step-other r f z =
-      let i = with-three (e .text) in
       let os = operands (tokensLeft g src (t .next)) in
       let n = subst (KeywordIs (wordIn (marksLeft g src q))) f h in
       record {
@@ -197,6 +187,4 @@ module _ {g : Signs} {src w : List ℕ} {sh : Sheet} {at number depth : ℕ} {q 
             ap (λ (x : Outcome). x .refusal) (read-whole g src w sh cs at s o u number (marksLeft g src (lineStart at)) ∙ v .word .outcome s number (o .inside))
             ∙ ap (λ (x : Outcome). lower (2 unless e .text) (lower (tokensRefusal os) (x .refusal))) (at-other s number (wordIn (marksLeft g src q)) os n)
             ∙ ap (lower (2 unless e .text)) (late-three (tokensRefusal os) (late-tokens os)) ∙ sym z;
-        low = rw z (i .0);
-        high = rw z (i .1);
       }

@@ -13,8 +13,8 @@ use locale_keywords::keyword_at;
 use locale_moves::reorder_after_line;
 use locale_moves::reorder_end_line;
 use locale_opening::Opening;
+use locale_opening::malformed;
 use locale_opening::open_line;
-use locale_opening::refusal_with;
 use locale_order_lines::name_line;
 use locale_order_lines::undefined_line;
 use locale_sheet::Sheet;
@@ -58,7 +58,7 @@ fn word_step(
         Keyword::ReorderAfter => return reorder_after_line(src, g, work, sh, at, p, e),
         Keyword::ReorderEnd => return reorder_end_line(src, g, sh, at, p, e),
         Keyword::End => return end_line(src, g, sh, at, depth, p, e),
-        Keyword::Other => return Step::Refused(refusal_with(e.text, 3)),
+        Keyword::Other => return Step::Refused(malformed(e.text)),
     }
 }
 
@@ -78,7 +78,7 @@ pub fn line_step(
     let o = open_line(src, g, at);
     match o {
         Opening::Blank(e) => return Step::Next(sh, e.next, e.feeds),
-        Opening::Foul(e) => return Step::Refused(refusal_with(e.text, 3)),
+        Opening::Foul(e) => return Step::Refused(malformed(e.text)),
         Opening::Word(q, t, e) => return word_step(src, g, work, sh, at, number, depth, q, t, e),
         Opening::Name(q, t, e) => return name_line(src, g, work, sh, at, number, depth, q, t, e),
     }

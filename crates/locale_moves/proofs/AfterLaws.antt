@@ -12,6 +12,9 @@ use Rattle.rules.specs.Tokens.{name, Token, single, operands, tokensRefusal}
 use Rattle.rules.specs.State.{afterOrder, inBlock, Chain, OrderLine, State, withOrdered, inPhase, toPhase, Outcome}
 use Rattle.rules.specs.OrderLines.{rankOf, reorderAfterLine}
 use Rattle.rules.specs.Source.{collateLine}
+use Rattle.base_units.specs.declared.Refusal.{Refusal}
+use Rattle.base_units.specs.declared.Refusal.the-variants.{BadByte}
+use Rattle.base_units.specs.Numbers.{numberOf}
 use Rattle.text_lines.specs.declared.Signs.{Signs}
 use Rattle.text_lines.specs.declared.Spot.{Spot}
 use Rattle.text_lines.specs.declared.LineEnd.{LineEnd}
@@ -24,7 +27,7 @@ use Rattle.locale_sheet.specs.declared.Step.the-variants.{Next, Refused}
 use Rattle.locale_sheet.specs.Sheets.{Open, SomeOpen}
 use Rattle.locale_sheet.proofs.BlockLaws.{open-block}
 use Rattle.locale_declarations.specs.Worded.{Opened, Writes}
-use Rattle.locale_declarations.proofs.RefusalLaws.{Fair, fair-lower, fair-lowest, fair-unless, fair-tokens, bounded, bounded-three}
+use Rattle.locale_declarations.proofs.RefusalLaws.{Fair, fair-lower, fair-lowest, fair-unless, fair-tokens, fair-low}
 use Rattle.locale_declarations.proofs.OpenedLaws.{line-moves, line-accepted, line-refused, line-foul}
 use Rattle.locale_declarations.proofs.DeclareLaws.{positive}
 use Rattle.locale_moves.specs.declared.Named.{Named}
@@ -68,6 +71,21 @@ open-holding {sh = sh} o = record {
   known = o .held .known;
 }
 
+-- ## The refusal of the operand
+
+module _ (g : Signs) (src w : List ℕ) (os : List Token) (i : Holding g src w) (v : Named) (k : NamedIs g src w os v) (r : ℕ) (z : v ≡ answer.Refused r) where
+  told : NamedNot g src w os r
+  told = subst (NamedIs g src w os) z k
+
+  fair : Fair r
+  fair = subst Fair (told .refusal (i .order) (i .rules) (i .n) (i .declared) (i .ordered) (i .known)) (fair-after (i .ordered) os)
+
+  pub after-low : 2 ≤ r
+  after-low = fair-low r fair (positive r (told .some))
+
+  pub after-high : r ≤ 7
+  after-high = fair .high
+
 -- ## The step
 
 module _ {g : Signs} {src : List ℕ} {at : ℕ} {p : Spot} {e : LineEnd} (l : Opened g src at p e "reorder-after") where
@@ -98,14 +116,14 @@ module _ {g : Signs} {src : List ℕ} {at : ℕ} {p : Spot} {e : LineEnd} (l : O
     abbrev may : Bool
     may = eqb (sh .phase) afterOrder || eqb (sh .phase) inBlock
 
-    pub after-misplaced : {x : ℕ} → x ≡ lower (2 unless e .text) 3 → {t : Bool} → t ≡ may → t ≡ false → Writes g src w sh at w (Refused x)
+    pub after-misplaced : {x : Refusal} → numberOf x ≡ lower (2 unless e .text) 3 → {t : Bool} → t ≡ may → t ≡ false → Writes g src w sh at w (Refused x)
     after-misplaced b m n =
         record {
-          is = λ number depth. line-refused l w sh number depth (bounded-three (e .text) b) (λ cs s o d u.
+          is = λ number depth. line-refused l w sh number depth b (λ cs s o d u.
               after-fault s number ∙ after-elsewhere s left (rw (o .phase) (sym m ∙ n)));
         }
 
-    pub after-foul : e .text ≡ false → Writes g src w sh at w (Refused 2)
+    pub after-foul : e .text ≡ false → Writes g src w sh at w (Refused BadByte)
     after-foul x = record { is = λ number depth. line-foul l w sh number depth x }
 
     module _ {t : Bool} (m : t ≡ may) (f : t ≡ true) where
@@ -118,12 +136,11 @@ module _ {g : Signs} {src : List ℕ} {at : ℕ} {p : Spot} {e : LineEnd} (l : O
       paper h {cs} {s} number o = after-fault s number ∙ sym (after-paper s left (rw (o .phase) opens)) ∙ h cs s o
 
       module _ {v : Named} (k : NamedIs g src w left v) where
-        pub after-refused : Holding g src w → {r x : ℕ} → v ≡ answer.Refused r → x ≡ lower (2 unless e .text) r → Writes g src w sh at w (Refused x)
-        after-refused i {r} z b =
+        pub after-refused : {r : ℕ} {x : Refusal} → v ≡ answer.Refused r → numberOf x ≡ lower (2 unless e .text) r → Writes g src w sh at w (Refused x)
+        after-refused {r} z b =
             let c : NamedNot g src w left r = subst (NamedIs g src w left) z k in
-            let q = c .refusal (i .order) (i .rules) (i .n) (i .declared) (i .ordered) (i .known) in
             record {
-              is = λ number depth. line-refused l w sh number depth (bounded (e .text) r (subst Fair q (fair-after (i .ordered) left)) (positive r (c .some)) b) (λ cs s o d u.
+              is = λ number depth. line-refused l w sh number depth b (λ cs s o d u.
                   paper (λ cs₁ s₁ o₁. c .refusal (sh .order) (s₁ .ordered .rules) (o₁ .n) (s₁ .declared) (s₁ .ordered .lines) (o₁ .known)) number o);
             }
 

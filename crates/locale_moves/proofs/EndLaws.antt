@@ -11,6 +11,9 @@ use Rattle.rules.specs.Tokens.{Token, operands, tokensRefusal}
 use Rattle.rules.specs.State.{afterOrder, inBlock, State, withOrdered, inPhase, toPhase, Outcome}
 use Rattle.rules.specs.OrderLines.{reorderEndLine}
 use Rattle.rules.specs.Source.{collateLine}
+use Rattle.base_units.specs.declared.Refusal.{Refusal}
+use Rattle.base_units.specs.declared.Refusal.the-variants.{BadByte}
+use Rattle.base_units.specs.Numbers.{numberOf}
 use Rattle.text_lines.specs.declared.Signs.{Signs}
 use Rattle.text_lines.specs.declared.Spot.{Spot}
 use Rattle.text_lines.specs.declared.LineEnd.{LineEnd}
@@ -20,7 +23,7 @@ use Rattle.locale_sheet.specs.declared.Sheet.{Sheet}
 use Rattle.locale_sheet.specs.declared.Step.the-variants.{Next, Refused}
 use Rattle.locale_sheet.proofs.BlockLaws.{open-unblocked}
 use Rattle.locale_declarations.specs.Worded.{Opened, Still}
-use Rattle.locale_declarations.proofs.RefusalLaws.{bounded-three, tokens-three, tokens-none}
+use Rattle.locale_declarations.proofs.RefusalLaws.{tokens-three, tokens-none}
 use Rattle.locale_declarations.proofs.EndLaws.{none-refused}
 use Rattle.locale_declarations.proofs.OpenedLaws.{line-moves, line-accepted, line-refused, line-foul}
 
@@ -39,21 +42,21 @@ module _ {g : Signs} {src : List ℕ} {at : ℕ} {p : Spot} {e : LineEnd} (l : O
   end-state s number = ap (λ (o : Outcome). o .state) (at-reorder-end s number (bytes "reorder-end") left refl)
 
   module _ (sh : Sheet) where
-    pub end-misplaced : {x : ℕ} → x ≡ lower (2 unless e .text) 3 → (sh .phase ≡ 6 → ⊥) → Still g src sh at (Refused x)
+    pub end-misplaced : {x : Refusal} → numberOf x ≡ lower (2 unless e .text) 3 → (sh .phase ≡ 6 → ⊥) → Still g src sh at (Refused x)
     end-misplaced b n =
         record {
           is = λ depth. record {
-            is = λ w number. line-refused l w sh number depth (bounded-three (e .text) b) (λ cs s o d u.
+            is = λ w number. line-refused l w sh number depth b (λ cs s o d u.
                 end-fault s number ∙ tokens-three left (inPhase inBlock s && eqb (length left) 0) (rw (o .phase, ne-eqb (sh .phase) 6 n)));
           };
         }
 
     module _ (f : sh .phase ≡ 6) {t : Bool} (z : t ≡ eqb (length left) 0) where
-      pub end-more : {x : ℕ} → x ≡ lower (2 unless e .text) 3 → t ≡ false → Still g src sh at (Refused x)
+      pub end-more : {x : Refusal} → numberOf x ≡ lower (2 unless e .text) 3 → t ≡ false → Still g src sh at (Refused x)
       end-more b h =
           record {
             is = λ depth. record {
-              is = λ w number. line-refused l w sh number depth (bounded-three (e .text) b) (λ cs s o d u.
+              is = λ w number. line-refused l w sh number depth b (λ cs s o d u.
                   end-fault s number ∙ tokens-three left (inPhase inBlock s && eqb (length left) 0) (rw (o .phase, f, ← z, h)));
             };
           }
@@ -63,7 +66,7 @@ module _ {g : Signs} {src : List ℕ} {at : ℕ} {p : Spot} {e : LineEnd} (l : O
             → lower (tokensRefusal left) (collateLine s number (bytes "reorder-end") left .refusal) ≡ 0
         fine s number i = end-fault s number ∙ tokens-none (inPhase inBlock s && eqb (length left) 0) (none-refused left (sym z ∙ h)) (rw (i, f, ← z, h))
 
-        pub end-foul : e .text ≡ false → Still g src sh at (Refused 2)
+        pub end-foul : e .text ≡ false → Still g src sh at (Refused BadByte)
         end-foul x =
             record { is = λ depth. record { is = λ w number. line-foul l w sh number depth x } }
 

@@ -12,6 +12,8 @@ ghost use Rattle.text_tokens.specs.Left.{tokensLeft, isInside};
 ghost use Rattle.work_subjects.specs.Keys.{subjectLeft};
 ghost use Rattle.locale_declarations.specs.Worded.{Opened, Still, Writes};
 ghost use Rattle.locale_moves.specs.Named.{Holding, LineOf, NamedIs, namedWith};
+use base_units::Refusal;
+use locale_opening::malformed;
 use locale_opening::refusal_with;
 use locale_sheet::AFTER_ORDER;
 use locale_sheet::Block;
@@ -140,11 +142,11 @@ pub fn reorder_after_line(
                     };
                     return Step::Next(next, e.next, e.feeds);
                 }
-                return Step::Refused(2);
+                return Step::Refused(Refusal::BadByte);
             }
         }
     }
-    Step::Refused(refusal_with(e.text, 3))
+    Step::Refused(malformed(e.text))
 }
 
 // reorder-end, in a block and with no operand.
@@ -167,9 +169,9 @@ pub fn reorder_end_line(src: &[u8], g: Signs, sh: Sheet, at: usize, p: Spot, e: 
                 };
                 return Step::Next(next, e.next, e.feeds);
             }
-            return Step::Refused(2);
+            return Step::Refused(Refusal::BadByte);
         }
-        return Step::Refused(refusal_with(e.text, 3)); // an operand
+        return Step::Refused(malformed(e.text)); // an operand
     }
-    Step::Refused(refusal_with(e.text, 3))
+    Step::Refused(malformed(e.text))
 }

@@ -6,9 +6,10 @@ use Prim.Native.Nat.{ℕ, _≤_, _<_}
 use native.Mathlib.Omega.{arith}
 use lib.ListN.{length, getD}
 use lib.Seq.{drop-cons}
-use borrow.Author.Tests.{ne-eqb}
-use Rattle.base_lists.proofs.Bools.{cond-both}
-use Rattle.rules.specs.Text.{if_then_else_, _unless_, lower}
+use lib.Dec.{ltb}
+use borrow.Author.Tests.{ne-eqb, ltb-false}
+use Rattle.base_lists.proofs.Bools.{by, cond-both}
+use Rattle.rules.specs.Text.{_unless_, lower}
 use Rattle.rules.specs.Names.{nameRefusal}
 use Rattle.rules.specs.Lines as paper
 use Rattle.rules.specs.Lines.{Scan, scan, lineFrom}
@@ -33,24 +34,29 @@ use Rattle.text_operands.proofs.ListLaws.{word-refusal}
 use Rattle.text_operands.proofs.NextLaws.{left-tidy}
 use Rattle.text_operands.proofs.BlankLaws.{blanks-text, skips-fresh}
 use Rattle.text_operands.proofs.FirstLaws.{no-mark}
-use Rattle.text_operands.proofs.LateLaws.{Late, two-first}
 use Rattle.text_operands.proofs.LineLaws.{line-tokens, line-broken, line-lowest, spot-start}
 use Rattle.locale_opening.specs.Begun.{lineMarks, operandsAfter, BlankLine, FoulLine, FirstAt, WordLine, NameLine}
 use Rattle.locale_opening.proofs.CollateLaws.{line-word, line-name, line-other, line-malformed, whole-foul, whole-tokens}
 
 -- ## A byte that is no text, and another refusal
 
--- of none, or of 3 and above, it is the lower
-pub with-late : (t : Bool) (r : ℕ) → Late r → lower (2 unless t) r ≡ (if t then r else 2)
-with-late true r h = lower-none-left r
-with-late false r h = two-first r h
-
 module _ (t : Bool) (r : ℕ) where
-  pub with-text : t ≡ true → r ≡ lower (2 unless t) r
-  with-text h = rw h (sym (lower-none-left r))
+  pub with-text : {x : ℕ} → x ≡ r → t ≡ true → x ≡ lower (2 unless t) r
+  with-text e h = rw h (e ∙ sym (lower-none-left r))
 
-  pub with-foul : {x : ℕ} → x ≡ lower 2 r → t ≡ false → x ≡ lower (2 unless t) r
-  with-foul e h = rw h e
+  pub with-foul : 2 ≤ r → t ≡ false → 2 ≡ lower (2 unless t) r
+  unfolding lower
+  with-foul l h =
+      let some = ne-eqb r 0 (λ e. omega (arith, e, l)) in
+      by (ltb 2 r) (λ u. rw (h, some, u)) (λ u. let k = ltb-false 2 r u in rw (h, some, u) (omega (arith, k, l)))
+
+-- a malformed line
+module _ (t : Bool) where
+  pub three-text : t ≡ true → 3 ≡ lower (2 unless t) 3
+  three-text h = with-text t 3 refl h
+
+  pub three-foul : t ≡ false → 2 ≡ lower (2 unless t) 3
+  three-foul h = with-foul t 3 (omega arith) h
 
 -- ## A line takes a byte more
 

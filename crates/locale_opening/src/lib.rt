@@ -3,7 +3,10 @@ ghost use mathlib.Core.Path.{_≡_};
 ghost use Prim.Native.Nat.{_≤_};
 ghost use lib.ListN.{length};
 ghost use Rattle.rules.specs.Text.{_unless_, lower};
+ghost use Rattle.base_units.specs.Numbers.{numberOf};
 ghost use Rattle.locale_opening.specs.Begun.{OpeningIs};
+use base_units::Refusal;
+use base_units::refusal_of;
 use text_lines::IN_PLAIN;
 use text_lines::LineEnd;
 use text_lines::Signs;
@@ -13,7 +16,6 @@ use text_tokens::NAME;
 use text_tokens::Next;
 use text_tokens::Tok;
 use text_tokens::WORD;
-use text_tokens::lower_of;
 use text_tokens::next_token;
 use text_tokens::skip_gaps;
 
@@ -29,14 +31,25 @@ pub enum Opening {
     Name(Spot, Tok, LineEnd),
 }
 
-// A line's refusal r, and that of a byte of it that is no text.
-pub fn refusal_with(text: bool, r: u8) -> u8
-    ensures { λ x. ⌜ x ≡ lower (2 unless text) r ⌝ }
+// The refusal of a line: that of a byte of it that is no text, else r.
+pub fn refusal_with(text: bool, r: u8) -> Refusal
+    requires { ⌜ (2 ≤ r) × (r ≤ 7) ⌝ }
+    ensures { λ x. ⌜ numberOf x ≡ lower (2 unless text) r ⌝ }
 {
     if text {
-        return r;
+        return refusal_of(r);
     }
-    lower_of(2, r)
+    Refusal::BadByte
+}
+
+// The same of a line that is malformed or misplaced.
+pub fn malformed(text: bool) -> Refusal
+    ensures { λ x. ⌜ numberOf x ≡ lower (2 unless text) 3 ⌝ }
+{
+    if text {
+        return Refusal::Malformed;
+    }
+    Refusal::BadByte
 }
 
 // How the line at a place begins.

@@ -1,5 +1,5 @@
 -- Refusals of an order line: none, or from 2 to 7; and what a line with none has passed.
-use mathlib.Core.Path.{_≡_, refl}
+use mathlib.Core.Path.{_≡_, refl, sym}
 use mathlib.Core.Logic.{_⊎_, inl, inr}
 use mathlib.Core.Bool.{Bool, true, false, not, _&&_, _||_}
 use mathlib.Core.List.{List, [], _∷_, map}
@@ -14,7 +14,17 @@ use Rattle.rules.specs.Text.{every, is, _unless_, lower, lowest}
 use Rattle.rules.specs.Tokens.{Token, tokensRefusal}
 use Rattle.rules.specs.State.{inOrder, inBlock, Declaration, Subject, State, inPhase}
 use Rattle.rules.specs.OrderLines.{isNames, subjectOf, stands, isSymbol, takenOut, again, weightRefusal, weightsRefusal, operandList, orderLine}
+use Rattle.text_tokens.proofs.RefusalLaws.{lower-none-left}
 use Rattle.text_operands.proofs.LineLaws.{Known, refusal-known}
+
+-- ## A byte that is no text, and another refusal or none
+
+module _ (t : Bool) (r : ℕ) where
+  pub with-text : t ≡ true → r ≡ lower (2 unless t) r
+  with-text h = rw h (sym (lower-none-left r))
+
+  pub with-foul : {x : ℕ} → x ≡ lower 2 r → t ≡ false → x ≡ lower (2 unless t) r
+  with-foul e h = rw h e
 
 -- ## The range
 

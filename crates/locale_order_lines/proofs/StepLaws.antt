@@ -35,8 +35,8 @@ use Rattle.work_known.proofs.MovedLaws.{taken-none, taken-found, came-put, came
 use Rattle.locale_sheet.specs.declared.Block.{Block}
 use Rattle.locale_sheet.specs.declared.Sheet.{Sheet}
 use Rattle.locale_sheet.specs.declared.Step.{Step}
-use Rattle.locale_sheet.specs.declared.Step.the-variants.{Next, Refused}
-use Rattle.locale_sheet.specs.Sheets.{togglesAt, InBlock, Open, SomeOpen, StepIs}
+use Rattle.locale_sheet.specs.declared.Step.the-variants.{Next}
+use Rattle.locale_sheet.specs.Sheets.{togglesAt, InBlock, Open, SomeOpen, RefusedIs, StepIs}
 use Rattle.locale_sheet.specs.Names.{operandsFrom}
 use Rattle.locale_sheet.proofs.OrderLaws.{open-listed, line-behind, out-behind, put-behind}
 use Rattle.locale_order_lines.specs.Facts.{Rowed, SomeKnown, withOrder, withLast, Ready, Lists, atEnd, firstly, anew}
@@ -62,12 +62,14 @@ open-rowed g src w sh at depth k f o d = found-rowed g src w k f (some-known g s
 -- ## What a line is read as
 
 module _ {g : Signs} {src w : List ℕ} {sh : Sheet} {at number : ℕ} {x : Subject} {p : Spot} {r : ℕ} (v : Reads g src w sh at number x p r) where
-  pub line-refused : (depth : ℕ) (w′ : List ℕ) → (r ≡ 0 → ⊥) → StepIs g src w sh at number depth w′ (Refused r)
-  line-refused depth w′ h = record {
-    refusal = λ cs s o l u. ap (λ (y : Outcome). y .refusal) (v .outcome cs s o u);
-    low = v .low h;
-    high = v .high;
-  }
+  pub line-low : (r ≡ 0 → ⊥) → 2 ≤ r
+  line-low h = v .low h
+
+  pub line-high : r ≤ 10
+  line-high = let h = v .high in omega (arith, h)
+
+  pub line-refused : (depth : ℕ) {y : ℕ} → y ≡ r → RefusedIs g src w sh at number depth y
+  line-refused depth e = record { refusal = λ cs s o l u. ap (λ (y : Outcome). y .refusal) (v .outcome cs s o u) ∙ sym e }
 
   pub line-taken : r ≡ 0 → (cs : List Chain) (s : State) → Open g src w sh cs at s → Taken s number x (operandsFrom g src p)
   line-taken e cs s o = taken s number x (operandsFrom g src p) (v .none e cs s o)

@@ -5,7 +5,7 @@ ghost use mathlib.Core.List.{[], _∷_};
 ghost use Prim.Native.Nat.{_+_, _-_, _*_, _/_, _≤_, _<_};
 ghost use lib.ListN.{length};
 ghost use lib.Dec.{eqb, leb, ltb};
-ghost use Rattle.rules.specs.Text.{if_then_else_, _unless_, bytes, lowest};
+ghost use Rattle.rules.specs.Text.{if_then_else_, _unless_, bytes, lower, lowest};
 ghost use Rattle.rules.specs.Lines.{inPlain};
 ghost use Rattle.rules.specs.Tokens.{operands};
 ghost use Rattle.rules.specs.State.{inOrder, inBlock, undefined};
@@ -21,7 +21,7 @@ ghost use Rattle.locale_order_lines.specs.Facts.{Rowed, isBare, isOwn, i
 ghost use Rattle.locale_sheet.specs.Words.{WordLine};
 ghost use Rattle.locale_order_lines.specs.Lines.{Reads};
 use base_units::is_character;
-use locale_opening::refusal_with;
+use base_units::refusal_of;
 use locale_sheet::Block;
 use locale_sheet::IN_BLOCK;
 use locale_sheet::IN_ORDER;
@@ -233,6 +233,16 @@ fn own_refusal(src: &[u8], g: Signs, work: &[u32], sh: Sheet, p: Spot, k: Facts,
     3
 }
 
+// The number of a line's refusal, 0 for none: that of a byte of it that is no text, else r.
+fn line_refusal(text: bool, r: u8) -> u8
+    ensures { λ x. ⌜ x ≡ lower (2 unless text) r ⌝ }
+{
+    if text {
+        return r;
+    }
+    lower_of(2, r)
+}
+
 // A row for what stands at a mark, where f is found for it: that of f, or a new one.
 fn row_for(src: &[u8], g: Signs, work: &mut [u32], v: usize, f: Found) -> usize
     requires { ⌜ (v / 2 ≤ length (now src)) × Roomy (length (now src)) (now work) ⌝ }
@@ -352,7 +362,7 @@ fn name_refusal(
     let again = is_again(work, sh, f);
     let o = own_refusal(src, g, work, sh, t.next, k, again);
     let l = lower_of(t.refusal, o);
-    refusal_with(e.text, l)
+    line_refusal(e.text, l)
 }
 
 // A line that opens with the name t: an order line of a character, an element or a symbol. q is where the name begins, e the line's end.
@@ -379,7 +389,7 @@ pub fn name_line(
         let m = row_for(src, g, work, v, f);
         return list_line(work, sh, m, number, t.next.at, e);
     }
-    Step::Refused(r)
+    Step::Refused(refusal_of(r))
 }
 
 // What is told of UNDEFINED, whose mark is m: it stands, and it is no symbol.
@@ -414,7 +424,7 @@ fn undefined_refusal(
     let k = undefined_facts(work, m);
     let again = is_again(work, sh, Found::At(m));
     let o = own_refusal(src, g, work, sh, p, k, again);
-    refusal_with(e.text, o)
+    line_refusal(e.text, o)
 }
 
 // A line that opens with the word UNDEFINED, right after which stands the spot p: its order line. e is the line's end.
@@ -437,5 +447,5 @@ pub fn undefined_line(
     if r == 0 {
         return list_line(work, sh, m, number, p.at, e);
     }
-    Step::Refused(r)
+    Step::Refused(refusal_of(r))
 }

@@ -1,11 +1,10 @@
 -- A line outside every category in which no byte is taken as it stands: from spots of the source to the paper's outcome.
 use mathlib.Core.Path.{_≡_, refl, sym, ap, _∙_, subst}
-use mathlib.Core.Bool.{Bool, true, false, _&&_, _||_, false≢true}
+use mathlib.Core.Bool.{Bool, true, false, _&&_, false≢true}
 use mathlib.Core.List.{List, [], _∷_}
 use Prim.Native.Nat.{ℕ, _+_, _≤_}
 use native.Mathlib.Omega.{arith}
 use lib.ListN.{length, drop}
-use lib.Dec.{eqb}
 use Rattle.base_lists.proofs.Bools.{by, and-left, and-right, and-intro}
 use Rattle.rules.specs.Text.{bytes, within, every, is, begins}
 use Rattle.rules.specs.Names.{isBlank}
@@ -91,17 +90,16 @@ module _ {h : Chars} {src : List ℕ} {at : ℕ} {e : LineEnd} (v : PlainAt h sr
       }
 
   -- one refusal for every state
-  pub refuses : {before collated : Bool} (n : ℕ) → (eqb n 2 || eqb n 3) ≡ true
+  pub refuses : {before collated : Bool} (n : ℕ)
       → ((s : State) (number : ℕ) → Stands h before collated s → wholeLine s number (marksLeft (signsOf h) src (lineStart at)) .refusal ≡ n)
       → RefusedWith h before collated src at n
-  refuses n z w =
+  refuses n w =
       record {
         refusal = λ s number x. ap (λ (o : Outcome). o .refusal) (outcome-marks x number src at _ (ap (λ (z : Scan). z .marks) (v .line))) ∙ w s number x;
-        kinds = z;
       }
 
   pub plain-foul : {before collated : Bool} → e .text ≡ false → RefusedWith h before collated src at 2
-  plain-foul t = refuses 2 refl (λ s number x. line-foul s (x .outside) number _ (l .text ∙ t))
+  plain-foul t = refuses 2 (λ s number x. line-foul s (x .outside) number _ (l .text ∙ t))
 
   module _ {q : Spot} {s : Step} (k : Skips (signsOf h) src (lineStart at) q) (w : StepIs (signsOf h) src q s) where
     pub plain-blank : {before collated : Bool} → s ≡ step.End → Changes h before collated src at (e .next) (e .feeds) (λ (x : State). x)
@@ -130,7 +128,7 @@ module _ {h : Chars} {src : List ℕ} {at : ℕ} {e : LineEnd} (v : PlainAt h sr
       clean x number y = line-clean x (y .outside) number _ (l .text ∙ t) ∙ ap (tokenLine x number) tokens
 
       pub plain-refused : {a : Bool} → AloneIs (signsOf h) src q a → a ≡ false → {before collated : Bool} → RefusedWith h before collated src at 3
-      plain-refused {a} y z {before} {collated} = refuses 3 refl (λ x number i. ap (λ (o : Outcome). o .refusal) (clean x number i) ∙ go x number i)
+      plain-refused {a} y z {before} {collated} = refuses 3 (λ x number i. ap (λ (o : Outcome). o .refusal) (clean x number i) ∙ go x number i)
         where
           both : (onlyBlanks (afterWord (m ∷ marksLeft (signsOf h) src r)) && isCategory (wordIn (m ∷ marksLeft (signsOf h) src r))) ≡ false
           both = rw (← mark .marks) (sym (y .alone) ∙ z)
@@ -201,7 +199,7 @@ module _ {h : Chars} {src : List ℕ} {at : ℕ} {q : Spot} {e : LineEnd} (v : C
   module _ {c : Bool} (i : c ≡ is wordHere "LC_COLLATE") where
     pub category-twice : c ≡ true → {collated : Bool} → collated ≡ true → (before : Bool) → RefusedWith h before collated src at 3
     category-twice f {collated} d before =
-        refuses (v .plain) (v .end) 3 refl (λ x number y.
+        refuses (v .plain) (v .end) 3 (λ x number y.
         ap (λ (o : Outcome). o .refusal) (by-word x number y)
         ∙ word-refused x (y .outside) number wordHere after
         (rw no-operands

@@ -1,5 +1,5 @@
 -- A line that sets one of the two characters, with the byte that is taken as it stands: from spots of the source to the paper's outcome.
-use mathlib.Core.Path.{_≡_, refl, sym, ap, _∙_, subst}
+use mathlib.Core.Path.{_≡_, sym, ap, _∙_, subst}
 use mathlib.Core.Bool.{Bool, true, false, not, _&&_, _||_, and-false}
 use mathlib.Core.List.{List, [], _∷_, _++_}
 use Prim.Native.Nat.{ℕ, _+_, _%_, _<_, _^_}
@@ -98,22 +98,22 @@ module _ {h : Chars} {src : List ℕ} {at : ℕ} {comment : Bool} {c k : ℕ} {r
         few = omega (arith, v .taken .few, l .few);
       }
 
-  refuses : {before collated : Bool} (n : ℕ) → (eqb n 2 || eqb n 3) ≡ true
+  refuses : {before collated : Bool} (n : ℕ)
       → ((s : State) (number : ℕ) → Stands h before collated s → wholeLine s number marks .refusal ≡ n)
       → RefusedWith h before collated src at n
-  refuses n z w =
-      record { refusal = λ s number x. ap (λ (o : Outcome). o .refusal) (outcome-marks x number src at marks (v .taken .marks)) ∙ w s number x; kinds = z }
+  refuses n w =
+      record { refusal = λ s number x. ap (λ (o : Outcome). o .refusal) (outcome-marks x number src at marks (v .taken .marks)) ∙ w s number x }
 
   -- ### A byte that is no text
 
   pub set-foul : e .text ≡ false → {before : Bool} (collated : Bool) → RefusedWith h before collated src at 2
   set-foul t collated =
-      refuses 2 refl (λ s number x. line-foul s (x .outside) number marks (whole-text ∙ rw t (and-false (isText c))))
+      refuses 2 (λ s number x. line-foul s (x .outside) number marks (whole-text ∙ rw t (and-false (isText c))))
 
   module _ {b : Bool} (i : b ≡ isText c) (t : e .text ≡ true) where
     pub set-foul-byte : b ≡ false → {before : Bool} (collated : Bool) → RefusedWith h before collated src at 2
     set-foul-byte f collated =
-        refuses 2 refl (λ s number x. line-foul s (x .outside) number marks (whole-text ∙ rw (sym i ∙ f)))
+        refuses 2 (λ s number x. line-foul s (x .outside) number marks (whole-text ∙ rw (sym i ∙ f)))
 
     module _ (f : b ≡ true) (small : c < 256) where
       tokens : LineTokens comment c (marksLeft (signsOf h) src rest) (tokensOf marks)
@@ -129,7 +129,7 @@ module _ {h : Chars} {src : List ℕ} {at : ℕ} {comment : Bool} {c k : ℕ} {r
           → ((s : State) → Stands h before collated s → signLine s comment (operands (tokens .after)) .refusal ≡ 3)
           → RefusedWith h before collated src at 3
       refuses-sign w =
-          refuses 3 refl (λ s number x.
+          refuses 3 (λ s number x.
           ap (λ (o : Outcome). o .refusal) (by-word s number x)
           ∙ word-refused s (x .outside) number (keyword comment) (tokens .after)
           (ap (λ (o : Outcome). o .refusal) (outside-sign s (x .outside) comment (operands (tokens .after))) ∙ w s x))

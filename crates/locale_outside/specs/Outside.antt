@@ -5,11 +5,11 @@ use mathlib.Core.Bool.{Bool, true, false, _&&_, _||_}
 use mathlib.Core.List.{List, []}
 use Prim.Native.Nat.{ℕ, _+_, _≤_, _<_}
 use lib.ListN.{length, drop}
-use lib.Dec.{eqb}
 use Rattle.rules.specs.Text.{if_then_else_, bytes, within, every, is, begins}
 use Rattle.rules.specs.Lines.{lineOf}
 use Rattle.rules.specs.State.{beforeCategories, inOtherCategory, beforeOrder, State, withChars, withPlace, inPhase, isOutside, gives}
 use Rattle.rules.specs.Source.{isCapital, lineOutcome, signs}
+use Rattle.base_units.specs.Numbers.{numberOf}
 use Rattle.text_lines.specs.declared.Signs.{Signs}
 use Rattle.text_lines.specs.declared.Spot.{Spot}
 use Rattle.text_lines.specs.declared.LineEnd.{LineEnd}
@@ -90,17 +90,16 @@ pub record SignedBy (h : Chars) (before collated : Bool) (src : List ℕ) (at : 
   pub line : Changes h before collated src at next feeds (λ (s : State). withChars s (charsAs c))
   pub visible : Visible (signsOf c)
 
--- The line is refused by 2 or 3, in every state in which it may stand.
+-- The line is refused, in every state in which it may stand.
 pub record RefusedWith (h : Chars) (before collated : Bool) (src : List ℕ) (at n : ℕ) : Type 0 where
   pub refusal : (s : State) (number : ℕ) → Stands h before collated s → lineOutcome s number (lineOf (signs s) (drop at src) .marks) .refusal ≡ n
-  pub kinds : (eqb n 2 || eqb n 3) ≡ true
 
 -- what a line outside every category is
 abbrev pub OuterIs : Chars → Bool → Bool → List ℕ → ℕ → Outer → Type 0
 OuterIs h before collated src at (Blank next feeds) = Changes h before collated src at next feeds (λ (s : State). s)
 OuterIs h before collated src at (Signed c next feeds) = SignedBy h before collated src at c next feeds
 OuterIs h before collated src at (Opened collate word next feeds) = OpenedAt h before collated src at collate word next feeds
-OuterIs h before collated src at (Refused n) = RefusedWith h before collated src at n
+OuterIs h before collated src at (Refused r) = RefusedWith h before collated src at (numberOf r)
 
 -- whether a category has stood or not
 abbrev pub PlainOuter : Chars → Bool → List ℕ → ℕ → Outer → Type 0

@@ -9,6 +9,7 @@ ghost use Rattle.text_lines.specs.Stream.{marksLeft};
 ghost use Rattle.text_tokens.specs.Left.{wordIn};
 ghost use Rattle.text_as_is.specs.Signed.{Visible};
 ghost use Rattle.locale_outside.specs.Outside.{isCategory, capitalsIn, AloneIs, signsOf, OuterIs, PlainOuter, TakenOuter, PlainAt, TakenAt, CategoryAt};
+use base_units::Refusal;
 use text_as_is::Sign;
 use text_as_is::sign_line;
 use text_lines::IN_PLAIN;
@@ -38,7 +39,7 @@ pub enum Outer {
     // a category is opened: whether it is LC_COLLATE, the place where its word begins, the place after the line, and its LFs
     Opened(bool, usize, usize, usize),
     // the line's refusal
-    Refused(u8),
+    Refused(Refusal),
 }
 
 // Whether a byte is a capital or an underscore.
@@ -139,7 +140,7 @@ fn category_line(src: &[u8], h: Chars, collated: bool, at: usize, q: Spot, e: Li
     };
     if word_is(src, g, q, b"LC_COLLATE") {
         if collated {
-            return Outer::Refused(3);
+            return Outer::Refused(Refusal::Malformed);
         }
         return Outer::Opened(true, q.at, e.next, e.feeds);
     }
@@ -170,9 +171,9 @@ fn plain_line(src: &[u8], h: Chars, collated: bool, at: usize) -> Outer
                 if category_alone(src, g, q) {
                     return category_line(src, h, collated, at, q, e);
                 }
-                return Outer::Refused(3);
+                return Outer::Refused(Refusal::Malformed);
             }
-            return Outer::Refused(2);
+            return Outer::Refused(Refusal::BadByte);
         }
     }
 }
@@ -203,15 +204,15 @@ fn taken_line(
                     if may_set(h, comment, c) {
                         return Outer::Signed(with_set(h, comment, c), e.next, k + e.feeds);
                     }
-                    return Outer::Refused(3);
+                    return Outer::Refused(Refusal::Malformed);
                 }
-                return Outer::Refused(3);
+                return Outer::Refused(Refusal::Malformed);
             }
-            return Outer::Refused(3);
+            return Outer::Refused(Refusal::Malformed);
         }
-        return Outer::Refused(2);
+        return Outer::Refused(Refusal::BadByte);
     }
-    Outer::Refused(2)
+    Outer::Refused(Refusal::BadByte)
 }
 
 // The line at a place, with two characters in force that are no blanks; whether no category stands before it, and whether LC_COLLATE does.

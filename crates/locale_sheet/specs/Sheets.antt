@@ -12,6 +12,7 @@ use Rattle.rules.specs.State.{beforeOrder, afterOrder, inBlock, betweenCategori
 use Rattle.rules.specs.Conditionals.{chain}
 use Rattle.rules.specs.OrderLines.{ruleOf, ruleCodes}
 use Rattle.rules.specs.Source.{lineOutcome}
+use Rattle.base_units.specs.Numbers.{numberOf}
 use Rattle.text_lines.specs.declared.Signs.{Signs}
 use Rattle.text_lines.specs.Stream.{lineLeft, marksLeft, lineStart}
 use Rattle.text_tokens.specs.Left.{tokensLeft}
@@ -140,8 +141,6 @@ pub record ClosesIs (g : Signs) (src w : List ℕ) (sh : Sheet) (at number depth
 -- A line that is refused.
 pub record RefusedIs (g : Signs) (src w : List ℕ) (sh : Sheet) (at number depth r : ℕ) : Type 0 where
   pub refusal : Every g src w sh at depth (λ (cs : List Chain) (s : State). outcomeOf g src at s number .refusal ≡ r)
-  pub low : 2 ≤ r
-  pub high : r ≤ 7
 
 -- A line of elif, else or endif: the chain that is open reads it, with the area as it was.
 pub record BranchIs (g : Signs) (src w : List ℕ) (at : ℕ) (w′ : List ℕ) : Type 0 where
@@ -154,4 +153,4 @@ StepIs g src w sh at number depth w′ (Next sh′ next k) = NextIs g src w sh a
 StepIs g src w sh at number depth w′ (Opens holds sh′ next k) = OpensIs g src w sh at number depth w′ holds sh′ next k
 StepIs g src w sh at number depth w′ (Closes next k) = ClosesIs g src w sh at number depth w′ next k
 StepIs g src w sh at number depth w′ Branch = BranchIs g src w at w′
-StepIs g src w sh at number depth w′ (Refused r) = RefusedIs g src w sh at number depth r
+StepIs g src w sh at number depth w′ (Refused r) = RefusedIs g src w sh at number depth (numberOf r)

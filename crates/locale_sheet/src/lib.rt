@@ -1,4 +1,5 @@
 // What is known between two lines in LC_COLLATE beside the work area, and what a line may do to it.
+use base_units::Refusal;
 use work_order::Order;
 
 // LC_COLLATE before its order.
@@ -42,5 +43,5 @@ pub enum Step {
     Closes(usize, usize),
     // elif, else or endif: the chain that is open reads it
     Branch,
-    Refused(u8),
+    Refused(Refusal),
 }

@@ -13,6 +13,7 @@ use Rattle.rules.specs.Tokens.{plainMarks, wordsOf}
 use Rattle.rules.specs.State.{beforeOrder, betweenCategories, inOtherCategory, Chain, State, withBlocks, inPhase, inCollate, Outcome, gives}
 use Rattle.rules.specs.Conditionals.{blocks, chain, isUnused}
 use Rattle.rules.specs.Source.{signs, otherLine, unusedLine, wholeLine, lineOutcome, linesFrom}
+use Rattle.base_units.specs.declared.Refusal.the-variants.{Malformed, TooMany}
 use Rattle.text_lines.specs.declared.Signs.{Signs}
 use Rattle.text_lines.specs.declared.LineEnd.{LineEnd}
 use Rattle.text_lines.specs.Stream.{plainSigns, lineStart, marksLeft, LineIs}
@@ -229,7 +230,6 @@ module _ {g : Signs} {src : List ℕ} {at number depth i n total : ℕ} (v : InB
   pub branch-end : length src ≤ i → BranchRefused g src at number depth 3 n
   branch-end h =
       record {
-        kinds = refl;
         run = λ s u. refuses-from (v .run s u) (run-unended src i n (opened depth total s) (opened-inside g depth total s u) h);
       }
 
@@ -250,7 +250,6 @@ module _ {g : Signs} {src : List ℕ} {at number depth i n total : ℕ} (v : InB
     branch-deep e =
         let o : TurnDeep g src i depth total = subst (TurnIs g src i depth total) e w in
         record {
-          kinds = refl;
           run = λ s u. refuses-from (v .run s u)
               (run-refuses g src i n (opened depth total s) (opened-signs g depth total s u) 7 h (o .outcome s u n) (λ z. omega arith));
         }
@@ -272,7 +271,7 @@ module _ {g : Signs} {src : List ℕ} {at number depth i n total : ℕ} (v : InB
 
 -- the state that it begins with
 abbrev begun : Signs → ℕ → ℕ → ℕ → Branch
-begun g at number depth = record { over = false; next = at; number = number; total = depth; answer = skip.Refused 3 number; depth = depth; signs = g }
+begun g at number depth = record { over = false; next = at; number = number; total = depth; answer = skip.Refused Malformed number; depth = depth; signs = g }
 
 pub reading-begins : {g : Signs} {src : List ℕ} {at number depth : ℕ} → Begins src at number
     → BranchStands src (begun g at number depth) (begun g at number depth) at number
@@ -300,13 +299,13 @@ module _ {src : List ℕ} {t : Branch} {at number : ℕ} (h : at < length src) {
       record { further = λ f. absurd (true≢false f); goes = λ f. absurd (true≢false f); stops = λ f s v. branch-stops (v .passed) h (same-turn v k w) e }
 
   pub reading-deep : k ≡ turn.Deep
-      → Turns branchReading src t at number (record { over = true; next = at; number = number; total = t .total; answer = skip.Refused 7 number; depth = t .depth; signs = t .signs })
+      → Turns branchReading src t at number (record { over = true; next = at; number = number; total = t .total; answer = skip.Refused TooMany number; depth = t .depth; signs = t .signs })
   reading-deep e =
       record { further = λ f. absurd (true≢false f); goes = λ f. absurd (true≢false f); stops = λ f s v. branch-deep (v .passed) h (same-turn v k w) e }
 
   pub reading-on : {o : ℕ} {x : LineEnd} → k ≡ turn.On o → LineIs (t .signs) src (lineStart at) x
       → Turns branchReading src t at number
-      (record { over = false; next = x .next; number = number + x .feeds; total = o; answer = skip.Refused 3 (number + x .feeds); depth = t .depth; signs = t .signs })
+      (record { over = false; next = x .next; number = number + x .feeds; total = o; answer = skip.Refused Malformed (number + x .feeds); depth = t .depth; signs = t .signs })
   reading-on e l =
       record {
         further = λ f. l .on h;

@@ -65,7 +65,6 @@ module _ {g : Signs} {src : List ℕ} {at number : ℕ} {name : List ℕ} {i n :
   pub category-end : length src ≤ i → CategoryRefused g src at number name 3 n
   category-end h =
       record {
-        three = refl;
         run = λ s u. refuses-from (v .run s u) (run-unended src i n s (other-inside g src name s u) h);
       }
 

@@ -2,3 +2,4 @@ pub mod LineRuns
 pub mod BranchLaws
 pub mod CategoryLaws
 pub mod NameLaws
+pub mod Fields

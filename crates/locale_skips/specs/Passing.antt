@@ -4,11 +4,12 @@ use mathlib.Core.Bool.{Bool, true, false, _||_}
 use mathlib.Core.List.{List}
 use Prim.Native.Nat.{ℕ, _+_, _-_, _≤_, _<_}
 use lib.ListN.{length, drop}
-use lib.Dec.{eqb}
 use Rattle.rules.specs.Text.{bytes, is}
 use Rattle.rules.specs.State.{betweenCategories, inOtherCategory, State, withBlocks, inPhase, toPhase, inCollate, gives}
 use Rattle.rules.specs.Conditionals.{blocks, isUnused}
 use Rattle.rules.specs.Source.{wholeLine, lineOutcome, Ended, linesFrom}
+use Rattle.base_units.specs.declared.Refusal.the-variants.{Malformed}
+use Rattle.base_units.specs.Numbers.{numberOf}
 use Rattle.text_lines.specs.declared.LineEnd.{LineEnd}
 use Rattle.text_lines.specs.declared.Signs.{Signs}
 use Rattle.text_lines.specs.Stream.{lineStart, marksLeft, LineIs}
@@ -126,12 +127,11 @@ pub record BranchStops (g : Signs) (src : List ℕ) (at number depth next n : �
 
 -- There is none: inner chains nest too deep, or the source ends.
 pub record BranchRefused (g : Signs) (src : List ℕ) (at number depth r l : ℕ) : Type 0 where
-  pub kinds : (eqb r 3 || eqb r 7) ≡ true
   pub run : (s : State) → Unused g depth s → Refuses (linesFrom s number 0 (drop at src)) r l
 
 abbrev pub BranchIs : Signs → List ℕ → ℕ → ℕ → ℕ → Skip → Type 0
 BranchIs g src at number depth (skip.Stop next n) = BranchStops g src at number depth next n
-BranchIs g src at number depth (skip.Refused r l) = BranchRefused g src at number depth r l
+BranchIs g src at number depth (skip.Refused r l) = BranchRefused g src at number depth (numberOf r) l
 
 -- From the place `at` to i only lines of the branch are passed, with no inner chain open at first, and then `total` chains in all.
 pub record InBranch (g : Signs) (src : List ℕ) (at number depth i n total : ℕ) : Type 0 where
@@ -145,7 +145,7 @@ pub record InBranch (g : Signs) (src : List ℕ) (at number depth i n total : �
 pub record BranchStands (src : List ℕ) (s t : Branch) (i n : ℕ) : Type 0 where
   pub signs : t .signs ≡ s .signs
   pub depth : t .depth ≡ s .depth
-  pub answer : t .answer ≡ skip.Refused 3 n
+  pub answer : t .answer ≡ skip.Refused Malformed n
   pub passed : InBranch (s .signs) src (s .next) (s .number) (s .depth) i n (t .total)
 
 abbrev pub branchReading : Reading Branch
@@ -191,7 +191,7 @@ pub record Missing (src : List ℕ) (at number r l : ℕ) : Type 0 where
 
 abbrev pub AfterIs : Signs → List ℕ → ℕ → ℕ → Skip → Type 0
 AfterIs g src at number (skip.Stop next n) = Passed g src at number next n
-AfterIs g src at number (skip.Refused r l) = Missing src at number r l
+AfterIs g src at number (skip.Refused r l) = Missing src at number (numberOf r) l
 
 -- Up to the line after its END line.
 pub record CategoryStops (g : Signs) (src : List ℕ) (at number : ℕ) (name : List ℕ) (next n : ℕ) : Type 0 where
@@ -202,9 +202,8 @@ pub record CategoryStops (g : Signs) (src : List ℕ) (at number : ℕ) (name : 
 
 -- It does not end.
 pub record CategoryRefused (g : Signs) (src : List ℕ) (at number : ℕ) (name : List ℕ) (r l : ℕ) : Type 0 where
-  pub three : r ≡ 3
   pub run : (s : State) → InOther g name s → Refuses (linesFrom s number 0 (drop at src)) r l
 
 abbrev pub CategoryIs : Signs → List ℕ → ℕ → ℕ → List ℕ → Skip → Type 0
 CategoryIs g src at number name (skip.Stop next n) = CategoryStops g src at number name next n
-CategoryIs g src at number name (skip.Refused r l) = CategoryRefused g src at number name r l
+CategoryIs g src at number name (skip.Refused r l) = CategoryRefused g src at number name (numberOf r) l

@@ -6,6 +6,7 @@ ghost use Rattle.text_lines.specs.Stream.{lineStart};
 ghost use Rattle.text_reader.specs.Turns.{AtLine, Turns};
 ghost use Rattle.text_passed.specs.Words.{firstWord};
 ghost use Rattle.locale_skips.specs.Passing.{KindIs, Begins, TurnIs, BranchIs, BranchStands, branchReading, Named, nameAt, isEnd, Reaches, AfterIs, CategoryIs};
+use base_units::Refusal;
 use text_lines::IN_PLAIN;
 use text_lines::Signs;
 use text_lines::Spot;
@@ -45,7 +46,7 @@ pub enum Turn {
 // Stop: the place and the number of the line that is to be read next. Refused: why, and at which line.
 pub enum Skip {
     Stop(usize, usize),
-    Refused(u8, usize),
+    Refused(Refusal, usize),
 }
 
 // What the line at a place is in an unused branch.
@@ -147,7 +148,7 @@ fn branch_line(src: &[u8], s: Branch, at: usize, number: usize) -> Branch
                 next: at,
                 number: number,
                 total: total,
-                answer: Skip::Refused(7, number),
+                answer: Skip::Refused(Refusal::TooMany, number),
                 depth: depth,
                 signs: g,
             };
@@ -160,7 +161,7 @@ fn branch_line(src: &[u8], s: Branch, at: usize, number: usize) -> Branch
                 next: e.next,
                 number: n,
                 total: o,
-                answer: Skip::Refused(3, n),
+                answer: Skip::Refused(Refusal::Malformed, n),
                 depth: depth,
                 signs: g,
             };
@@ -195,7 +196,7 @@ pub fn skip_branch(src: &[u8], g: Signs, at: usize, number: usize, depth: usize)
         next: at,
         number: number,
         total: depth,
-        answer: Skip::Refused(3, number),
+        answer: Skip::Refused(Refusal::Malformed, number),
         depth: depth,
         signs: g,
     };
@@ -240,7 +241,7 @@ fn line_after(src: &[u8], g: Signs, at: usize, number: usize) -> Skip
         let e = line_at(src, g, at);
         return Skip::Stop(e.next, number + e.feeds);
     }
-    Skip::Refused(3, number)
+    Skip::Refused(Refusal::Malformed, number)
 }
 
 // The rest of another category of this name: the line after its END line.

@@ -7,6 +7,8 @@ use native.Mathlib.Omega.{arith}
 use Rattle.rules.specs.Names.{isBlank}
 use Rattle.rules.specs.Lines as paper
 use Rattle.rules.specs.State.{betweenCategories, State, start, toPhase}
+use Rattle.base_units.specs.declared.Refusal.{Refusal}
+use Rattle.base_units.specs.Numbers.{numberOf}
 use Rattle.text_lines.specs.declared.Signs.{Signs}
 use Rattle.text_specials.specs.declared.Chars.{Chars}
 use Rattle.text_specials.specs.Force.{charsAs}
@@ -27,7 +29,6 @@ use Rattle.locale_category.specs.Category.{Begun, Ready, ClosedAt, RefusedAt, C
 use Rattle.locale_source.specs.declared.Source.{Source}
 use Rattle.locale_source.specs.declared.Source.the-variants as source
 use Rattle.locale_source.specs.Whole.{Empty, RefusedSource, SourceIs, AfterIs, RefusedInside, InsideIs}
-use Rattle.locale_source.proofs.AfterLaws.{kinds-low, kinds-high}
 
 -- ## The lines from the one after LC_COLLATE on
 
@@ -41,10 +42,10 @@ stands-behind : {c : Chars} {g : Signs} {src w : List ℕ} {sh : Sheet} {at : �
 stands-behind o e = record { outside = refl; chars = e; before = refl; collated = o .collated; chains = o .chains }
 
 module _ (c : Chars) (src : List ℕ) (at number : ℕ) (w′ : List ℕ) (k : Category) (q : CategoryIs (signsOf c) src at number w′ k) where
-  pub inside-refused : {r l : ℕ} → k ≡ category.Refused r l → RefusedInside c src at number r l
+  pub inside-refused : {r : Refusal} {l : ℕ} → k ≡ category.Refused r l → RefusedInside c src at number (numberOf r) l
   inside-refused {r} {l} e =
-      let y : RefusedAt (signsOf c) src at number r l = subst (CategoryIs (signsOf c) src at number w′) e q in
-      record { run = y .runs (collatedBy c start) (begun c); low = y .low; high = y .high }
+      let y : RefusedAt (signsOf c) src at number (numberOf r) l = subst (CategoryIs (signsOf c) src at number w′) e q in
+      record { run = y .runs (collatedBy c start) (begun c) }
 
   module _ (sh : Sheet) (next n : ℕ) (e : k ≡ category.Closed sh next n) where
     closed : ClosedAt (signsOf c) src at number w′ sh next n
@@ -71,7 +72,7 @@ module _ (c : Chars) (src : List ℕ) (at number : ℕ) (w′ : List ℕ) (k : C
           ordered = t .keeps .ordered;
         })
     inside-after (source.Refused r l) y =
-        record { run = refuses-from (out .run) (y .run (toPhase (out .after) betweenCategories) (stands-behind (out .held) (out .chars))); low = y .low; high = y .high }
+        record { run = refuses-from (out .run) (y .run (toPhase (out .after) betweenCategories) (stands-behind (out .held) (out .chars))) }
 
 -- ## All lines
 
@@ -90,16 +91,16 @@ stands-start : (c : Chars) → charsAs c ≡ paper.defaults → Stands c true fa
 stands-start c e = record { outside = refl; chars = sym e; before = refl; collated = refl; chains = refl }
 
 module _ (c : Chars) (e : charsAs c ≡ paper.defaults) (src : List ℕ) (o : Outers) (v : OutersIs c true false src 0 1 o) where
-  pub source-refused : {r l : ℕ} → o ≡ outers.Refused r l → RefusedSource src r l
+  pub source-refused : {r : Refusal} {l : ℕ} → o ≡ outers.Refused r l → RefusedSource src (numberOf r) l
   source-refused {r} {l} f =
-      let y : Fails c true false src 0 1 r l = subst (OutersIs c true false src 0 1) f v in
-      record { run = y .run start (stands-start c e); low = kinds-low r (y .kinds); high = kinds-high r (y .kinds) }
+      let y : Fails c true false src 0 1 (numberOf r) l = subst (OutersIs c true false src 0 1) f v in
+      record { run = y .run start (stands-start c e) }
 
   -- LC_COLLATE is missing
   pub source-without : {h : Chars} {first : Bool} {n : ℕ} → o ≡ outers.End h first n → RefusedSource src 3 n
   source-without {h} {first} {n} f =
       let y : EndsAll c true false src 0 1 h first n = subst (OutersIs c true false src 0 1) f v in
-      record { run = ends-without (y .ends start (stands-start c e)) refl; low = omega arith; high = omega arith }
+      record { run = ends-without (y .ends start (stands-start c e)) refl }
 
   module _ (h : Chars) (at n : ℕ) (f : o ≡ outers.Collate h at n) where
     opens : Opens c true false src 0 1 h at n
@@ -122,4 +123,4 @@ module _ (c : Chars) (e : charsAs c ≡ paper.defaults) (src : List ℕ) (o : Ou
       declared = y .declared;
       ordered = y .ordered;
     }
-    source-inside w′ (source.Refused r l) y = record { run = refuses-from (opens .run start (stands-start c e)) (y .run); low = y .low; high = y .high }
+    source-inside w′ (source.Refused r l) y = record { run = refuses-from (opens .run start (stands-start c e)) (y .run) }

@@ -2,11 +2,12 @@
 use mathlib.Core.Path.{_≡_}
 use mathlib.Core.Bool.{true, false}
 use mathlib.Core.List.{List, []}
-use Prim.Native.Nat.{ℕ, _≤_}
+use Prim.Native.Nat.{ℕ}
 use lib.ListN.{length, drop, replicate}
 use lib.Dec.{eqb}
 use Rattle.rules.specs.State.{beforeOrder, State, start}
 use Rattle.rules.specs.Source.{ended, linesFrom}
+use Rattle.base_units.specs.Numbers.{numberOf}
 use Rattle.text_lines.specs.declared.Signs.{Signs}
 use Rattle.text_specials.specs.declared.Chars.{Chars}
 use Rattle.locale_outside.specs.Outside.{signsOf, Stands}
@@ -37,12 +38,10 @@ pub record WholeSource (src w′ : List ℕ) (g : Signs) (sh : Sheet) : Type 0 w
 -- A line is refused, or something is missing at the end.
 pub record RefusedSource (src : List ℕ) (r l : ℕ) : Type 0 where
   pub run : Refuses (linesFrom start 1 0 src) r l
-  pub low : 2 ≤ r
-  pub high : r ≤ 7
 
 abbrev pub SourceIs : List ℕ → List ℕ → Source → Type 0
 SourceIs src w′ (source.Lines g sh) = WholeSource src w′ g sh
-SourceIs src w′ (source.Refused r l) = RefusedSource src r l
+SourceIs src w′ (source.Refused r l) = RefusedSource src (numberOf r) l
 
 -- ## The lines after LC_COLLATE
 
@@ -61,12 +60,10 @@ pub record EndsAfter (c : Chars) (src : List ℕ) (sh : Sheet) (at number : ℕ)
 -- A line is refused.
 pub record RefusedAfter (c : Chars) (src : List ℕ) (at number r l : ℕ) : Type 0 where
   pub run : (s : State) → Stands c false true s → Refuses (linesFrom s number 0 (drop at src)) r l
-  pub low : 2 ≤ r
-  pub high : r ≤ 7
 
 abbrev pub AfterIs : Chars → List ℕ → Sheet → ℕ → ℕ → Source → Type 0
 AfterIs c src sh at number (source.Lines g x) = EndsAfter c src sh at number g x
-AfterIs c src sh at number (source.Refused r l) = RefusedAfter c src at number r l
+AfterIs c src sh at number (source.Refused r l) = RefusedAfter c src at number (numberOf r) l
 
 -- ## The lines from the one after LC_COLLATE on
 
@@ -84,9 +81,7 @@ pub record WholeInside (c : Chars) (src : List ℕ) (at number : ℕ) (w′ : Li
 -- A line is refused, or something is missing at the end.
 pub record RefusedInside (c : Chars) (src : List ℕ) (at number r l : ℕ) : Type 0 where
   pub run : Refuses (linesFrom (collatedBy c start) number 0 (drop at src)) r l
-  pub low : 2 ≤ r
-  pub high : r ≤ 7
 
 abbrev pub InsideIs : Chars → List ℕ → ℕ → ℕ → List ℕ → Source → Type 0
 InsideIs c src at number w′ (source.Lines g sh) = WholeInside c src at number w′ g sh
-InsideIs c src at number w′ (source.Refused r l) = RefusedInside c src at number r l
+InsideIs c src at number w′ (source.Refused r l) = RefusedInside c src at number (numberOf r) l

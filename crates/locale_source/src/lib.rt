@@ -4,6 +4,7 @@ ghost use Rattle.locale_outside.specs.Outside.{signsOf};
 ghost use Rattle.locale_skips.specs.Passing.{Begins};
 ghost use Rattle.locale_category.specs.Category.{Ready};
 ghost use Rattle.locale_source.specs.Whole.{Empty, AfterIs, InsideIs, SourceIs};
+use base_units::Refusal;
 use locale_category::Category;
 use locale_category::category_lines;
 use locale_sheet::Sheet;
@@ -16,7 +17,7 @@ use text_specials::start;
 // What the lines of a source leave beside the work area: the two characters in LC_COLLATE, and the sheet at its end; or a refusal, and its line.
 pub enum Source {
     Lines(Signs, Sheet),
-    Refused(u8, usize),
+    Refused(Refusal, usize),
 }
 
 // The lines after LC_COLLATE, which has left the sheet.
@@ -26,10 +27,10 @@ fn lines_after(src: &[u8], c: Chars, sh: Sheet, at: usize, number: usize) -> Sou
 {
     let o = outer_lines(src, c, false, true, at, number);
     match o {
-        Outers::Collate(_, _, n) => return Source::Refused(3, n),
+        Outers::Collate(_, _, n) => return Source::Refused(Refusal::Malformed, n),
         Outers::End(_, first, n) => {
             if first {
-                return Source::Refused(3, n);
+                return Source::Refused(Refusal::Malformed, n);
             }
             let g = Signs {
                 comment: c.comment,
@@ -66,7 +67,7 @@ pub fn source_lines(src: &[u8], work: &mut [u32]) -> Source
     let o = outer_lines(src, c, true, false, 0, 1);
     match o {
         Outers::Collate(h, at, n) => return lines_in(src, h, work, at, n),
-        Outers::End(_, _, n) => return Source::Refused(3, n),
+        Outers::End(_, _, n) => return Source::Refused(Refusal::Malformed, n),
         Outers::Refused(r, l) => return Source::Refused(r, l),
     }
 }

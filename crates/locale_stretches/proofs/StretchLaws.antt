@@ -8,6 +8,8 @@ use lib.ListN.{length, drop}
 use Rattle.rules.specs.State.{State}
 use Rattle.rules.specs.Source.{linesFrom}
 use Rattle.rules.proofs.RunLaws.{run-end}
+use Rattle.base_units.specs.declared.Refusal.{Refusal}
+use Rattle.base_units.specs.Numbers.{numberOf}
 use Rattle.text_specials.specs.declared.Chars.{Chars}
 use Rattle.text_as_is.specs.Signed.{Visible}
 use Rattle.locale_outside.specs.Outside.{signsOf}
@@ -91,12 +93,11 @@ module _ {h : Chars} {before collated : Bool} {src : List ℕ} {at number : ℕ}
           few = o .few;
         }
 
-    outside-refused : {r l : ℕ} → t ≡ turn.Refused r l → Fails h before collated src at number r l
+    outside-refused : {r : Refusal} {l : ℕ} → t ≡ turn.Refused r l → Fails h before collated src at number (numberOf r) l
     outside-refused {r} {l} e =
-        let o : Fails c first collated src i n r l = subst (TurnIs c first collated src i n) e w in
+        let o : Fails c first collated src i n (numberOf r) l = subst (TurnIs c first collated src i n) e w in
         record {
           run = λ s u. let q = v .reaches s u in refuses-from (q .run) (o .run (q .state) (q .stands));
-          kinds = o .kinds;
         }
 
 -- ## The reading of the lines
@@ -141,7 +142,7 @@ module _ {src : List ℕ} {t : Stretch} {at number : ℕ} {k : Turn} (w : TurnIs
         stops = λ f s v. answer-at src s t (outers.Collate d next m) (v .collated) (outside-collate (v .passed) w e);
       }
 
-  pub reading-refused : {r l : ℕ} → k ≡ turn.Refused r l
+  pub reading-refused : {r : Refusal} {l : ℕ} → k ≡ turn.Refused r l
       → Turns stretchReading src t at number (record { over = true; next = at; number = number; answer = outers.Refused r l; chars = t .chars; before = t .before; collated = t .collated })
   reading-refused {r} {l} e =
       record {

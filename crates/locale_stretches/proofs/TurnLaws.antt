@@ -1,17 +1,19 @@
 -- One line outside every category as a step of the run over the source, and the category that it opens.
 use mathlib.Core.Path.{_≡_, refl, sym, ap, _∙_, subst}
-use mathlib.Core.Bool.{Bool, true, false, _||_, false≢true}
+use mathlib.Core.Bool.{Bool, true, false}
 use mathlib.Core.List.{List}
 use Prim.Native.Nat.{ℕ, _+_, _*_, _^_, _≤_, _<_}
 use native.Mathlib.Omega.{arith}
 use lib.ListN.{length, drop, length-drop}
-use lib.Dec.{eqb}
 use Rattle.rules.specs.Text.{bytes, is}
 use Rattle.rules.specs.Lines as paper
 use Rattle.rules.specs.State.{betweenCategories, State, withChars, toPhase, Outcome}
 use Rattle.rules.specs.Source.{Ended, ended, linesFrom}
 use Rattle.rules.proofs.TextLaws.{same-true}
 use Rattle.rules.proofs.RunLaws.{lineAt, outcomeAt, run-at, run-refused}
+use Rattle.base_units.specs.declared.Refusal.{Refusal}
+use Rattle.base_units.specs.Numbers.{numberOf}
+use Rattle.base_units.proofs.NumberLaws.{numberOf-some}
 use Rattle.text_specials.specs.declared.Chars.{Chars}
 use Rattle.text_specials.specs.Force.{charsAs}
 use Rattle.text_as_is.specs.Signed.{Visible}
@@ -41,16 +43,13 @@ module _ {h : Chars} {before collated : Bool} {src : List ℕ} {at : ℕ} (i : a
       ∙ ap (λ (x : ℕ). linesFrom (change s) (n + feeds) 0 (drop x src)) (w .end)
 
   -- or ends with its refusal
-  run-fails : {r : ℕ} → RefusedWith h before collated src at r → (n : ℕ) (s : State) → Stands h before collated s
-      → Refuses (linesFrom s n 0 (drop at src)) r n
-  run-fails {r} v n s u =
-      let q : outcomeAt s n (drop at src) .refusal ≡ r = v .refusal s n u in
+  run-fails : (r : Refusal) → RefusedWith h before collated src at (numberOf r) → (n : ℕ) (s : State) → Stands h before collated s
+      → Refuses (linesFrom s n 0 (drop at src)) (numberOf r) n
+  run-fails r v n s u =
+      let q : outcomeAt s n (drop at src) .refusal ≡ numberOf r = v .refusal s n u in
       let e : linesFrom s n 0 (drop at src) ≡ ended (outcomeAt s n (drop at src) .refusal) n s =
-      run-refused s n (drop at src) (some-left src at i) (λ y. some-number r (v .kinds) (sym q ∙ y)) in
+      run-refused s n (drop at src) (some-left src at i) (λ y. numberOf-some r (sym q ∙ y)) in
       record { refusal = ap (λ (x : Ended). x .refusal) e ∙ q; line = ap (λ (x : Ended). x .line) e }
-    where
-      some-number : (r : ℕ) → (eqb r 2 || eqb r 3) ≡ true → r ≡ 0 → ⊥
-      some-number r k e = false≢true (rw e at k)
 
 -- ## The states after it
 
@@ -127,10 +126,10 @@ module _ (h : Chars) (before collated : Bool) (src : List ℕ) (at number : ℕ)
         few = omega (arith, v .line .few);
       }
 
-  pub turn-refused : {r : ℕ} → t ≡ outer.Refused r → Fails h before collated src at number r number
+  pub turn-refused : {r : Refusal} → t ≡ outer.Refused r → Fails h before collated src at number (numberOf r) number
   turn-refused {r} e =
-      let v : RefusedWith h before collated src at r = subst (OuterIs h before collated src at) e w in
-      record { run = λ s u. run-fails i v number s u; kinds = v .kinds }
+      let v : RefusedWith h before collated src at (numberOf r) = subst (OuterIs h before collated src at) e w in
+      record { run = λ s u. run-fails i r v number s u }
 
   module _ {collate : Bool} {word next feeds : ℕ} (e : t ≡ outer.Opened collate word next feeds) where
     opened : OpenedAt h before collated src at collate word next feeds
@@ -192,12 +191,11 @@ module _ (h : Chars) (before collated : Bool) (src : List ℕ) (at number : ℕ)
               few = y .few;
             }
 
-        pub turn-unended : {r l : ℕ} → k ≡ skip.Refused r l → Fails h before collated src at number r l
+        pub turn-unended : {r : Refusal} {l : ℕ} → k ≡ skip.Refused r l → Fails h before collated src at number (numberOf r) l
         unfolding nameAt
         turn-unended {r} {l} d =
-            let y : CategoryRefused (signsOf h) src next (number + feeds) (nameAt (signsOf h) src word) r l = subst Category d x in
+            let y : CategoryRefused (signsOf h) src next (number + feeds) (nameAt (signsOf h) src word) (numberOf r) l = subst Category d x in
             record {
               run = λ s u. refuses-from (run-changed i other number s u)
                   (y .run (openedBy false (wordThere h src word) s) (in-other u (wordThere h src word)));
-              kinds = rw (y .three);
             }

@@ -1,13 +1,13 @@
 -- Stretches of lines outside LC_COLLATE: what the paper makes of them (Rattle.rules.specs.Source), for every state in which they may stand.
 use mathlib.Core.Path.{_≡_}
-use mathlib.Core.Bool.{Bool, true, false, _||_}
+use mathlib.Core.Bool.{Bool, true, false}
 use mathlib.Core.List.{List}
 use Prim.Native.Nat.{ℕ, _+_, _≤_, _<_}
 use lib.ListN.{length, drop}
-use lib.Dec.{eqb}
 use Rattle.rules.specs.Text.{bytes}
 use Rattle.rules.specs.State.{beforeOrder, State}
 use Rattle.rules.specs.Source.{atEnd, linesFrom}
+use Rattle.base_units.specs.Numbers.{numberOf}
 use Rattle.text_specials.specs.declared.Chars.{Chars}
 use Rattle.text_specials.specs.Force.{charsAs}
 use Rattle.text_as_is.specs.Signed.{Visible}
@@ -68,13 +68,12 @@ pub record Opens (h : Chars) (before collated : Bool) (src : List ℕ) (at numbe
 -- One of them is refused.
 pub record Fails (h : Chars) (before collated : Bool) (src : List ℕ) (at number r l : ℕ) : Type 0 where
   pub run : (s : State) → Stands h before collated s → Refuses (linesFrom s number 0 (drop at src)) r l
-  pub kinds : (eqb r 2 || eqb r 3) ≡ true
 
 -- what a line is, with the category that it opens
 abbrev pub TurnIs : Chars → Bool → Bool → List ℕ → ℕ → ℕ → Turn → Type 0
 TurnIs h before collated src at number (turn.On c first next n) = GoesOn h before collated src at number c first next n
 TurnIs h before collated src at number (turn.Collate c next n) = Opens h before collated src at number c next n
-TurnIs h before collated src at number (turn.Refused r l) = Fails h before collated src at number r l
+TurnIs h before collated src at number (turn.Refused r l) = Fails h before collated src at number (numberOf r) l
 
 -- ## Up to the end
 
@@ -95,7 +94,7 @@ pub record EndsAll (h : Chars) (before collated : Bool) (src : List ℕ) (at num
 abbrev pub OutersIs : Chars → Bool → Bool → List ℕ → ℕ → ℕ → Outers → Type 0
 OutersIs h before collated src at number (outers.Collate c next n) = Opens h before collated src at number c next n
 OutersIs h before collated src at number (outers.End c first n) = EndsAll h before collated src at number c first n
-OutersIs h before collated src at number (outers.Refused r l) = Fails h before collated src at number r l
+OutersIs h before collated src at number (outers.Refused r l) = Fails h before collated src at number (numberOf r) l
 
 -- ## Line after line
 

@@ -6,6 +6,7 @@ ghost use Rattle.locale_outside.specs.Outside.{signsOf};
 ghost use Rattle.text_reader.specs.Turns.{AtLine, Turns};
 ghost use Rattle.locale_skips.specs.Passing.{Begins};
 ghost use Rattle.locale_stretches.specs.Stretches.{TurnIs, OutersIs, StretchStands, stretchReading};
+use base_units::Refusal;
 use locale_outside::Outer;
 use locale_outside::outer_line;
 use locale_skips::Skip;
@@ -23,7 +24,7 @@ pub enum Turn {
     // LC_COLLATE is opened: the two characters, the place after the line and the number of the line there
     Collate(Chars, usize, usize),
     // a refusal and its line
-    Refused(u8, usize),
+    Refused(Refusal, usize),
 }
 
 // What all lines are.
@@ -33,7 +34,7 @@ pub enum Outers {
     // the source ends: the two characters, whether no category has stood, the number of the line there
     End(Chars, bool, usize),
     // a refusal and its line
-    Refused(u8, usize),
+    Refused(Refusal, usize),
 }
 
 // The line at a place, and all lines of the category that it opens, if that is not LC_COLLATE.

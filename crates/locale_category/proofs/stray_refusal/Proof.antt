@@ -7,11 +7,11 @@ use Rattle.locale_category.proofs.stray_refusal.Tie as tie
 line-end-requires : tie.Need-line-end-requires
 line-end-requires c κs = search needs
 
-refusal-with-requires : tie.Need-refusal-with-requires
-refusal-with-requires c κs = search needs
+malformed-requires : tie.Need-malformed-requires
+malformed-requires c κs = search needs
 
 returns : tie.Need-returns
 returns c = search stray-is
 
 pub stray-refusal-spec : {M : Type 1} → statement M
-stray-refusal-spec = tie.close (tie.spec line-end-requires refusal-with-requires returns)
+stray-refusal-spec = tie.close (tie.spec line-end-requires malformed-requires returns)

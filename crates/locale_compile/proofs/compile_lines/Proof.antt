@@ -1,6 +1,6 @@
 -- `locale_compile::compile_lines` meets its contract: a refused line is the answer, else what follows the last line.
 use borrow.Author.Needs.{needs}
-use Rattle.locale_compile.proofs.CallLaws.{source-whole, refused-low, refused-high, refused-line}
+use Rattle.locale_compile.proofs.CallLaws.{source-whole, refused-line}
 use Rattle.locale_compile.proofs.compile_lines.Statement.{statement}
 use Rattle.locale_compile.proofs.compile_lines.Tie as tie
 
@@ -9,9 +9,6 @@ source-lines-requires c κs = search needs
 
 enum-known-s : tie.Need-enum-known-s
 enum-known-s c = search needs
-
-refusal-of-requires : tie.Need-refusal-of-requires
-refusal-of-requires c κs = (search refused-low, search refused-high)
 
 same-length : tie.Need-same-length
 same-length c = search needs
@@ -40,7 +37,6 @@ compile-lines-spec =
     (tie.spec
     source-lines-requires
     enum-known-s
-    refusal-of-requires
     same-length
     returns
     enum-known-s-2

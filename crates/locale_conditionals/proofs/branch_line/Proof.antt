@@ -10,8 +10,8 @@ open-line-requires c κs = search needs
 enum-known-o : tie.Need-enum-known-o
 enum-known-o c = search needs
 
-refusal-with-requires : tie.Need-refusal-with-requires
-refusal-with-requires c κs = search needs
+malformed-requires : tie.Need-malformed-requires
+malformed-requires c κs = search needs
 
 returns : tie.Need-returns
 returns c = search opens-blank
@@ -19,8 +19,8 @@ returns c = search opens-blank
 enum-known-o-2 : tie.Need-enum-known-o-2
 enum-known-o-2 c = search needs
 
-refusal-with-requires-2 : tie.Need-refusal-with-requires-2
-refusal-with-requires-2 c κs = search needs
+malformed-requires-2 : tie.Need-malformed-requires-2
+malformed-requires-2 c κs = search needs
 
 returns-2 : tie.Need-returns-2
 returns-2 c = search opens-foul
@@ -28,8 +28,8 @@ returns-2 c = search opens-foul
 enum-known-o-3 : tie.Need-enum-known-o-3
 enum-known-o-3 c = search needs
 
-refusal-with-requires-3 : tie.Need-refusal-with-requires-3
-refusal-with-requires-3 c κs = search needs
+malformed-requires-3 : tie.Need-malformed-requires-3
+malformed-requires-3 c κs = search needs
 
 returns-3 : tie.Need-returns-3
 returns-3 c = search opens-name
@@ -52,13 +52,13 @@ branch-line-spec =
     (tie.spec
     open-line-requires
     enum-known-o
-    refusal-with-requires
+    malformed-requires
     returns
     enum-known-o-2
-    refusal-with-requires-2
+    malformed-requires-2
     returns-2
     enum-known-o-3
-    refusal-with-requires-3
+    malformed-requires-3
     returns-3
     enum-known-o-4
     word-turn-requires

@@ -1,11 +1,12 @@
 -- `locale_conditionals::elif_line` meets its contract: a law for each answer.
+use Rattle.locale_conditionals.proofs.StepLaws.{toggled-low, toggled-high}
 use Rattle.locale_conditionals.proofs.TurnLaws.{elif-name, elif-foul, elif-late, elif-refuses, elif-goes}
 use borrow.Author.Needs.{needs}
 use Rattle.locale_conditionals.proofs.elif_line.Statement.{statement}
 use Rattle.locale_conditionals.proofs.elif_line.Tie as tie
 
-refusal-with-requires : tie.Need-refusal-with-requires
-refusal-with-requires c κs = search needs
+malformed-requires : tie.Need-malformed-requires
+malformed-requires c κs = search needs
 
 returns : tie.Need-returns
 returns c = search elif-late
@@ -16,8 +17,8 @@ named-at-requires c κs = search elif-name
 enum-known-t : tie.Need-enum-known-t
 enum-known-t c = search needs
 
-refusal-with-requires-2 : tie.Need-refusal-with-requires-2
-refusal-with-requires-2 c κs = search needs
+refusal-with-requires : tie.Need-refusal-with-requires
+refusal-with-requires c κs = (search toggled-low, search toggled-high)
 
 same-length : tie.Need-same-length
 same-length c = search needs
@@ -53,11 +54,11 @@ pub elif-line-spec : {M : Type 1} → statement M
 elif-line-spec =
     tie.close
     (tie.spec
-    refusal-with-requires
+    malformed-requires
     returns
     named-at-requires
     enum-known-t
-    refusal-with-requires-2
+    refusal-with-requires
     same-length
     returns-2
     enum-known-t-2

@@ -4,8 +4,8 @@ use borrow.Author.Needs.{needs}
 use Rattle.locale_conditionals.proofs.else_line.Statement.{statement}
 use Rattle.locale_conditionals.proofs.else_line.Tie as tie
 
-refusal-with-requires : tie.Need-refusal-with-requires
-refusal-with-requires c κs = search needs
+malformed-requires : tie.Need-malformed-requires
+malformed-requires c κs = search needs
 
 returns : tie.Need-returns
 returns c = λ w. search (else-late)
@@ -19,8 +19,8 @@ returns-2 c = λ w. search else-goes
 returns-3 : tie.Need-returns-3
 returns-3 c = λ w. search else-foul
 
-refusal-with-requires-2 : tie.Need-refusal-with-requires-2
-refusal-with-requires-2 c κs = search needs
+malformed-requires-2 : tie.Need-malformed-requires-2
+malformed-requires-2 c κs = search needs
 
 returns-4 : tie.Need-returns-4
 returns-4 c = λ w. search else-more
@@ -29,10 +29,10 @@ pub else-line-spec : {M : Type 1} → statement M
 else-line-spec =
     tie.close
     (tie.spec
-    refusal-with-requires
+    malformed-requires
     returns
     no-operand-requires
     returns-2
     returns-3
-    refusal-with-requires-2
+    malformed-requires-2
     returns-4)

@@ -13,12 +13,12 @@ returns c = λ w. search endif-ends
 returns-2 : tie.Need-returns-2
 returns-2 c = λ w. search endif-foul
 
-refusal-with-requires : tie.Need-refusal-with-requires
-refusal-with-requires c κs = search needs
+malformed-requires : tie.Need-malformed-requires
+malformed-requires c κs = search needs
 
 returns-3 : tie.Need-returns-3
 returns-3 c = λ w. search endif-more
 
 pub endif-line-spec : {M : Type 1} → statement M
 endif-line-spec =
-    tie.close (tie.spec no-operand-requires returns returns-2 refusal-with-requires returns-3)
+    tie.close (tie.spec no-operand-requires returns returns-2 malformed-requires returns-3)

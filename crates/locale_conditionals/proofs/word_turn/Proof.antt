@@ -51,8 +51,8 @@ endif-line-requires c κs = key-line (c .before .before .before .before .before 
 returns-3 : tie.Need-returns-3
 returns-3 c = c .endif-line .ensures _
 
-refusal-with-requires : tie.Need-refusal-with-requires
-refusal-with-requires c κs = search needs
+malformed-requires : tie.Need-malformed-requires
+malformed-requires c κs = search needs
 
 returns-4 : tie.Need-returns-4
 unfolding bytes
@@ -60,7 +60,7 @@ returns-4 c =
     let k = c .before in
     let j = k .before .before .before in
     let i = j .before .before .before in
-    no-key (i .before .before .before .before .before .before .pre) _ _ _ (i .before .word-is .ensures) (i .if1 .left) (j .before .word-is2 .ensures) (j .if2 .left) (k .before .word-is3 .ensures) (k .if3 .left) (c .refusal-with .ensures)
+    no-key (i .before .before .before .before .before .before .pre) _ _ _ (i .before .word-is .ensures) (i .if1 .left) (j .before .word-is2 .ensures) (j .if2 .left) (k .before .word-is3 .ensures) (k .if3 .left) (c .malformed .ensures)
 
 pub word-turn-spec : {M : Type 1} → statement M
 word-turn-spec =
@@ -79,5 +79,5 @@ word-turn-spec =
     word-is-requires-3
     endif-line-requires
     returns-3
-    refusal-with-requires
+    malformed-requires
     returns-4)

@@ -13,20 +13,20 @@ returns c = search end-done
 returns-2 : tie.Need-returns-2
 returns-2 c = search end-foul
 
-refusal-with-requires : tie.Need-refusal-with-requires
-refusal-with-requires c κs = search needs
+malformed-requires : tie.Need-malformed-requires
+malformed-requires c κs = search needs
 
 returns-3 : tie.Need-returns-3
 returns-3 c = search end-other
 
-refusal-with-requires-2 : tie.Need-refusal-with-requires-2
-refusal-with-requires-2 c κs = search needs
+malformed-requires-2 : tie.Need-malformed-requires-2
+malformed-requires-2 c κs = search needs
 
 returns-4 : tie.Need-returns-4
 returns-4 c = search end-inside
 
-refusal-with-requires-3 : tie.Need-refusal-with-requires-3
-refusal-with-requires-3 c κs = search needs
+malformed-requires-3 : tie.Need-malformed-requires-3
+malformed-requires-3 c κs = search needs
 
 returns-5 : tie.Need-returns-5
 returns-5 c = search end-misplaced
@@ -38,9 +38,9 @@ end-line-spec =
     collate-alone-requires
     returns
     returns-2
-    refusal-with-requires
+    malformed-requires
     returns-3
-    refusal-with-requires-2
+    malformed-requires-2
     returns-4
-    refusal-with-requires-3
+    malformed-requires-3
     returns-5)

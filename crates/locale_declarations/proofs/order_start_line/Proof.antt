@@ -1,5 +1,5 @@
 -- `locale_declarations::order_start_line` meets its contract: a law for each answer.
-use Rattle.locale_declarations.proofs.StartLaws.{start-misplaced, start-refused, start-foul, start-done}
+use Rattle.locale_declarations.proofs.StartLaws.{start-low, start-high, start-misplaced, start-refused, start-foul, start-done}
 use borrow.Author.Needs.{needs}
 use Rattle.locale_declarations.proofs.order_start_line.Statement.{statement}
 use Rattle.locale_declarations.proofs.order_start_line.Tie as tie
@@ -11,7 +11,7 @@ enum-known-l : tie.Need-enum-known-l
 enum-known-l c = search needs
 
 refusal-with-requires : tie.Need-refusal-with-requires
-refusal-with-requires c κs = search needs
+refusal-with-requires c κs = (search start-low, search start-high)
 
 returns : tie.Need-returns
 returns c = search start-refused
@@ -25,8 +25,8 @@ returns-2 c = search start-done
 returns-3 : tie.Need-returns-3
 returns-3 c = search start-foul
 
-refusal-with-requires-2 : tie.Need-refusal-with-requires-2
-refusal-with-requires-2 c κs = search needs
+malformed-requires : tie.Need-malformed-requires
+malformed-requires c κs = search needs
 
 returns-4 : tie.Need-returns-4
 returns-4 c = search start-misplaced
@@ -42,5 +42,5 @@ order-start-line-spec =
     enum-known-l-2
     returns-2
     returns-3
-    refusal-with-requires-2
+    malformed-requires
     returns-4)

@@ -16,8 +16,8 @@ returns c = search step-blank
 enum-known-o-2 : tie.Need-enum-known-o-2
 enum-known-o-2 c = search needs
 
-refusal-with-requires : tie.Need-refusal-with-requires
-refusal-with-requires c κs = search needs
+malformed-requires : tie.Need-malformed-requires
+malformed-requires c κs = search needs
 
 returns-2 : tie.Need-returns-2
 returns-2 c = search step-foul
@@ -54,7 +54,7 @@ line-step-spec =
     enum-known-o
     returns
     enum-known-o-2
-    refusal-with-requires
+    malformed-requires
     returns-2
     enum-known-o-3
     word-step-requires

@@ -161,8 +161,8 @@ returns-15 c = search still-at-step
 enum-told-16 : tie.Need-enum-told-16
 enum-told-16 c = search needs
 
-refusal-with-requires : tie.Need-refusal-with-requires
-refusal-with-requires c κs = search needs
+malformed-requires : tie.Need-malformed-requires
+malformed-requires c κs = search needs
 
 returns-16 : tie.Need-returns-16
 returns-16 c = search step-other
@@ -223,5 +223,5 @@ word-step-spec =
     end-line-requires
     returns-15
     enum-told-16
-    refusal-with-requires
+    malformed-requires
     returns-16)

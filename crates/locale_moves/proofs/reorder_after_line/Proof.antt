@@ -1,5 +1,5 @@
 -- `locale_moves::reorder_after_line` meets its contract: a law for each answer.
-use Rattle.locale_moves.proofs.AfterLaws.{after-misplaced, after-refused, after-foul, after-done}
+use Rattle.locale_moves.proofs.AfterLaws.{after-low, after-high, after-misplaced, after-refused, after-foul, after-done}
 use borrow.Author.Needs.{needs}
 use Rattle.locale_moves.proofs.reorder_after_line.Statement.{statement}
 use Rattle.locale_moves.proofs.reorder_after_line.Tie as tie
@@ -14,7 +14,7 @@ enum-known-n : tie.Need-enum-known-n
 enum-known-n c = search needs
 
 refusal-with-requires : tie.Need-refusal-with-requires
-refusal-with-requires c κs = search needs
+refusal-with-requires c κs = (search after-low, search after-high)
 
 returns : tie.Need-returns
 returns c = search after-refused
@@ -28,8 +28,8 @@ returns-2 c = search after-done
 returns-3 : tie.Need-returns-3
 returns-3 c = search after-foul
 
-refusal-with-requires-2 : tie.Need-refusal-with-requires-2
-refusal-with-requires-2 c κs = search needs
+malformed-requires : tie.Need-malformed-requires
+malformed-requires c κs = search needs
 
 returns-4 : tie.Need-returns-4
 returns-4 c = search after-misplaced
@@ -46,5 +46,5 @@ reorder-after-line-spec =
     enum-known-n-2
     returns-2
     returns-3
-    refusal-with-requires-2
+    malformed-requires
     returns-4)

@@ -4,14 +4,14 @@ use borrow.Author.Needs.{needs}
 use Rattle.locale_opening.proofs.refusal_with.Statement.{statement}
 use Rattle.locale_opening.proofs.refusal_with.Tie as tie
 
+refusal-of-requires : tie.Need-refusal-of-requires
+refusal-of-requires c κs = search needs
+
 returns : tie.Need-returns
 returns c = search with-text
-
-lower-of-requires : tie.Need-lower-of-requires
-lower-of-requires c κs = search needs
 
 returns-2 : tie.Need-returns-2
 returns-2 c = search with-foul
 
 pub refusal-with-spec : {M : Type 1} → statement M
-refusal-with-spec = tie.close (tie.spec returns lower-of-requires returns-2)
+refusal-with-spec = tie.close (tie.spec refusal-of-requires returns returns-2)

@@ -1,5 +1,5 @@
 -- `locale_order_lines::name_line` meets its contract: the line is refused, or the row of its subject is given its numbers.
-use Rattle.locale_order_lines.proofs.StepLaws.{line-refused}
+use Rattle.locale_order_lines.proofs.StepLaws.{line-low, line-high, line-refused}
 use Rattle.locale_order_lines.proofs.NameLaws.{name-ready, name-listed}
 use borrow.Author.Needs.{needs}
 use Rattle.locale_order_lines.proofs.name_line.Statement.{statement}
@@ -41,6 +41,9 @@ returns c =
     let start = found .before .before .before .before .before in
     search (name-listed _ _ _ _ _ _ (start .pre .1) _ _ _ _ (start .pre .0) _ (found .find .ensures) (coded .name-char .result) (coded .name-char .ensures) _ (read .name-refusal .ensures))
 
+refusal-of-requires : tie.Need-refusal-of-requires
+refusal-of-requires c κs = (search line-low, search line-high)
+
 same-length-2 : tie.Need-same-length-2
 same-length-2 c = search needs
 
@@ -59,5 +62,6 @@ name-line-spec =
     list-line-requires
     same-length
     returns
+    refusal-of-requires
     same-length-2
     returns-2)

@@ -17,8 +17,8 @@ own-refusal-requires c κs = ((search name-next, search name-plain), search some
 lower-of-requires : tie.Need-lower-of-requires
 lower-of-requires c κs = search needs
 
-refusal-with-requires : tie.Need-refusal-with-requires
-refusal-with-requires c κs = search needs
+line-refusal-requires : tie.Need-line-refusal-requires
+line-refusal-requires c κs = search needs
 
 returns : tie.Need-returns
 returns c = search name-reads
@@ -31,5 +31,5 @@ name-refusal-spec =
     is-again-requires
     own-refusal-requires
     lower-of-requires
-    refusal-with-requires
+    line-refusal-requires
     returns)

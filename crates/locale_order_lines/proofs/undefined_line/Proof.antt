@@ -1,5 +1,5 @@
 -- `locale_order_lines::undefined_line` meets its contract: the line is refused, or the row of UNDEFINED is given its numbers.
-use Rattle.locale_order_lines.proofs.StepLaws.{line-refused}
+use Rattle.locale_order_lines.proofs.StepLaws.{line-low, line-high, line-refused}
 use Rattle.locale_order_lines.proofs.UndefinedLaws.{undefined-ready, undefined-listed}
 use borrow.Author.Needs.{needs}
 use Rattle.locale_order_lines.proofs.undefined_line.Statement.{statement}
@@ -20,6 +20,9 @@ same-length c = search needs
 returns : tie.Need-returns
 returns c = search undefined-listed
 
+refusal-of-requires : tie.Need-refusal-of-requires
+refusal-of-requires c κs = (search line-low, search line-high)
+
 same-length-2 : tie.Need-same-length-2
 same-length-2 c = search needs
 
@@ -35,5 +38,6 @@ undefined-line-spec =
     list-line-requires
     same-length
     returns
+    refusal-of-requires
     same-length-2
     returns-2)

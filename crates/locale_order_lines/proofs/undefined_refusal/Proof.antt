@@ -13,8 +13,8 @@ is-again-requires c κs = search needs
 own-refusal-requires : tie.Need-own-refusal-requires
 own-refusal-requires c κs = search needs
 
-refusal-with-requires : tie.Need-refusal-with-requires
-refusal-with-requires c κs = search needs
+line-refusal-requires : tie.Need-line-refusal-requires
+line-refusal-requires c κs = search needs
 
 returns : tie.Need-returns
 returns c = search undefined-reads
@@ -26,5 +26,5 @@ undefined-refusal-spec =
     undefined-facts-requires
     is-again-requires
     own-refusal-requires
-    refusal-with-requires
+    line-refusal-requires
     returns)

@@ -12,12 +12,14 @@ use denote.Enum.Declared.{variants}
 use denote.Enum.Laws.{field-plain as enum-plain}
 use denote.Triple.Spec.{tripleOf}
 use denote.Triple.Table.{entered, cited}
+use Rattle.base_units.proofs.Refusal as refusal
 use Rattle.text_lines.proofs.Signs as signs
 use Rattle.text_lines.proofs.Signs.Laws as signs-laws
 use Rattle.text_reader.proofs.Held.{State}
 use Rattle.text_reader.proofs.LineLoop.{Loop, Turn, met}
 use Rattle.locale_skips.specs.Passing.{branchReading}
 use Rattle.locale_skips.proofs.BranchLaws.{reading-used}
+use Rattle.locale_skips.proofs.Fields.{refusal-plain}
 use Rattle.locale_skips.proofs.Skip as skip
 use Rattle.locale_skips.proofs.Skip.Laws as skip-laws
 use Rattle.locale_skips.proofs.Branch as state
@@ -32,7 +34,7 @@ use Rattle.locale_skips.proofs.branch_lines.Code as code
 
 -- what the fields own is only facts
 abbrev answer-plain : Plainss (variants skip.the-type)
-answer-plain = ((usize-plain, (usize-plain, tt)), ((u8-plain, (usize-plain, tt)), tt))
+answer-plain = ((usize-plain, (usize-plain, tt)), ((enum-plain refusal.the-type refusal-plain, (usize-plain, tt)), tt))
 
 abbrev signs-plain : Plains (fields signs.the-type)
 signs-plain = (u8-plain, (u8-plain, tt))

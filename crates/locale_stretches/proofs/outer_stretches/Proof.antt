@@ -12,10 +12,12 @@ use denote.Enum.Declared.{variants}
 use denote.Enum.Laws.{field-plain as enum-plain}
 use denote.Triple.Spec.{tripleOf}
 use denote.Triple.Table.{entered, cited}
+use Rattle.base_units.proofs.Refusal as refusal
 use Rattle.text_specials.proofs.Chars as chars
 use Rattle.text_specials.proofs.Chars.Laws as chars-laws
 use Rattle.text_reader.proofs.Held.{State}
 use Rattle.text_reader.proofs.LineLoop.{Loop, Turn, met}
+use Rattle.locale_skips.proofs.Fields.{refusal-plain}
 use Rattle.locale_stretches.specs.Stretches.{stretchReading}
 use Rattle.locale_stretches.proofs.StretchLaws.{reading-used}
 use Rattle.locale_stretches.proofs.Outers as outers
@@ -35,7 +37,7 @@ abbrev chars-plain : Plains (fields chars.the-type)
 chars-plain = (u8-plain, (u8-plain, (bool-plain, (bool-plain, tt))))
 
 abbrev answer-plain : Plainss (variants outers.the-type)
-answer-plain = ((struct-plain chars.the-type chars-plain, (usize-plain, (usize-plain, tt))), ((struct-plain chars.the-type chars-plain, (bool-plain, (usize-plain, tt))), ((u8-plain, (usize-plain, tt)), tt)))
+answer-plain = ((struct-plain chars.the-type chars-plain, (usize-plain, (usize-plain, tt))), ((struct-plain chars.the-type chars-plain, (bool-plain, (usize-plain, tt))), ((enum-plain refusal.the-type refusal-plain, (usize-plain, tt)), tt)))
 
 abbrev state-plain : Plains (fields state.the-type)
 state-plain = (bool-plain, (usize-plain, (usize-plain, (enum-plain outers.the-type answer-plain, (struct-plain chars.the-type chars-plain, (bool-plain, (bool-plain, tt)))))))
