@@ -1,2 +1,3 @@
 pub mod CharLaws
 pub mod NumberLaws
+pub mod Fields

@@ -2,4 +2,3 @@ pub mod LineRuns
 pub mod BranchLaws
 pub mod CategoryLaws
 pub mod NameLaws
-pub mod Fields

@@ -18,7 +18,8 @@ use Rattle.text_specials.proofs.Chars.Laws as chars-laws
 use Rattle.text_reader.proofs.Held.{State}
 use Rattle.text_reader.proofs.LentLoop.{Loop, Turn, met}
 use Rattle.charmap_read.specs.Read.{bodyReading}
-use Rattle.charmap_read.proofs.Fields.{chars-plain, refusal-plain}
+use Rattle.base_units.proofs.Fields.{refusal-plain}
+use Rattle.text_specials.proofs.Fields.{chars-plain}
 use Rattle.charmap_read.proofs.EntryLaws.{reading-used}
 use Rattle.charmap_read.proofs.Entries as entries
 use Rattle.charmap_read.proofs.Entries.Laws as entries-laws

@@ -18,7 +18,8 @@ use Rattle.text_specials.proofs.Chars.Laws as chars-laws
 use Rattle.text_reader.proofs.Held.{State}
 use Rattle.text_reader.proofs.LineLoop.{Loop, Turn, met}
 use Rattle.charmap_read.specs.Read.{headerReading}
-use Rattle.charmap_read.proofs.Fields.{chars-plain, refusal-plain}
+use Rattle.base_units.proofs.Fields.{refusal-plain}
+use Rattle.text_specials.proofs.Fields.{chars-plain}
 use Rattle.charmap_read.proofs.HeaderLaws.{reading-used}
 use Rattle.charmap_read.proofs.Header as header
 use Rattle.charmap_read.proofs.Header.Laws as header-laws

@@ -19,7 +19,7 @@ use Rattle.text_reader.proofs.Held.{State}
 use Rattle.text_reader.proofs.LineLoop.{Loop, Turn, met}
 use Rattle.locale_skips.specs.Passing.{branchReading}
 use Rattle.locale_skips.proofs.BranchLaws.{reading-used}
-use Rattle.locale_skips.proofs.Fields.{refusal-plain}
+use Rattle.base_units.proofs.Fields.{refusal-plain}
 use Rattle.locale_skips.proofs.Skip as skip
 use Rattle.locale_skips.proofs.Skip.Laws as skip-laws
 use Rattle.locale_skips.proofs.Branch as state

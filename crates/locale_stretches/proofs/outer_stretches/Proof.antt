@@ -6,7 +6,7 @@ use mir.Val.{vbool, vcons, vnil}
 use contract.Running.{tables}
 use denote.Struct.Struct.{Plains}
 use denote.Struct.Declared.{fields}
-use denote.Struct.Laws.{lawful, u8-plain, usize-plain, bool-plain, field-plain as struct-plain}
+use denote.Struct.Laws.{lawful, usize-plain, bool-plain, field-plain as struct-plain}
 use denote.Enum.Enum.{Plainss}
 use denote.Enum.Declared.{variants}
 use denote.Enum.Laws.{field-plain as enum-plain}
@@ -17,7 +17,8 @@ use Rattle.text_specials.proofs.Chars as chars
 use Rattle.text_specials.proofs.Chars.Laws as chars-laws
 use Rattle.text_reader.proofs.Held.{State}
 use Rattle.text_reader.proofs.LineLoop.{Loop, Turn, met}
-use Rattle.locale_skips.proofs.Fields.{refusal-plain}
+use Rattle.base_units.proofs.Fields.{refusal-plain}
+use Rattle.text_specials.proofs.Fields.{chars-plain}
 use Rattle.locale_stretches.specs.Stretches.{stretchReading}
 use Rattle.locale_stretches.proofs.StretchLaws.{reading-used}
 use Rattle.locale_stretches.proofs.Outers as outers
@@ -33,9 +34,6 @@ use Rattle.locale_stretches.proofs.outer_stretches.Statement as stated
 use Rattle.locale_stretches.proofs.outer_stretches.Code as code
 
 -- what the fields own is only facts
-abbrev chars-plain : Plains (fields chars.the-type)
-chars-plain = (u8-plain, (u8-plain, (bool-plain, (bool-plain, tt))))
-
 abbrev answer-plain : Plainss (variants outers.the-type)
 answer-plain = ((struct-plain chars.the-type chars-plain, (usize-plain, (usize-plain, tt))), ((struct-plain chars.the-type chars-plain, (bool-plain, (usize-plain, tt))), ((enum-plain refusal.the-type refusal-plain, (usize-plain, tt)), tt)))
 
