@@ -1,5 +1,6 @@
 // What the run cases write: a line for each, its name and the answer. Rooms are filled with EEEE or EE before each call.
 use base_units::Refusal;
+use base_units::wide;
 use cases_words::bytes;
 use cases_words::end_line;
 use cases_words::number;
@@ -72,10 +73,6 @@ pub fn encoded_in(name: &[u8], area: &[u32], s: &[u32], room: &mut [u8]) {
 pub fn encoded(name: &[u8], area: &[u32], s: &[u32]) {
     let mut room = [0xEEu8; 8];
     encoded_in(name, area, s, &mut room);
-}
-
-fn wide(x: u32) -> usize {
-    x as usize
 }
 
 // How many numbers are their own places.

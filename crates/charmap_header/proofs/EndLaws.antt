@@ -25,7 +25,7 @@ use Rattle.text_tokens.specs.Left.{tokensLeft}
 use Rattle.text_tokens.proofs.GapLaws.{tokensOf-left}
 use Rattle.text_specials.specs.declared.Chars.{Chars}
 use Rattle.text_specials.specs.Force.{charsAs, operand}
-use Rattle.text_as_is.specs.Signed.{Visible}
+use Rattle.text_specials.specs.Signed.{Visible}
 use Rattle.charmap_header.specs.Head.{signsOf, headWith, outcomeAt, Leaves, Stops, plainMarksAt, Plain, PassedOver, Malformed, isOpening, Opening, SetBy}
 use Rattle.charmap_header.proofs.FirstLaws.{gaps-none}
 use Rattle.charmap_header.proofs.OutcomeLaws.{outcome-word, set-outcome, odd-operands}

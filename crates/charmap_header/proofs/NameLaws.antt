@@ -30,15 +30,15 @@ use Rattle.text_tokens.specs.Left.{tokensLeft, isClose, isInside, nameIn, after
 use Rattle.text_tokens.proofs.TokenLaws.{tokensFrom-out, tokensFrom-none, first-name, name-open, name-closed}
 use Rattle.text_tokens.proofs.GapLaws.{tokensOf-left}
 use Rattle.text_specials.specs.declared.Chars.{Chars}
-use Rattle.text_as_is.specs.Signed.{Visible, keyword, WordIs, ByteAt, NoByte, FoundIs}
-use Rattle.text_as_is.specs.declared.Keyword.{Keyword}
-use Rattle.text_as_is.specs.declared.Keyword.the-variants as key
-use Rattle.text_as_is.specs.declared.Found.{Found}
-use Rattle.text_as_is.specs.declared.Found.the-variants as found
-use Rattle.text_as_is.proofs.AsIsLaws.{Reached, never-quiet, blanks-left, reached-nothing, reached-byte, reached-less}
-use Rattle.text_as_is.proofs.OpenLaws.{opening-blank}
-use Rattle.text_as_is.proofs.TakenLaws.{blanks-drop}
-use Rattle.text_as_is.proofs.LineTokenLaws.{gaps, blank-text, keyword-text}
+use Rattle.text_specials.specs.Signed.{Visible, keyword, WordIs, ByteAt, NoByte, FoundIs}
+use Rattle.text_specials.specs.declared.Keyword.{Keyword}
+use Rattle.text_specials.specs.declared.Keyword.the-variants as key
+use Rattle.text_specials.specs.declared.Found.{Found}
+use Rattle.text_specials.specs.declared.Found.the-variants as found
+use Rattle.text_specials.proofs.AsIsLaws.{Reached, never-quiet, blanks-left, reached-nothing, reached-byte, reached-less}
+use Rattle.text_specials.proofs.OpenLaws.{opening-blank}
+use Rattle.text_specials.proofs.TakenLaws.{blanks-drop}
+use Rattle.text_specials.proofs.LineTokenLaws.{gaps, blank-text, keyword-text}
 use Rattle.charmap_header.specs.Head.{signsOf, headWith, plainMarksAt, Plain, PassedOver, Malformed, Opening, NameOpens, Named, SignNamed, SignOpened, SetBy}
 use Rattle.charmap_header.proofs.FirstLaws.{first-token, some}
 use Rattle.charmap_header.proofs.SignLaws.{tokensOf-is, opensSign, headerSigns, header-kind, sign-past, sign-never, header-plain}

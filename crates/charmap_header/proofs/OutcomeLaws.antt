@@ -15,8 +15,8 @@ use Rattle.rules.specs.Lines.{signRefusal}
 use Rattle.rules.specs.Charmap.{Mapping, MapOutcome, leaves, signHeader, isHeader, headerLine}
 use Rattle.rules.proofs.TextLaws.{every-head, every-tail, every-append, every-both, every-mono}
 use Rattle.text_tokens.proofs.TokenLaws.{first-gap, first-as-is, tokensFrom-none}
-use Rattle.text_as_is.specs.Signed.{keyword}
-use Rattle.text_as_is.proofs.LineTokenLaws.{gaps, blank-text}
+use Rattle.text_specials.specs.Signed.{keyword}
+use Rattle.text_specials.proofs.LineTokenLaws.{gaps, blank-text}
 use Rattle.charmap_header.specs.Head.{isOpening, Named}
 use Rattle.charmap_header.proofs.FirstLaws.{first-token, some}
 

@@ -19,7 +19,7 @@ use Rattle.text_lines.specs.Stream.{plainSigns, freshThrough}
 use Rattle.base_lists.proofs.Lists.{length-zero}
 use Rattle.text_lines.proofs.SignLaws.{blanks-append, blanks-blank}
 use Rattle.text_tokens.proofs.TokenLaws.{tokensFrom-behind, tokensFrom-none}
-use Rattle.text_as_is.proofs.AsIsLaws.{Kind, Past, Never, line-never, last-blank}
+use Rattle.text_specials.proofs.AsIsLaws.{Kind, Past, Never, line-never, last-blank}
 use Rattle.charmap_header.proofs.FirstLaws.{first-token, solid-stays, gap-first}
 
 -- ## Marks one after the other

@@ -16,7 +16,7 @@ use Rattle.text_lines.specs.Stream.{lineLeft, lineStart, marksLeft, Run, MarkIs
 use Rattle.text_tokens.specs.Left.{tokensLeft, Skips}
 use Rattle.text_specials.specs.declared.Chars.{Chars}
 use Rattle.text_specials.specs.Force.{charsAs}
-use Rattle.text_as_is.specs.Signed.{Visible, keyword, ByteTaken}
+use Rattle.text_specials.specs.Signed.{Visible, keyword, ByteTaken}
 use Rattle.charmap_header.specs.declared.Heading.{Heading}
 use Rattle.charmap_header.specs.declared.Heading.the-variants.{Line, Refused}
 

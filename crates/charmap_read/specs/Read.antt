@@ -8,7 +8,7 @@ use Rattle.rules.specs.Charmap.{Given, Mapping, MapEnded, mapEnded, mapStart, m
 use Rattle.base_units.specs.Numbers.{numberOf}
 use Rattle.base_units.specs.declared.Refusal.the-variants as refusal
 use Rattle.text_specials.specs.declared.Chars.{Chars}
-use Rattle.text_as_is.specs.Signed.{Visible}
+use Rattle.text_specials.specs.Signed.{Visible}
 use Rattle.text_reader.specs.Turns.{Reading}
 use Rattle.charmap_header.specs.Head.{signsOf, headWith}
 use Rattle.charmap_body.specs.Outcomes.{Holds}

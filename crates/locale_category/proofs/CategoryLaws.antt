@@ -16,15 +16,15 @@ use Rattle.text_lines.specs.declared.Signs.{Signs}
 use Rattle.text_lines.specs.declared.LineEnd.{LineEnd}
 use Rattle.text_lines.specs.Stream.{marksLeft, lineStart, LineIs}
 use Rattle.work_toggles.specs.Kept.{togglesIn}
-use Rattle.work_known.specs.Known.{Known}
-use Rattle.work_known.proofs.GrownLaws.{known-start}
+use Rattle.locale_sheet.specs.Known.{Known}
+use Rattle.locale_sheet.proofs.GrownLaws.{known-start}
 use Rattle.locale_skips.proofs.LineRuns.{collate-signs, run-refuses, refuses-from}
 use Rattle.locale_sheet.specs.declared.Sheet.{Sheet}
 use Rattle.locale_sheet.specs.Sheets.{Open}
 use Rattle.locale_sheet.proofs.SheetLaws.{read-whole}
-use Rattle.locale_chains.specs.declared.Read.{Read}
-use Rattle.locale_chains.specs.declared.Read.the-variants as read
-use Rattle.locale_chains.specs.Blocks.{Starts, SomeUsed, BranchRead, ClosedRead, RefusedRead, ReadIs}
+use Rattle.locale_category.specs.declared.Read.{Read}
+use Rattle.locale_category.specs.declared.Read.the-variants as read
+use Rattle.locale_category.specs.Blocks.{Starts, SomeUsed, BranchRead, ClosedRead, RefusedRead, ReadIs}
 use Rattle.locale_category.specs.Category.{firstSheet, strayRefusal, Begun, Ready, ClosedAt, RefusedAt}
 use Rattle.locale_category.proofs.StrayLaws.{stray-line, stray-some}
 

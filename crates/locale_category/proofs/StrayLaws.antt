@@ -18,7 +18,7 @@ use Rattle.rules.specs.Source.{collateLine, tokenLine, wholeLine}
 use Rattle.rules.proofs.TextLaws.{same-true}
 use Rattle.text_operands.proofs.LateLaws.{Late, late-tokens, three-lowest}
 use Rattle.locale_opening.proofs.CollateLaws.{late-toggle, line-word, whole-tokens}
-use Rattle.locale_keywords.proofs.KeywordLaws.{at-elif, at-else, at-endif}
+use Rattle.locale_opening.proofs.KeywordLaws.{at-elif, at-else, at-endif}
 use Rattle.locale_sheet.specs.Words.{isTurn, turnsFirst, Malformed}
 
 -- ## The word

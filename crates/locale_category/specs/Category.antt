@@ -15,7 +15,7 @@ use Rattle.text_lines.specs.Stream.{marksLeft, lineStart}
 use Rattle.locale_skips.specs.Passing.{Refuses}
 use Rattle.work_store.specs.Store.{Roomy}
 use Rattle.locale_sheet.specs.declared.Sheet.{Sheet}
-use Rattle.locale_chains.specs.Blocks.{Starts, Reached, GoesOut}
+use Rattle.locale_category.specs.Blocks.{Starts, Reached, GoesOut}
 use Rattle.locale_category.specs.declared.Category.{Category}
 use Rattle.locale_category.specs.declared.Category.the-variants as category
 

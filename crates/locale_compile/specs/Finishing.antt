@@ -16,7 +16,7 @@ use Rattle.work_rows.specs.Cells.{cell}
 use Rattle.work_store.specs.Store.{undefinedMark}
 use Rattle.work_order.specs.Listed.{placeNumber}
 use Rattle.locale_levels.specs.Levels.{startRefusal}
-use Rattle.work_known.specs.Known.{behind}
+use Rattle.locale_sheet.specs.Known.{behind}
 use Rattle.locale_sheet.specs.declared.Sheet.{Sheet}
 use Rattle.locale_sheet.specs.Sheets.{rulesAt}
 use Rattle.locale_compile.specs.declared.Compiled.{Compiled}

@@ -22,8 +22,8 @@ use Rattle.text_tokens.proofs.RefusalLaws.{refusal-broken, refusal-later}
 use Rattle.text_operands.proofs.FirstLaws.{starts, starts-first}
 use Rattle.text_operands.proofs.ListLaws.{operands-solid}
 use Rattle.locale_opening.proofs.CollateLaws.{line-other, line-malformed, whole-tokens}
-use Rattle.text_passed.specs.Words.{firstWord, runIn}
-use Rattle.text_passed.proofs.WordLaws.{first-run}
+use Rattle.locale_skips.specs.Words.{firstWord, runIn}
+use Rattle.locale_skips.proofs.WordLaws.{first-run}
 use Rattle.locale_sheet.specs.Words.{isTurn, turnsFirst, Malformed, TurnLine}
 
 -- ## The word's end

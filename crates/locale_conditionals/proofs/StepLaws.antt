@@ -20,7 +20,7 @@ use Rattle.text_lines.specs.Stream.{marksLeft, lineStart}
 use Rattle.text_tokens.specs.Left.{tokensLeft}
 use Rattle.text_operands.proofs.LateLaws.{late-lower, late-tokens, two-first}
 use Rattle.locale_opening.proofs.CollateLaws.{late-collate}
-use Rattle.locale_keywords.proofs.KeywordLaws.{at-define, at-undef, at-ifdef, at-ifndef}
+use Rattle.locale_opening.proofs.KeywordLaws.{at-define, at-undef, at-ifdef, at-ifndef}
 use Rattle.work_toggles.specs.Kept.{togglesIn}
 use Rattle.locale_toggle.specs.declared.Set.{Set}
 use Rattle.locale_toggle.specs.declared.Set.the-variants as set

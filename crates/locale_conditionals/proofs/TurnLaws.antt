@@ -18,7 +18,7 @@ use Rattle.text_lines.specs.declared.LineEnd.{LineEnd}
 use Rattle.text_tokens.specs.Left.{tokensLeft}
 use Rattle.text_operands.proofs.LateLaws.{Late, late-lower, late-tokens, two-first, three-lowest}
 use Rattle.locale_opening.proofs.CollateLaws.{late-collate, late-toggle}
-use Rattle.locale_keywords.proofs.KeywordLaws.{at-elif, at-else, at-endif}
+use Rattle.locale_opening.proofs.KeywordLaws.{at-elif, at-else, at-endif}
 use Rattle.work_toggles.specs.Kept.{togglesIn}
 use Rattle.locale_toggle.specs.declared.Set.the-variants as set
 use Rattle.locale_toggle.specs.declared.Toggled.{Toggled}

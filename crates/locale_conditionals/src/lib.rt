@@ -301,6 +301,7 @@ pub fn branch_line(
 {
     let o = open_line(src, g, at);
     match o {
+        // never blank or a name: elif, else or endif stands there, malformed where an escape pair is in it
         Opening::Blank(e) => return Turn::Refused(malformed(e.text)),
         Opening::Foul(e) => return Turn::Refused(malformed(e.text)),
         Opening::Name(_, _, e) => return Turn::Refused(malformed(e.text)),

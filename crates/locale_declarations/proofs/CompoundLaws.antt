@@ -32,16 +32,16 @@ use Rattle.work_store.proofs.ListLaws.{first-fresh-other, isPlace-older, place-
 use Rattle.work_rows.specs.Cells.{cell}
 use Rattle.work_order.specs.declared.Order.{Order}
 use Rattle.work_order.specs.Listed.{charsNumber}
-use Rattle.work_known.specs.Known.{declaredAt, Says, elements, isRow, Known}
-use Rattle.work_known.proofs.MarkLaws.{row-by}
-use Rattle.work_known.proofs.GrownLaws.{Grown, known-grown}
-use Rattle.work_known.proofs.NewLaws.{says-on, kind-name}
+use Rattle.locale_sheet.specs.Known.{declaredAt, Says, elements, isRow, Known}
+use Rattle.locale_sheet.proofs.MarkLaws.{row-by}
+use Rattle.locale_sheet.proofs.GrownLaws.{Grown, known-grown}
+use Rattle.locale_sheet.proofs.NewLaws.{says-on, kind-name}
 use Rattle.locale_symbols.specs.Symbols.{isNewIn}
 use Rattle.locale_elements.specs.declared.Element.{Element}
 use Rattle.locale_elements.specs.declared.Element.the-variants as answer
 use Rattle.locale_elements.specs.Compounds.{elementRefusal, charsIn, DeclaresBoth, ElementAt, ElementNot, ElementIs}
 use Rattle.locale_elements.proofs.PaperLaws.{element-paper, element-misplaced}
-use Rattle.locale_keywords.proofs.KeywordLaws.{at-element}
+use Rattle.locale_opening.proofs.KeywordLaws.{at-element}
 use Rattle.locale_opening.proofs.OpenLaws.{with-text}
 use Rattle.locale_sheet.specs.declared.Sheet.{Sheet}
 use Rattle.locale_sheet.specs.declared.Step.the-variants.{Next, Refused}

@@ -31,13 +31,13 @@ use Rattle.work_subjects.proofs.NumberLaws.{name-declarable}
 use Rattle.work_store.specs.Store.{Decl, first, isFound, knownIn, aboveOf, Holds, Sound, Declares}
 use Rattle.work_store.specs.declared.Found.{Found}
 use Rattle.work_store.specs.declared.Found.the-variants.{At, Nothing}
-use Rattle.work_known.specs.Known.{declaredAt, Says, none, symbols, elements, characters}
-use Rattle.work_known.proofs.NewLaws.{name-above, declared-older, known-symbol-new}
+use Rattle.locale_sheet.specs.Known.{declaredAt, Says, none, symbols, elements, characters}
+use Rattle.locale_sheet.proofs.NewLaws.{name-above, declared-older, known-symbol-new}
 use Rattle.locale_symbols.specs.declared.Symbol.{Symbol}
 use Rattle.locale_symbols.specs.declared.Symbol.the-variants as answer
 use Rattle.locale_symbols.specs.Symbols.{isNewIn, Alike, symbolRefusal, Reaches, SymbolAt, SymbolNot, SymbolIs}
 use Rattle.locale_symbols.proofs.PaperLaws.{alike-none, alike-symbol, alike-element, alike-character, symbol-paper, symbol-misplaced}
-use Rattle.locale_keywords.proofs.KeywordLaws.{at-symbol}
+use Rattle.locale_opening.proofs.KeywordLaws.{at-symbol}
 use Rattle.locale_sheet.specs.declared.Sheet.{Sheet}
 use Rattle.locale_sheet.specs.declared.Step.the-variants.{Next, Refused}
 use Rattle.locale_sheet.specs.Sheets.{Open}

@@ -24,7 +24,7 @@ use Rattle.text_operands.specs.declared.One.{One}
 use Rattle.text_operands.specs.declared.One.the-variants as one
 use Rattle.text_operands.specs.Operand.{WordAlone, OneIs}
 use Rattle.text_operands.proofs.LineLaws.{word-single, word-text, word-unrefused}
-use Rattle.locale_keywords.proofs.KeywordLaws.{at-order-end, at-end}
+use Rattle.locale_opening.proofs.KeywordLaws.{at-order-end, at-end}
 use Rattle.locale_sheet.specs.declared.Sheet.{Sheet}
 use Rattle.locale_sheet.specs.declared.Step.the-variants.{Next, Closes, Refused}
 use Rattle.locale_sheet.specs.Sheets.{Open}

@@ -18,12 +18,12 @@ use Rattle.text_lines.specs.declared.Signs.{Signs}
 use Rattle.text_lines.specs.declared.Spot.{Spot}
 use Rattle.text_lines.specs.declared.LineEnd.{LineEnd}
 use Rattle.text_tokens.specs.Left.{tokensLeft}
-use Rattle.locale_keywords.proofs.KeywordLaws.{at-order-start}
+use Rattle.locale_opening.proofs.KeywordLaws.{at-order-start}
 use Rattle.locale_levels.specs.declared.Levels.{Levels}
 use Rattle.locale_levels.specs.declared.Levels.the-variants as levels
 use Rattle.locale_levels.specs.Levels.{startRefusal, LevelsAre, LevelsRefused, LevelsIs}
 use Rattle.locale_levels.proofs.LevelLaws.{start-line, start-elsewhere, start-state}
-use Rattle.work_known.specs.Known.{behind}
+use Rattle.locale_sheet.specs.Known.{behind}
 use Rattle.locale_sheet.specs.declared.Sheet.{Sheet}
 use Rattle.locale_sheet.specs.declared.Step.the-variants.{Next, Refused}
 use Rattle.locale_sheet.specs.Sheets.{rulesAt}

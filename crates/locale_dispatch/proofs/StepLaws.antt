@@ -21,10 +21,10 @@ use Rattle.work_store.specs.Store.{Sound}
 use Rattle.locale_opening.specs.Begun as begun
 use Rattle.locale_opening.specs.declared.Opening.{Opening}
 use Rattle.locale_opening.specs.declared.Opening.the-variants as opens
-use Rattle.locale_keywords.specs.Keyed.{KeywordIs}
-use Rattle.locale_keywords.specs.declared.Keyword.{Keyword}
-use Rattle.locale_keywords.specs.declared.Keyword.the-variants as key
-use Rattle.locale_keywords.proofs.KeywordLaws.{at-other}
+use Rattle.locale_opening.specs.Keyed.{KeywordIs}
+use Rattle.locale_opening.specs.declared.Keyword.{Keyword}
+use Rattle.locale_opening.specs.declared.Keyword.the-variants as key
+use Rattle.locale_opening.proofs.KeywordLaws.{at-other}
 use Rattle.locale_sheet.specs.declared.Sheet.{Sheet}
 use Rattle.locale_sheet.specs.Sheets.{SomeOpen, Moves, NextIs, BranchIs, RefusedIs}
 use Rattle.locale_sheet.specs.Names.{NameLine}

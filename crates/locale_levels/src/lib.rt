@@ -295,7 +295,7 @@ fn write_left(src: &[u8], g: Signs, p: Spot, area: &mut [u32], at: usize)
                 area[i] = rule_number(code);
                 return;
             }
-            RuleStep::Broken => return,
+            RuleStep::Broken => return, // never: rules that are accepted are whole
         }
     }
 }
@@ -312,7 +312,7 @@ pub fn write_rules(src: &[u8], g: Signs, p: Spot, area: &mut [u32], at: usize)
             area[at] = 0; // one forward level
             return;
         }
-        After::Broken => return,
+        After::Broken => return, // never: rules that are accepted are whole
         After::Operands(x) => {
             if none_left(src, g, x, false) {
                 area[at] = 0;

@@ -20,7 +20,7 @@ use Rattle.text_lines.specs.declared.Spot.{Spot}
 use Rattle.text_lines.specs.declared.LineEnd.{LineEnd}
 use Rattle.text_tokens.specs.Left.{tokensLeft}
 use Rattle.text_tokens.proofs.RefusalLaws.{late-lowest, late-unless}
-use Rattle.locale_keywords.proofs.KeywordLaws.{at-reorder-after}
+use Rattle.locale_opening.proofs.KeywordLaws.{at-reorder-after}
 use Rattle.locale_symbols.proofs.LateLaws.{unfit-three}
 use Rattle.locale_sheet.specs.declared.Sheet.{Sheet}
 use Rattle.locale_sheet.specs.declared.Step.the-variants.{Next, Refused}

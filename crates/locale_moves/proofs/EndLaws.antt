@@ -18,7 +18,7 @@ use Rattle.text_lines.specs.declared.Signs.{Signs}
 use Rattle.text_lines.specs.declared.Spot.{Spot}
 use Rattle.text_lines.specs.declared.LineEnd.{LineEnd}
 use Rattle.text_tokens.specs.Left.{tokensLeft}
-use Rattle.locale_keywords.proofs.KeywordLaws.{at-reorder-end}
+use Rattle.locale_opening.proofs.KeywordLaws.{at-reorder-end}
 use Rattle.locale_sheet.specs.declared.Sheet.{Sheet}
 use Rattle.locale_sheet.specs.declared.Step.the-variants.{Next, Refused}
 use Rattle.locale_sheet.proofs.BlockLaws.{open-unblocked}

@@ -32,9 +32,9 @@ use Rattle.work_store.specs.Store.{first, isFound, Finds}
 use Rattle.work_store.proofs.ListLaws.{found-within}
 use Rattle.work_order.specs.declared.Order.{Order}
 use Rattle.work_order.specs.Listed.{placeNumber}
-use Rattle.work_known.specs.Known.{subjectAt, markOf, Known}
-use Rattle.work_known.proofs.MarkLaws.{mark-name, marked-subject, mark-row}
-use Rattle.work_known.proofs.RankLaws.{isOrdered, rank-none}
+use Rattle.locale_sheet.specs.Known.{subjectAt, markOf, Known}
+use Rattle.locale_sheet.proofs.MarkLaws.{mark-name, marked-subject, mark-row}
+use Rattle.locale_sheet.proofs.RankLaws.{isOrdered, rank-none}
 use Rattle.locale_symbols.specs.declared.Head.{Head}
 use Rattle.locale_symbols.specs.declared.Head.the-variants as head
 use Rattle.locale_symbols.specs.Symbols.{operandsAfter, Unfit, HeadIs}

@@ -1,2 +1,3 @@
+pub mod KeywordLaws
 pub mod CollateLaws
 pub mod OpenLaws

@@ -22,10 +22,10 @@ use Rattle.work_store.specs.declared.Found.the-variants.{At, Nothing}
 use Rattle.work_order.specs.declared.Order.{Order}
 use Rattle.work_order.specs.Listed.{placeNumber}
 use Rattle.work_order.proofs.MoveLaws.{one-has}
-use Rattle.work_known.specs.Known.{subjectAt, isRow, markOf, IsListed, Known}
-use Rattle.work_known.proofs.MarkLaws.{isAt, subject-mark, marked-subject, mark-row, rows-apart}
-use Rattle.work_known.proofs.RankLaws.{isOrdered, rank-none}
-use Rattle.work_known.proofs.LineLaws.{Changed}
+use Rattle.locale_sheet.specs.Known.{subjectAt, isRow, markOf, IsListed, Known}
+use Rattle.locale_sheet.proofs.MarkLaws.{isAt, subject-mark, marked-subject, mark-row, rows-apart}
+use Rattle.locale_sheet.proofs.RankLaws.{isOrdered, rank-none}
+use Rattle.locale_sheet.proofs.LineLaws.{Changed}
 use Rattle.locale_sheet.specs.declared.Block.{Block}
 use Rattle.locale_sheet.specs.declared.Sheet.{Sheet}
 use Rattle.locale_sheet.specs.Sheets.{InBlock, Open}

@@ -29,10 +29,10 @@ use Rattle.work_store.proofs.ListLaws.{found-within}
 use Rattle.work_order.specs.declared.Order.{Order}
 use Rattle.work_order.specs.Listed.{charsNumber, placeNumber}
 use Rattle.locale_standing.specs.Standing.{standsIn}
-use Rattle.work_known.specs.Known.{Says, markOf, Known}
-use Rattle.work_known.proofs.DeclaredLaws.{known-declared, none-later, known-symbol}
-use Rattle.work_known.proofs.RankLaws.{isOrdered, rank-none}
-use Rattle.work_known.proofs.MovedLaws.{known-length, taken-found}
+use Rattle.locale_sheet.specs.Known.{Says, markOf, Known}
+use Rattle.locale_sheet.proofs.DeclaredLaws.{known-declared, none-later, known-symbol}
+use Rattle.locale_sheet.proofs.RankLaws.{isOrdered, rank-none}
+use Rattle.locale_sheet.proofs.MovedLaws.{known-length, taken-found}
 use Rattle.locale_sheet.specs.declared.Block.{Block}
 use Rattle.locale_sheet.specs.declared.Sheet.{Sheet}
 use Rattle.locale_order_lines.specs.declared.Facts.{Facts}

@@ -33,10 +33,10 @@ use Rattle.work_store.specs.declared.Found.{Found}
 use Rattle.work_store.specs.declared.Found.the-variants.{At, Nothing}
 use Rattle.work_store.specs.Store.{Decl, first, isFound, knownIn, aboveOf, Finds, Declares}
 use Rattle.work_store.proofs.ListLaws.{first-fresh, found-key, found-place}
-use Rattle.work_known.specs.Known.{Says, isRow}
-use Rattle.work_known.proofs.MarkLaws.{item-even}
-use Rattle.work_known.proofs.DeclaredLaws.{known-declared}
-use Rattle.work_known.proofs.NewLaws.{character-above, declared-older, known-character-new}
+use Rattle.locale_sheet.specs.Known.{Says, isRow}
+use Rattle.locale_sheet.proofs.MarkLaws.{item-even}
+use Rattle.locale_sheet.proofs.DeclaredLaws.{known-declared}
+use Rattle.locale_sheet.proofs.NewLaws.{character-above, declared-older, known-character-new}
 use Rattle.locale_sheet.specs.declared.Sheet.{Sheet}
 use Rattle.locale_sheet.specs.declared.Step.{Step}
 use Rattle.locale_sheet.specs.Sheets.{Open, SomeOpen, StepIs}

@@ -22,7 +22,7 @@ use Rattle.locale_weights.proofs.ByLaws.{weights-paper}
 use Rattle.locale_standing.specs.declared.Counted.{Counted}
 use Rattle.locale_standing.specs.Refusing.{Counts}
 use Rattle.locale_standing.proofs.CountLaws.{refusal-paper}
-use Rattle.work_known.specs.Known.{lineAt}
+use Rattle.locale_sheet.specs.Known.{lineAt}
 use Rattle.locale_sheet.specs.declared.Sheet.{Sheet}
 use Rattle.locale_sheet.specs.Sheets.{Open}
 use Rattle.locale_order_lines.specs.declared.Facts.{Facts}

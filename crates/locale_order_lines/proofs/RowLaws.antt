@@ -16,7 +16,7 @@ use Rattle.work_order.specs.declared.Order.{Order}
 use Rattle.work_order.specs.Listed.{Row, Among, longer, withLine, shorter, unlinked, longerAfter, withLineAfter}
 use Rattle.work_order.proofs.ListLaws.{row-kept}
 use Rattle.work_order.proofs.MoveLaws.{without, without-one, out-length, lines-out, backed-out}
-use Rattle.work_known.proofs.RankLaws.{isOrdered}
+use Rattle.locale_sheet.proofs.RankLaws.{isOrdered}
 use Rattle.locale_sheet.specs.declared.Sheet.{Sheet}
 use Rattle.locale_sheet.specs.declared.Step.{Step}
 use Rattle.locale_sheet.specs.declared.Step.the-variants.{Next}

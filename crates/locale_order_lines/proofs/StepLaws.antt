@@ -27,11 +27,11 @@ use Rattle.work_order.specs.declared.Order.{Order}
 use Rattle.work_order.specs.Listed.{lineNumber, placeNumber, nextNumber, backNumber, Row, linkedTo, numbered, longer, withLine, shorter, unlinked, linkedBetween, longerAfter, withLineAfter}
 use Rattle.work_order.proofs.ListLaws.{all-map, last-has, link-length}
 use Rattle.work_order.proofs.MoveLaws.{one-has, next-has, back-has, without, without-all, without-one, out-length, lines-out}
-use Rattle.work_known.specs.Known.{subjectAt, behind, isRow, markOf, IsListed, Known}
-use Rattle.work_known.proofs.MarkLaws.{row-in, rows-apart, marked-subject, mark-row}
-use Rattle.work_known.proofs.RankLaws.{isOrdered, rank-none}
-use Rattle.work_known.proofs.LineLaws.{newLine, Unlisted, Follows, Came, came-line}
-use Rattle.work_known.proofs.MovedLaws.{taken-none, taken-found, came-put, came-moved}
+use Rattle.locale_sheet.specs.Known.{subjectAt, behind, isRow, markOf, IsListed, Known}
+use Rattle.locale_sheet.proofs.MarkLaws.{row-in, rows-apart, marked-subject, mark-row}
+use Rattle.locale_sheet.proofs.RankLaws.{isOrdered, rank-none}
+use Rattle.locale_sheet.proofs.LineLaws.{newLine, Unlisted, Follows, Came, came-line}
+use Rattle.locale_sheet.proofs.MovedLaws.{taken-none, taken-found, came-put, came-moved}
 use Rattle.locale_sheet.specs.declared.Block.{Block}
 use Rattle.locale_sheet.specs.declared.Sheet.{Sheet}
 use Rattle.locale_sheet.specs.declared.Step.{Step}

@@ -15,7 +15,7 @@ use Rattle.text_lines.specs.declared.Spot.{Spot}
 use Rattle.text_lines.specs.declared.LineEnd.{LineEnd}
 use Rattle.text_lines.specs.Stream.{marksLeft, lineStart}
 use Rattle.work_store.specs.declared.Found.the-variants.{At}
-use Rattle.work_known.specs.Known.{markOf}
+use Rattle.locale_sheet.specs.Known.{markOf}
 use Rattle.locale_sheet.specs.declared.Sheet.{Sheet}
 use Rattle.locale_sheet.specs.declared.Step.{Step}
 use Rattle.locale_sheet.specs.Sheets.{Open, SomeOpen, StepIs}

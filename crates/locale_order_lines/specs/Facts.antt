@@ -21,8 +21,8 @@ use Rattle.work_store.specs.Store.{Declares}
 use Rattle.work_subjects.specs.Keys.{keyAt}
 use Rattle.work_order.specs.declared.Order.{Order}
 use Rattle.work_order.specs.Listed.{charsNumber, placeNumber, Row, Backed, Lines, SomeLines, longer, withLine, shorter, unlinked, longerAfter, withLineAfter}
-use Rattle.work_known.specs.Known.{Known}
-use Rattle.work_known.proofs.RankLaws.{isOrdered}
+use Rattle.locale_sheet.specs.Known.{Known}
+use Rattle.locale_sheet.proofs.RankLaws.{isOrdered}
 use Rattle.locale_sheet.specs.declared.Block.{Block}
 use Rattle.locale_sheet.specs.declared.Sheet.{Sheet}
 use Rattle.locale_sheet.specs.declared.Step.{Step}

@@ -14,7 +14,7 @@ ghost use Rattle.text_names.specs.Named.{nameLeft, CodeIs};
 ghost use Rattle.work_subjects.specs.Keys.{keyAt, subjectLeft};
 ghost use Rattle.work_store.specs.declared.Found.the-variants.{At};
 ghost use Rattle.work_store.specs.Store.{isFound, undefinedMark, Finds, Roomy};
-ghost use Rattle.work_known.proofs.RankLaws.{isOrdered};
+ghost use Rattle.locale_sheet.proofs.RankLaws.{isOrdered};
 ghost use Rattle.locale_sheet.specs.Names.{subjectIn, NameLine};
 ghost use Rattle.locale_sheet.specs.Sheets.{SomeOpen, StepIs};
 ghost use Rattle.locale_order_lines.specs.Facts.{Rowed, isBare, isOwn, isAgain, FactsOf, undefinedFacts, SomeKnown, OwnRefused, RowIs, withLast, Ready, LastIs, NewIs, MovedIs, Lists};

@@ -4,3 +4,6 @@ pub mod OperandLaws
 pub mod OutcomeLaws
 pub mod PlainLaws
 pub mod SetLaws
+pub mod TurnLaws
+pub mod StretchLaws
+pub mod EndLaws

@@ -18,7 +18,7 @@ use Rattle.rules.specs.Source.{isCapital, categoryLine, signLine, outsideLine, 
 use Rattle.rules.proofs.TextLaws.{same-true}
 use Rattle.text_operands.proofs.FirstLaws.{starts}
 use Rattle.text_operands.proofs.LateLaws.{Late, late-lower, late-unless, late-tokens, two-first}
-use Rattle.text_as_is.specs.Signed.{keyword}
+use Rattle.text_specials.specs.Signed.{keyword}
 use Rattle.locale_outside.specs.Outside.{isCategory, openedBy}
 use Rattle.locale_outside.proofs.OperandLaws.{isNoWord}
 

@@ -23,7 +23,7 @@ use Rattle.text_lines.proofs.LineLaws.{run-marks}
 use Rattle.text_tokens.specs.Left.{wordIn, afterWord, Skips, onlyBlanks}
 use Rattle.text_tokens.proofs.TokenLaws.{tokensFrom-none}
 use Rattle.text_operands.proofs.BlankLaws.{blanks-text}
-use Rattle.text_as_is.proofs.OpenLaws.{opening-blank}
+use Rattle.text_specials.proofs.OpenLaws.{opening-blank}
 use Rattle.text_specials.specs.declared.Chars.{Chars}
 use Rattle.locale_outside.specs.Outside.{isCategory, AloneIs, signsOf, Stands, Changes, openedBy, OpenedAt, RefusedWith, PlainAt, CategoryAt}
 use Rattle.locale_outside.proofs.OperandLaws.{no-word, word-first, none-operands, some-operands, other-single, other-some}

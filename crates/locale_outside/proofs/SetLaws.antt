@@ -21,10 +21,10 @@ use Rattle.text_lines.specs.declared.LineEnd.{LineEnd}
 use Rattle.text_lines.specs.Stream.{marksLeft, LineIs}
 use Rattle.text_specials.specs.declared.Chars.{Chars}
 use Rattle.text_specials.specs.Force.{charsAs, operand}
-use Rattle.text_as_is.specs.declared.Sign.{Sign}
-use Rattle.text_as_is.specs.declared.Sign.the-variants.{Plain, Taken}
-use Rattle.text_as_is.specs.Signed.{Visible, keyword, SignIs}
-use Rattle.text_as_is.proofs.LineTokenLaws.{LineTokens, line-tokens, line-text}
+use Rattle.text_specials.specs.declared.Sign.{Sign}
+use Rattle.text_specials.specs.declared.Sign.the-variants.{Plain, Taken}
+use Rattle.text_specials.specs.Signed.{Visible, keyword, SignIs}
+use Rattle.text_specials.proofs.LineTokenLaws.{LineTokens, line-tokens, line-text}
 use Rattle.text_tokens.specs.Left.{RestIs}
 use Rattle.locale_outside.specs.Outside.{signsOf, Stands, Changes, SignedBy, RefusedWith, PlainAt, TakenAt}
 use Rattle.locale_outside.proofs.OperandLaws.{none-rest, some-rest, other-more}

@@ -17,7 +17,7 @@ use Rattle.text_lines.specs.Stream.{outsideSigns, lineLeft, lineStart, marksLef
 use Rattle.text_tokens.specs.Left.{wordIn, afterWord, Skips, onlyBlanks, NoneTaken}
 use Rattle.text_specials.specs.declared.Chars.{Chars}
 use Rattle.text_specials.specs.Force.{charsAs}
-use Rattle.text_as_is.specs.Signed.{Visible, TakenIs}
+use Rattle.text_specials.specs.Signed.{Visible, TakenIs}
 use Rattle.locale_outside.specs.declared.Outer.{Outer}
 use Rattle.locale_outside.specs.declared.Outer.the-variants.{Blank, Signed, Opened, Refused}
 

@@ -18,7 +18,7 @@ use Rattle.work_store.specs.Store.{Decl}
 use Rattle.work_order.specs.declared.Order.{Order}
 use Rattle.work_order.specs.Listed.{placeNumber, nextNumber, Linked, ends, goes}
 use Rattle.work_order.proofs.MoveLaws.{one-has}
-use Rattle.work_known.specs.Known.{subjectAt, isRow, IsListed, Known}
+use Rattle.locale_sheet.specs.Known.{subjectAt, isRow, IsListed, Known}
 use Rattle.locale_sheet.specs.declared.Block.{Block}
 use Rattle.locale_sheet.specs.declared.Sheet.{Sheet}
 use Rattle.locale_sheet.specs.Sheets.{InBlock, Open}

@@ -1,3 +1,11 @@
+pub mod DeclaredLaws
+pub mod MarkLaws
+pub mod RankLaws
+pub mod LineLaws
+pub mod MovedLaws
+pub mod GrownLaws
+pub mod NewLaws
+pub mod FewLaws
 pub mod BlockLaws
 pub mod SheetLaws
 pub mod OrderLaws

@@ -22,8 +22,8 @@ use Rattle.work_rows.specs.Cells.{cellAt, cell}
 use Rattle.work_store.specs.Store.{headsOf}
 use Rattle.work_order.specs.declared.Order.{Order}
 use Rattle.work_order.specs.Listed.{lineNumber, placeNumber, nextNumber, backNumber, linkedTo, numbered, withLine, unlinked, linkedBetween, withLineAfter}
-use Rattle.work_known.specs.Known.{behind, isRow, Known}
-use Rattle.work_known.proofs.NewLaws.{known-rules}
+use Rattle.locale_sheet.specs.Known.{behind, isRow, Known}
+use Rattle.locale_sheet.proofs.NewLaws.{known-rules}
 use Rattle.locale_sheet.specs.declared.Block.{Block}
 use Rattle.locale_sheet.specs.declared.Sheet.{Sheet}
 use Rattle.locale_sheet.specs.Sheets.{togglesAt, rulesAt, InBlock, Open}

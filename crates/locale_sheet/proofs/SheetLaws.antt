@@ -16,9 +16,9 @@ use Rattle.text_lines.specs.declared.Signs.{Signs}
 use Rattle.text_lines.specs.declared.Spot.{Spot}
 use Rattle.work_rows.specs.Cells.{cellAt, cell}
 use Rattle.work_toggles.specs.Kept.{togglesIn, Kept}
-use Rattle.work_known.specs.Known.{behind, isRow}
-use Rattle.work_known.proofs.MarkLaws.{row-in}
-use Rattle.work_known.proofs.NewLaws.{known-behind}
+use Rattle.locale_sheet.specs.Known.{behind, isRow}
+use Rattle.locale_sheet.proofs.MarkLaws.{row-in}
+use Rattle.locale_sheet.proofs.NewLaws.{known-behind}
 use Rattle.locale_sheet.specs.declared.Sheet.{Sheet}
 use Rattle.locale_sheet.specs.Sheets.{togglesAt, rowsBefore, Open, isUsed}
 use Rattle.locale_sheet.proofs.BlockLaws.{mark-older, place-same, block-same}

@@ -1,3 +1,4 @@
+pub mod Known
 pub mod Sheets
 pub mod Words
 pub mod Names

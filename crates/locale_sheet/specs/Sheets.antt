@@ -20,7 +20,7 @@ use Rattle.locale_levels.specs.Levels.{startRefusal}
 use Rattle.work_toggles.specs.Kept.{togglesIn, Kept}
 use Rattle.work_rows.specs.Cells.{cell}
 use Rattle.work_order.specs.Listed.{placeNumber}
-use Rattle.work_known.specs.Known.{subjectAt, behind, Known}
+use Rattle.locale_sheet.specs.Known.{subjectAt, behind, Known}
 use Rattle.locale_sheet.specs.declared.Block.{Block}
 use Rattle.locale_sheet.specs.declared.Sheet.{Sheet}
 use Rattle.locale_sheet.specs.Words.{TurnLine}

@@ -1,4 +1,4 @@
-// What is known between two lines in LC_COLLATE beside the work area, and what a line may do to it.
+// What is known between two lines in LC_COLLATE, in the work area and beside it, and what a line may do to it: the contract of every line function.
 use base_units::Refusal;
 use work_order::Order;
 

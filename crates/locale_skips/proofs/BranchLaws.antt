@@ -18,7 +18,7 @@ use Rattle.text_lines.specs.declared.Signs.{Signs}
 use Rattle.text_lines.specs.declared.LineEnd.{LineEnd}
 use Rattle.text_lines.specs.Stream.{plainSigns, lineStart, marksLeft, LineIs}
 use Rattle.text_reader.specs.Turns.{Turns}
-use Rattle.text_passed.specs.Words.{firstWord}
+use Rattle.locale_skips.specs.Words.{firstWord}
 use Rattle.locale_skips.specs.declared.Kind.{Kind}
 use Rattle.locale_skips.specs.declared.Kind.the-variants as kind
 use Rattle.locale_skips.specs.declared.Turn.{Turn}

@@ -14,7 +14,7 @@ use Rattle.rules.specs.Source.{signs, otherLine, unusedLine, wholeLine, lineOut
 use Rattle.text_lines.specs.declared.Signs.{Signs}
 use Rattle.text_lines.specs.declared.LineEnd.{LineEnd}
 use Rattle.text_lines.specs.Stream.{plainSigns, lineStart, marksLeft, LineIs}
-use Rattle.text_passed.specs.Words.{wordsLeft, firstWord}
+use Rattle.locale_skips.specs.Words.{wordsLeft, firstWord}
 use Rattle.locale_skips.specs.declared.Skip.{Skip}
 use Rattle.locale_skips.specs.declared.Skip.the-variants as skip
 use Rattle.locale_skips.specs.Passing.{InOther, Begins, isEnd, InCategory, Reaches, AfterIs, CategoryStops, CategoryRefused, CategoryIs}

@@ -15,7 +15,7 @@ use Rattle.text_lines.specs.declared.Signs.{Signs}
 use Rattle.text_lines.specs.Stream.{lineStart, marksLeft, LineIs}
 use Rattle.text_reader.specs.Turns.{Reading}
 use Rattle.text_tokens.specs.Left.{wordIn}
-use Rattle.text_passed.specs.Words.{wordsLeft, firstWord, areTwo}
+use Rattle.locale_skips.specs.Words.{wordsLeft, firstWord, areTwo}
 use Rattle.locale_skips.specs.declared.Kind.{Kind}
 use Rattle.locale_skips.specs.declared.Kind.the-variants as kind
 use Rattle.locale_skips.specs.declared.Turn.{Turn}

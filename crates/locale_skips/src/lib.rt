@@ -1,17 +1,20 @@
-// The lines of a locale source that are passed over: an unused branch of a conditional chain, and another category.
+// The lines that are passed over: an unused branch, another category; the words of such a line.
 ghost use mathlib.Core.Path.{_≡_};
 ghost use Prim.Native.Nat.{_≤_, _<_};
 ghost use lib.ListN.{length};
+ghost use Rattle.rules.specs.Text.{same};
+ghost use Rattle.locale_skips.specs.Words.{plainLeft, wordsLeft, firstWord, areTwo, PlainIs, Skips, ComparedIs};
+ghost use Rattle.text_tokens.specs.Left.{onlyBlanks};
 ghost use Rattle.text_lines.specs.Stream.{lineStart};
 ghost use Rattle.text_reader.specs.Turns.{AtLine, Turns};
-ghost use Rattle.text_passed.specs.Words.{firstWord};
 ghost use Rattle.locale_skips.specs.Passing.{KindIs, Begins, TurnIs, BranchIs, BranchStands, branchReading, Named, nameAt, isEnd, Reaches, AfterIs, CategoryIs};
 use base_units::Refusal;
 use text_lines::IN_PLAIN;
 use text_lines::Signs;
 use text_lines::Spot;
-use text_passed::first_word_is;
-use text_passed::words_are;
+use text_lines::Step;
+use text_lines::is_blank;
+use text_lines::next_mark;
 use text_reader::Reader;
 use text_reader::line;
 use text_reader::line_at;
@@ -21,6 +24,143 @@ use text_reader::place;
 use text_reader::reader_at;
 use text_reader::used_up;
 use text_tokens::copy_word;
+
+// The next byte of a line with no escape before it, and the spot after it.
+pub enum Plain {
+    Byte(u8, Spot),
+    End,
+}
+
+// Whether a run is a given one; the spot after it where it is.
+pub enum Compared {
+    Same(Spot),
+    Other,
+}
+
+// The next byte with no escape before it.
+fn plain_byte(src: &[u8], g: Signs, p: Spot) -> Plain
+    requires { ⌜ p .at ≤ length (now src) ⌝ }
+    ensures { λ r. ⌜ PlainIs g (now (src .entry)) p r ⌝ }
+{
+    let mut q = p;
+    loop {
+        let s = next_mark(src, g, q);
+        match s {
+            Step::End => return Plain::End,
+            Step::Mark(m, r) => {
+                if m < 256 {
+                    return Plain::Byte(m as u8, r);
+                }
+                q = r;
+            }
+        }
+    }
+}
+
+// The spot after the blanks that come next.
+fn skip_blanks(src: &[u8], g: Signs, p: Spot) -> Spot
+    requires { ⌜ p .at ≤ length (now src) ⌝ }
+    ensures { λ r. ⌜ Skips g (now (src .entry)) p r ⌝ }
+{
+    let mut q = p;
+    loop {
+        let s = plain_byte(src, g, q);
+        match s {
+            Plain::End => return q,
+            Plain::Byte(m, r) => {
+                if is_blank(m) {
+                    q = r;
+                } else {
+                    return q;
+                }
+            }
+        }
+    }
+}
+
+// Whether the run at a spot is w.
+fn run_is(src: &[u8], g: Signs, p: Spot, w: &[u8]) -> Compared
+    requires { ⌜ p .at ≤ length (now src) ⌝ }
+    ensures { λ r. ⌜ ComparedIs g (now (src .entry)) (now (w .entry)) p r ⌝ }
+{
+    let mut q = p;
+    let mut i = 0;
+    loop {
+        let s = plain_byte(src, g, q);
+        match s {
+            Plain::End => {
+                if i == w.len() {
+                    return Compared::Same(q);
+                }
+                return Compared::Other;
+            }
+            Plain::Byte(m, r) => {
+                if is_blank(m) {
+                    if i == w.len() {
+                        return Compared::Same(q);
+                    }
+                    return Compared::Other;
+                }
+                if i < w.len() {
+                    if m == w[i] {
+                        i += 1;
+                        q = r;
+                    } else {
+                        return Compared::Other;
+                    }
+                } else {
+                    return Compared::Other;
+                }
+            }
+        }
+    }
+}
+
+// Whether the first word of the line is w.
+pub fn first_word_is(src: &[u8], g: Signs, p: Spot, w: &[u8]) -> bool
+    requires { ⌜ p .at ≤ length (now src) ⌝ }
+    ensures { λ r. ⌜ r ≡ same (firstWord g (now (src .entry)) p) (now (w .entry)) ⌝ }
+{
+    let q = skip_blanks(src, g, p);
+    let c = run_is(src, g, q, w);
+    match c {
+        Compared::Same(_) => return true,
+        Compared::Other => return false,
+    }
+}
+
+// Whether only blanks are left.
+fn only_blanks(src: &[u8], g: Signs, p: Spot) -> bool
+    requires { ⌜ p .at ≤ length (now src) ⌝ }
+    ensures { λ r. ⌜ r ≡ onlyBlanks (plainLeft g (now (src .entry)) p) ⌝ }
+{
+    let q = skip_blanks(src, g, p);
+    let s = plain_byte(src, g, q);
+    match s {
+        Plain::End => return true,
+        Plain::Byte(_, _) => return false,
+    }
+}
+
+// Whether the words of the line are a and b alone, each of a byte or more.
+pub fn words_are(src: &[u8], g: Signs, p: Spot, a: &[u8], b: &[u8]) -> bool
+    requires { ⌜ (p .at ≤ length (now src)) × (0 < length (now a)) × (0 < length (now b)) ⌝ }
+    ensures { λ r. ⌜ r ≡ areTwo (wordsLeft g (now (src .entry)) p) (now (a .entry)) (now (b .entry)) ⌝ }
+{
+    let q = skip_blanks(src, g, p);
+    let c = run_is(src, g, q, a);
+    match c {
+        Compared::Other => return false,
+        Compared::Same(r) => {
+            let s = skip_blanks(src, g, r);
+            let d = run_is(src, g, s, b);
+            match d {
+                Compared::Other => return false,
+                Compared::Same(t) => return only_blanks(src, g, t),
+            }
+        }
+    }
+}
 
 // What a line is in an unused branch, by its first word.
 pub enum Kind {

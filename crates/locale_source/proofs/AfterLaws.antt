@@ -8,10 +8,10 @@ use Rattle.base_units.specs.declared.Refusal.{Refusal}
 use Rattle.base_units.specs.Numbers.{numberOf}
 use Rattle.text_specials.specs.declared.Chars.{Chars}
 use Rattle.locale_outside.specs.Outside.{signsOf}
-use Rattle.locale_stretches.specs.declared.Outers.{Outers}
-use Rattle.locale_stretches.specs.declared.Outers.the-variants as outers
-use Rattle.locale_stretches.specs.Stretches.{Opens, Fails, EndsAll, OutersIs}
-use Rattle.locale_stretches.proofs.EndLaws.{ends-whole, ends-early}
+use Rattle.locale_outside.specs.declared.Outers.{Outers}
+use Rattle.locale_outside.specs.declared.Outers.the-variants as outers
+use Rattle.locale_outside.specs.Stretches.{Opens, Fails, EndsAll, OutersIs}
+use Rattle.locale_outside.proofs.EndLaws.{ends-whole, ends-early}
 use Rattle.locale_sheet.specs.declared.Sheet.{Sheet}
 use Rattle.locale_source.specs.Whole.{EndsAfter, RefusedAfter}
 

@@ -12,17 +12,17 @@ use Rattle.base_units.specs.Numbers.{numberOf}
 use Rattle.text_lines.specs.declared.Signs.{Signs}
 use Rattle.text_specials.specs.declared.Chars.{Chars}
 use Rattle.text_specials.specs.Force.{charsAs}
-use Rattle.text_as_is.specs.Signed.{Visible}
+use Rattle.text_specials.specs.Signed.{Visible}
 use Rattle.locale_outside.specs.Outside.{signsOf, Stands}
-use Rattle.locale_stretches.specs.declared.Outers.{Outers}
-use Rattle.locale_stretches.specs.declared.Outers.the-variants as outers
-use Rattle.locale_stretches.specs.Stretches.{collatedBy, Opens, Fails, EndsAll, OutersIs}
-use Rattle.locale_stretches.proofs.EndLaws.{ends-without}
+use Rattle.locale_outside.specs.declared.Outers.{Outers}
+use Rattle.locale_outside.specs.declared.Outers.the-variants as outers
+use Rattle.locale_outside.specs.Stretches.{collatedBy, Opens, Fails, EndsAll, OutersIs}
+use Rattle.locale_outside.proofs.EndLaws.{ends-without}
 use Rattle.locale_skips.specs.Passing.{Begins}
 use Rattle.locale_skips.proofs.LineRuns.{refuses-from}
 use Rattle.locale_sheet.specs.declared.Sheet.{Sheet}
 use Rattle.locale_sheet.specs.Sheets.{Open}
-use Rattle.locale_chains.specs.Blocks.{GoesOut}
+use Rattle.locale_category.specs.Blocks.{GoesOut}
 use Rattle.locale_category.specs.declared.Category.{Category}
 use Rattle.locale_category.specs.declared.Category.the-variants as category
 use Rattle.locale_category.specs.Category.{Begun, Ready, ClosedAt, RefusedAt, CategoryIs}

@@ -11,7 +11,7 @@ use Rattle.base_units.specs.Numbers.{numberOf}
 use Rattle.text_lines.specs.declared.Signs.{Signs}
 use Rattle.text_specials.specs.declared.Chars.{Chars}
 use Rattle.locale_outside.specs.Outside.{signsOf, Stands}
-use Rattle.locale_stretches.specs.Stretches.{Keeps, collatedBy}
+use Rattle.locale_outside.specs.Stretches.{Keeps, collatedBy}
 use Rattle.locale_skips.specs.Passing.{Refuses}
 use Rattle.work_store.specs.Store.{Roomy}
 use Rattle.locale_sheet.specs.declared.Sheet.{Sheet}

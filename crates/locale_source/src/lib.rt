@@ -1,5 +1,5 @@
 // All lines of a locale source: those before LC_COLLATE, its own, and those after it.
-ghost use Rattle.text_as_is.specs.Signed.{Visible};
+ghost use Rattle.text_specials.specs.Signed.{Visible};
 ghost use Rattle.locale_outside.specs.Outside.{signsOf};
 ghost use Rattle.locale_skips.specs.Passing.{Begins};
 ghost use Rattle.locale_category.specs.Category.{Ready};
@@ -7,9 +7,9 @@ ghost use Rattle.locale_source.specs.Whole.{Empty, AfterIs, InsideIs, So
 use base_units::Refusal;
 use locale_category::Category;
 use locale_category::category_lines;
+use locale_outside::Outers;
+use locale_outside::outer_lines;
 use locale_sheet::Sheet;
-use locale_stretches::Outers;
-use locale_stretches::outer_lines;
 use text_lines::Signs;
 use text_specials::Chars;
 use text_specials::start;

@@ -21,9 +21,9 @@ use Rattle.work_store.specs.Store.{Decl, first, isPlace, Once, headsOf, Roomy, 
 use Rattle.work_store.specs.declared.Found.the-variants.{At}
 use Rattle.work_store.proofs.ListLaws.{nodes-keyed, place-within}
 use Rattle.work_order.specs.Listed.{charsNumber}
-use Rattle.work_known.specs.Known.{Says, subjectAt, isRow, markOf}
-use Rattle.work_known.proofs.DeclaredLaws.{known-symbol, known-quotes, known-character}
-use Rattle.work_known.proofs.MarkLaws.{mark-name, below-undefined, at-undefined, at-source, subject-marked}
+use Rattle.locale_sheet.specs.Known.{Says, subjectAt, isRow, markOf}
+use Rattle.locale_sheet.proofs.DeclaredLaws.{known-symbol, known-quotes, known-character}
+use Rattle.locale_sheet.proofs.MarkLaws.{mark-name, below-undefined, at-undefined, at-source, subject-marked}
 use Rattle.table_records.specs.Writing.{itemChars, CharsReady}
 use Rattle.table_items.specs.Items.{isItem}
 

@@ -19,10 +19,10 @@ use Rattle.work_subjects.specs.Keys.{keyAt}
 use Rattle.work_store.specs.Store.{Decl, headsOf, Holds, undefinedMark}
 use Rattle.work_order.specs.declared.Order.{Order}
 use Rattle.work_order.specs.Listed.{charsNumber, lineNumber, placeNumber, Lines, Ranks}
-use Rattle.work_known.specs.Known.{Says, subjectAt, lineAt, Known}
-use Rattle.work_known.proofs.LineLaws.{says-kept}
-use Rattle.work_known.proofs.FewLaws.{known-few}
-use Rattle.work_known.proofs.RankLaws.{ranked-other}
+use Rattle.locale_sheet.specs.Known.{Says, subjectAt, lineAt, Known}
+use Rattle.locale_sheet.proofs.LineLaws.{says-kept}
+use Rattle.locale_sheet.proofs.FewLaws.{known-few}
+use Rattle.locale_sheet.proofs.RankLaws.{ranked-other}
 use Rattle.table_weights.specs.Ranks.{rankIn}
 use Rattle.table_weights.specs.Reading.{lineOperands, Readable}
 use Rattle.table_weights.proofs.PartLaws.{accepted-weighed}

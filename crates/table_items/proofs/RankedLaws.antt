@@ -23,9 +23,9 @@ use Rattle.work_store.specs.declared.Found.the-variants.{At, Nothing}
 use Rattle.work_order.specs.declared.Order.{Order}
 use Rattle.work_order.specs.Listed.{lineNumber, placeNumber, rankNumber, Lines, ranked}
 use Rattle.work_order.proofs.ListLaws.{all-map, lines-other}
-use Rattle.work_known.specs.Known.{subjectAt, behind, lineAt, isRow, IsListed, Known}
-use Rattle.work_known.proofs.MarkLaws.{holds-row, mark-name, mark-undefined, subject-marked}
-use Rattle.work_known.proofs.RankLaws.{ranked-other, ranked-length, rankAt, rank-none, rank-given}
+use Rattle.locale_sheet.specs.Known.{subjectAt, behind, lineAt, isRow, IsListed, Known}
+use Rattle.locale_sheet.proofs.MarkLaws.{holds-row, mark-name, mark-undefined, subject-marked}
+use Rattle.locale_sheet.proofs.RankLaws.{ranked-other, ranked-length, rankAt, rank-none, rank-given}
 use Rattle.table_weights.specs.Ranks.{rankFound, rankIn, levelRanks}
 use Rattle.table_weights.specs.Reading.{lineOperands, ranksAt, itemRanks}
 use Rattle.table_weights.proofs.LevelLaws.{line-ranks}

@@ -171,7 +171,7 @@ pub fn next_part(src: &[u8], g: Signs, c: Cursor) -> Turn
                     },
                 };
             }
-            // no operand of an accepted line
+            // never: the operands of an accepted line are whole
             Weight::Bad => {
                 return Turn {
                     part: Part::None,
@@ -202,7 +202,7 @@ pub fn first_part(src: &[u8], g: Signs, place: usize) -> Cursor
         After::None => {
             return Cursor { more: false, at: p };
         }
-        // no operand of an accepted line
+        // never: the operands of an accepted line are whole
         After::Broken => {
             return Cursor { more: false, at: p };
         }

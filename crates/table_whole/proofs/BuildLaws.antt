@@ -27,7 +27,7 @@ use Rattle.work_order.specs.Listed.{placeNumber, rankNumber}
 use Rattle.work_subjects.specs.Keys.{keyAt}
 use Rattle.work_store.specs.Store.{Sound}
 use Rattle.locale_levels.specs.Writing.{ruleNumbers, RulesFit}
-use Rattle.work_known.specs.Known.{behind}
+use Rattle.locale_sheet.specs.Known.{behind}
 use Rattle.locale_sheet.specs.declared.Sheet.{Sheet}
 use Rattle.locale_sheet.specs.Sheets.{rulesAt}
 use Rattle.table_weights.specs.Ranks.{rankIn}

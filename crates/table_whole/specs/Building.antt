@@ -19,7 +19,7 @@ use Rattle.work_subjects.specs.Keys.{keyAt}
 use Rattle.work_store.specs.Store.{Decl, Holds}
 use Rattle.work_order.specs.Listed.{Lines}
 use Rattle.locale_levels.specs.Levels.{startRefusal}
-use Rattle.work_known.specs.Known.{behind}
+use Rattle.locale_sheet.specs.Known.{behind}
 use Rattle.locale_sheet.specs.declared.Sheet.{Sheet}
 use Rattle.locale_sheet.specs.Sheets.{rulesAt}
 use Rattle.table_weights.specs.Ranks.{rankIn}

@@ -1,4 +1,0 @@
-pub mod CharsLaws
-pub mod BlockLaws
-pub mod BranchLaws
-pub mod ChainLaws

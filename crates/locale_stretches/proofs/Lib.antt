@@ -1,3 +1,0 @@
-pub mod TurnLaws
-pub mod StretchLaws
-pub mod EndLaws

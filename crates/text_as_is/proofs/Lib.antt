@@ -1,5 +1,0 @@
-pub mod AsIsLaws
-pub mod BlankLaws
-pub mod OpenLaws
-pub mod TakenLaws
-pub mod LineTokenLaws

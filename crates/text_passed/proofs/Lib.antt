@@ -1,3 +1,0 @@
-pub mod WordLaws
-pub mod RunLaws
-pub mod LineWordLaws
