@@ -14,7 +14,7 @@ import sys
 
 DEPTHS = {
     # Conditionals 8 deep, and the lines around them.
-    "locale_chains": 9,
+    "locale_category": 9,
     # 32,768 items, halved until one is left.
     "table_listing": 16,
 }
