@@ -45,7 +45,7 @@ pub enum Chained {
 }
 
 // The lines of a block, from a place on: to a line of the chain that it stands in, to END LC_COLLATE, or to a refusal.
-pub fn block(
+fn block(
     src: &[u8],
     g: Signs,
     work: &mut [u32],

@@ -223,7 +223,7 @@ fn taken_line(
 }
 
 // The line at a place, with two characters in force that are no blanks; whether no category stands before it, and whether LC_COLLATE does.
-pub fn outer_line(src: &[u8], h: Chars, before: bool, collated: bool, at: usize) -> Outer
+fn outer_line(src: &[u8], h: Chars, before: bool, collated: bool, at: usize) -> Outer
     requires { ⌜ (at < length (now src)) × Visible (signsOf h) ⌝ }
     ensures { λ r. ⌜ OuterIs h before collated (now (src .entry)) at r ⌝ }
 {

@@ -117,7 +117,7 @@ fn run_is(src: &[u8], g: Signs, p: Spot, w: &[u8]) -> Compared
 }
 
 // Whether the first word of the line is w.
-pub fn first_word_is(src: &[u8], g: Signs, p: Spot, w: &[u8]) -> bool
+fn first_word_is(src: &[u8], g: Signs, p: Spot, w: &[u8]) -> bool
     requires { ⌜ p .at ≤ length (now src) ⌝ }
     ensures { λ r. ⌜ r ≡ same (firstWord g (now (src .entry)) p) (now (w .entry)) ⌝ }
 {
@@ -143,7 +143,7 @@ fn only_blanks(src: &[u8], g: Signs, p: Spot) -> bool
 }
 
 // Whether the words of the line are a and b alone, each of a byte or more.
-pub fn words_are(src: &[u8], g: Signs, p: Spot, a: &[u8], b: &[u8]) -> bool
+fn words_are(src: &[u8], g: Signs, p: Spot, a: &[u8], b: &[u8]) -> bool
     requires { ⌜ (p .at ≤ length (now src)) × (0 < length (now a)) × (0 < length (now b)) ⌝ }
     ensures { λ r. ⌜ r ≡ areTwo (wordsLeft g (now (src .entry)) p) (now (a .entry)) (now (b .entry)) ⌝ }
 {

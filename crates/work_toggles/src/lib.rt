@@ -183,7 +183,7 @@ fn find_toggle(src: &[u8], g: Signs, work: &[u32], base: usize, n: usize, q: Spo
 }
 
 // Whether a toggle of that word is known.
-pub fn knows(src: &[u8], g: Signs, work: &[u32], base: usize, n: usize, q: Spot) -> bool
+fn knows(src: &[u8], g: Signs, work: &[u32], base: usize, n: usize, q: Spot) -> bool
     requires { ⌜ Kept g (now src) (now work) base n × (q .at ≤ length (now src)) ⌝ }
     ensures { λ r. ⌜ r ≡ oneOf (isToggle (wordLeft g (now (src .entry)) q)) (togglesIn g (now (src .entry)) (now (work .entry)) base n) ⌝ }
 {
