@@ -16,6 +16,7 @@ use locale_opening::Opening;
 use locale_opening::malformed;
 use locale_opening::open_line;
 use locale_opening::refusal_with;
+use locale_sheet::Line;
 use locale_sheet::Sheet;
 use locale_sheet::Step;
 use locale_toggle::Set;
@@ -27,6 +28,16 @@ use text_lines::Spot;
 use text_operands::no_operand;
 use text_tokens::Tok;
 use text_tokens::word_is;
+
+// A line of an open chain that is read whole: where it begins, its number and its end; of the chain before it, whether a branch was used, and
+// whether `else` has stood.
+struct ChainLine {
+    at: usize,
+    number: usize,
+    end: LineEnd,
+    taken: bool,
+    closed: bool,
+}
 
 // What a line of an open chain does.
 pub enum Turn {
@@ -82,61 +93,55 @@ fn named_at(src: &[u8], g: Signs, work: &mut [u32], n: usize, p: Spot, set: Set)
     name_toggle(src, g, work, 8 * (src.len() / 8 + 2), n, p, set)
 }
 
-// The line of define (on) or undef: p is the spot after that word, e the line's end.
+// The line of define (on) or undef: p is the spot after that word.
 pub fn define_line(
     src: &[u8],
     g: Signs,
     work: &mut [u32],
     sh: Sheet,
-    at: usize,
-    number: usize,
-    depth: usize,
+    l: Line,
     p: Spot,
-    e: LineEnd,
     on: bool,
 ) -> Step
-    requires { ⌜ MayRead g (now src) (now work) sh at depth p e (defining on) ⌝ }
-    ensures { λ r. ⌜ StepIs g (now (src .entry)) (now (work .entry)) sh at number depth (now (work .exit)) r ⌝ }
+    requires { ⌜ MayRead g (now src) (now work) sh (l .at) (l .depth) p (l .end) (defining on) ⌝ }
+    ensures { λ r. ⌜ StepIs g (now (src .entry)) (now (work .entry)) sh (l .at) (l .number) (l .depth) (now (work .exit)) r ⌝ }
 {
     let t = named_at(src, g, work, sh.toggles, p, set_for(on));
     match t {
-        Toggled::Refused(r) => return Step::Refused(refusal_with(e.text, r)),
+        Toggled::Refused(r) => return Step::Refused(refusal_with(l.end.text, r)),
         Toggled::Named(_, m) => {
-            if e.text {
-                return Step::Next(with_toggles(sh, m), e.next, e.feeds);
+            if l.end.text {
+                return Step::Next(with_toggles(sh, m), l.end.next, l.end.feeds);
             }
             return Step::Refused(Refusal::BadByte);
         }
     }
 }
 
-// The line of ifdef (wanted) or ifndef: p is the spot after that word, e the line's end.
+// The line of ifdef (wanted) or ifndef: p is the spot after that word.
 pub fn if_line(
     src: &[u8],
     g: Signs,
     work: &mut [u32],
     sh: Sheet,
-    at: usize,
-    number: usize,
-    depth: usize,
+    l: Line,
     p: Spot,
-    e: LineEnd,
     wanted: bool,
 ) -> Step
-    requires { ⌜ MayRead g (now src) (now work) sh at depth p e (testing wanted) ⌝ }
-    ensures { λ r. ⌜ StepIs g (now (src .entry)) (now (work .entry)) sh at number depth (now (work .exit)) r ⌝ }
+    requires { ⌜ MayRead g (now src) (now work) sh (l .at) (l .depth) p (l .end) (testing wanted) ⌝ }
+    ensures { λ r. ⌜ StepIs g (now (src .entry)) (now (work .entry)) sh (l .at) (l .number) (l .depth) (now (work .exit)) r ⌝ }
 {
     let t = named_at(src, g, work, sh.toggles, p, Set::Keep);
     match t {
-        Toggled::Refused(r) => return Step::Refused(refusal_with(e.text, r)),
+        Toggled::Refused(r) => return Step::Refused(refusal_with(l.end.text, r)),
         Toggled::Named(was, m) => {
-            if e.text {
-                if depth < 8 {
+            if l.end.text {
+                if l.depth < 8 {
                     return Step::Opens(
                         holds_for(wanted, was),
                         with_toggles(sh, m),
-                        e.next,
-                        e.feeds,
+                        l.end.next,
+                        l.end.feeds,
                     );
                 }
                 return Step::Refused(Refusal::TooMany);
@@ -166,37 +171,26 @@ fn first_used(taken: bool, on: bool) -> bool
     on
 }
 
-// The line of elif: p is the spot after that word, e the line's end. Taken: a branch of the chain was used; closed: `else` has stood.
-fn elif_line(
-    src: &[u8],
-    g: Signs,
-    work: &mut [u32],
-    sh: Sheet,
-    at: usize,
-    number: usize,
-    p: Spot,
-    e: LineEnd,
-    taken: bool,
-    closed: bool,
-) -> Turn
-    requires { ⌜ KeyTurn g (now src) (now work) sh at p e (bytes "elif") ⌝ }
-    ensures { λ r. ⌜ TurnIs g (now (src .entry)) (now (work .entry)) sh at number taken closed (now (work .exit)) r ⌝ }
+// The line of elif: p is the spot after that word.
+fn elif_line(src: &[u8], g: Signs, work: &mut [u32], sh: Sheet, l: ChainLine, p: Spot) -> Turn
+    requires { ⌜ KeyTurn g (now src) (now work) sh (l .at) p (l .end) (bytes "elif") ⌝ }
+    ensures { λ r. ⌜ TurnIs g (now (src .entry)) (now (work .entry)) sh (l .at) (l .number) (l .taken) (l .closed) (now (work .exit)) r ⌝ }
 {
-    if closed {
-        return Turn::Refused(malformed(e.text));
+    if l.closed {
+        return Turn::Refused(malformed(l.end.text));
     }
     let t = named_at(src, g, work, sh.toggles, p, Set::Keep);
     match t {
-        Toggled::Refused(r) => return Turn::Refused(refusal_with(e.text, r)),
+        Toggled::Refused(r) => return Turn::Refused(refusal_with(l.end.text, r)),
         Toggled::Named(was, m) => {
-            if e.text {
+            if l.end.text {
                 return Turn::Goes(
-                    some_used(taken, was),
-                    first_used(taken, was),
+                    some_used(l.taken, was),
+                    first_used(l.taken, was),
                     false,
                     with_toggles(sh, m),
-                    e.next,
-                    e.feeds,
+                    l.end.next,
+                    l.end.feeds,
                 );
             }
             return Turn::Refused(Refusal::BadByte);
@@ -205,54 +199,34 @@ fn elif_line(
 }
 
 // The line of else.
-fn else_line(
-    src: &[u8],
-    g: Signs,
-    sh: Sheet,
-    at: usize,
-    number: usize,
-    p: Spot,
-    e: LineEnd,
-    taken: bool,
-    closed: bool,
-) -> Turn
-    requires { ⌜ WordLine g (now src) at p e (bytes "else") ⌝ }
-    ensures { λ r. ⌜ StillIs g (now (src .entry)) sh at number taken closed r ⌝ }
+fn else_line(src: &[u8], g: Signs, sh: Sheet, l: ChainLine, p: Spot) -> Turn
+    requires { ⌜ WordLine g (now src) (l .at) p (l .end) (bytes "else") ⌝ }
+    ensures { λ r. ⌜ StillIs g (now (src .entry)) sh (l .at) (l .number) (l .taken) (l .closed) r ⌝ }
 {
-    if closed {
-        return Turn::Refused(malformed(e.text));
+    if l.closed {
+        return Turn::Refused(malformed(l.end.text));
     }
     if no_operand(src, g, p) {
-        if e.text {
-            return Turn::Goes(true, !taken, true, sh, e.next, e.feeds);
+        if l.end.text {
+            return Turn::Goes(true, !l.taken, true, sh, l.end.next, l.end.feeds);
         }
         return Turn::Refused(Refusal::BadByte);
     }
-    Turn::Refused(malformed(e.text))
+    Turn::Refused(malformed(l.end.text))
 }
 
 // The line of endif.
-fn endif_line(
-    src: &[u8],
-    g: Signs,
-    sh: Sheet,
-    at: usize,
-    number: usize,
-    p: Spot,
-    e: LineEnd,
-    taken: bool,
-    closed: bool,
-) -> Turn
-    requires { ⌜ WordLine g (now src) at p e (bytes "endif") ⌝ }
-    ensures { λ r. ⌜ StillIs g (now (src .entry)) sh at number taken closed r ⌝ }
+fn endif_line(src: &[u8], g: Signs, sh: Sheet, l: ChainLine, p: Spot) -> Turn
+    requires { ⌜ WordLine g (now src) (l .at) p (l .end) (bytes "endif") ⌝ }
+    ensures { λ r. ⌜ StillIs g (now (src .entry)) sh (l .at) (l .number) (l .taken) (l .closed) r ⌝ }
 {
     if no_operand(src, g, p) {
-        if e.text {
-            return Turn::Ends(sh, e.next, e.feeds);
+        if l.end.text {
+            return Turn::Ends(sh, l.end.next, l.end.feeds);
         }
         return Turn::Refused(Refusal::BadByte);
     }
-    Turn::Refused(malformed(e.text))
+    Turn::Refused(malformed(l.end.text))
 }
 
 // The line of a chain that opens with the word t, at the spot q.
@@ -261,28 +235,24 @@ fn word_turn(
     g: Signs,
     work: &mut [u32],
     sh: Sheet,
-    at: usize,
-    number: usize,
+    l: ChainLine,
     q: Spot,
     t: Tok,
-    e: LineEnd,
-    taken: bool,
-    closed: bool,
 ) -> Turn
-    requires { ⌜ WordTurn g (now src) (now work) sh at q t e ⌝ }
-    ensures { λ r. ⌜ TurnIs g (now (src .entry)) (now (work .entry)) sh at number taken closed (now (work .exit)) r ⌝ }
+    requires { ⌜ WordTurn g (now src) (now work) sh (l .at) q t (l .end) ⌝ }
+    ensures { λ r. ⌜ TurnIs g (now (src .entry)) (now (work .entry)) sh (l .at) (l .number) (l .taken) (l .closed) (now (work .exit)) r ⌝ }
 {
     let p = t.next;
     if word_is(src, g, q, b"elif") {
-        return elif_line(src, g, work, sh, at, number, p, e, taken, closed);
+        return elif_line(src, g, work, sh, l, p);
     }
     if word_is(src, g, q, b"else") {
-        return else_line(src, g, sh, at, number, p, e, taken, closed);
+        return else_line(src, g, sh, l, p);
     }
     if word_is(src, g, q, b"endif") {
-        return endif_line(src, g, sh, at, number, p, e, taken, closed);
+        return endif_line(src, g, sh, l, p);
     }
-    Turn::Refused(malformed(e.text))
+    Turn::Refused(malformed(l.end.text))
 }
 
 // The line at a place, which the open chain reads itself. Taken: a branch of the chain was used; closed: `else` has stood.
@@ -306,7 +276,14 @@ pub fn branch_line(
         Opening::Foul(e) => return Turn::Refused(malformed(e.text)),
         Opening::Name(_, _, e) => return Turn::Refused(malformed(e.text)),
         Opening::Word(q, t, e) => {
-            return word_turn(src, g, work, sh, at, number, q, t, e, taken, closed);
+            let l = ChainLine {
+                at: at,
+                number: number,
+                end: e,
+                taken: taken,
+                closed: closed,
+            };
+            return word_turn(src, g, work, sh, l, q, t);
         }
     }
 }

@@ -1,5 +1,5 @@
 // Lines in LC_COLLATE that open with order_start, order_end, END, collating-symbol or collating-element, as steps of the reader. p is the
-// spot right after that word, e the line's end. Only the two that declare write to the work area.
+// spot right after that word. Only the two that declare write to the work area.
 ghost use mathlib.Core.Path.{_≡_};
 ghost use mathlib.Core.Bool.{_||_};
 ghost use Prim.Native.Nat.{_≤_};
@@ -23,11 +23,11 @@ use locale_opening::refusal_with;
 use locale_sheet::AFTER_ORDER;
 use locale_sheet::BEFORE_ORDER;
 use locale_sheet::IN_ORDER;
+use locale_sheet::Line;
 use locale_sheet::Sheet;
 use locale_sheet::Step;
 use locale_symbols::Symbol;
 use locale_symbols::symbol_line;
-use text_lines::LineEnd;
 use text_lines::Signs;
 use text_lines::Spot;
 use text_operands::One;
@@ -36,18 +36,18 @@ use text_operands::single_word;
 use text_tokens::word_is;
 
 // order_start, before the order: its operands are the rules of the levels, read again from the spot after the word.
-pub fn order_start_line(src: &[u8], g: Signs, sh: Sheet, at: usize, p: Spot, e: LineEnd) -> Step
-    requires { ⌜ Opened g (now src) at p e "order_start" ⌝ }
-    ensures { λ r. ⌜ Still g (now (src .entry)) sh at r ⌝ }
+pub fn order_start_line(src: &[u8], g: Signs, sh: Sheet, l: Line, p: Spot) -> Step
+    requires { ⌜ Opened g (now src) (l .at) p (l .end) "order_start" ⌝ }
+    ensures { λ r. ⌜ Still g (now (src .entry)) sh (l .at) r ⌝ }
 {
     let order = sh.order;
     let block = sh.block;
     if sh.phase == BEFORE_ORDER { // once
-        let l = levels_of(src, g, p);
-        match l {
-            Levels::Refused(r) => return Step::Refused(refusal_with(e.text, r)),
+        let found = levels_of(src, g, p);
+        match found {
+            Levels::Refused(r) => return Step::Refused(refusal_with(l.end.text, r)),
             Levels::Some(n) => {
-                if e.text {
+                if l.end.text {
                     let next = Sheet {
                         phase: IN_ORDER,
                         toggles: sh.toggles,
@@ -56,25 +56,25 @@ pub fn order_start_line(src: &[u8], g: Signs, sh: Sheet, at: usize, p: Spot, e: 
                         order: order,
                         block: block,
                     };
-                    return Step::Next(next, e.next, e.feeds);
+                    return Step::Next(next, l.end.next, l.end.feeds);
                 }
                 return Step::Refused(Refusal::BadByte);
             }
         }
     }
-    Step::Refused(malformed(e.text))
+    Step::Refused(malformed(l.end.text))
 }
 
 // order_end, in the order and with no operand.
-pub fn order_end_line(src: &[u8], g: Signs, sh: Sheet, at: usize, p: Spot, e: LineEnd) -> Step
-    requires { ⌜ Opened g (now src) at p e "order_end" ⌝ }
-    ensures { λ r. ⌜ Still g (now (src .entry)) sh at r ⌝ }
+pub fn order_end_line(src: &[u8], g: Signs, sh: Sheet, l: Line, p: Spot) -> Step
+    requires { ⌜ Opened g (now src) (l .at) p (l .end) "order_end" ⌝ }
+    ensures { λ r. ⌜ Still g (now (src .entry)) sh (l .at) r ⌝ }
 {
     let order = sh.order;
     let block = sh.block;
     if sh.phase == IN_ORDER {
         if no_operand(src, g, p) {
-            if e.text {
+            if l.end.text {
                 let next = Sheet {
                     phase: AFTER_ORDER,
                     toggles: sh.toggles,
@@ -83,13 +83,13 @@ pub fn order_end_line(src: &[u8], g: Signs, sh: Sheet, at: usize, p: Spot, e: Li
                     order: order,
                     block: block,
                 };
-                return Step::Next(next, e.next, e.feeds);
+                return Step::Next(next, l.end.next, l.end.feeds);
             }
             return Step::Refused(Refusal::BadByte);
         }
-        return Step::Refused(malformed(e.text)); // an operand
+        return Step::Refused(malformed(l.end.text)); // an operand
     }
-    Step::Refused(malformed(e.text))
+    Step::Refused(malformed(l.end.text))
 }
 
 // Whether a line's operands are the word LC_COLLATE, from the spot after its first token on.
@@ -104,32 +104,24 @@ fn collate_alone(src: &[u8], g: Signs, p: Spot) -> bool
     }
 }
 
-// END LC_COLLATE, after the order, outside every block and every chain; depth: how many are open.
-pub fn end_line(
-    src: &[u8],
-    g: Signs,
-    sh: Sheet,
-    at: usize,
-    depth: usize,
-    p: Spot,
-    e: LineEnd,
-) -> Step
-    requires { ⌜ Opened g (now src) at p e "END" ⌝ }
-    ensures { λ r. ⌜ StillAt g (now (src .entry)) sh at depth r ⌝ }
+// END LC_COLLATE, after the order, outside every block and every chain.
+pub fn end_line(src: &[u8], g: Signs, sh: Sheet, l: Line, p: Spot) -> Step
+    requires { ⌜ Opened g (now src) (l .at) p (l .end) "END" ⌝ }
+    ensures { λ r. ⌜ StillAt g (now (src .entry)) sh (l .at) (l .depth) r ⌝ }
 {
     if sh.phase == AFTER_ORDER {
-        if depth == 0 {
+        if l.depth == 0 {
             if collate_alone(src, g, p) {
-                if e.text {
-                    return Step::Closes(e.next, e.feeds);
+                if l.end.text {
+                    return Step::Closes(l.end.next, l.end.feeds);
                 }
                 return Step::Refused(Refusal::BadByte);
             }
-            return Step::Refused(malformed(e.text));
+            return Step::Refused(malformed(l.end.text));
         }
-        return Step::Refused(malformed(e.text)); // in a chain
+        return Step::Refused(malformed(l.end.text)); // in a chain
     }
-    Step::Refused(malformed(e.text))
+    Step::Refused(malformed(l.end.text))
 }
 
 // Whether a declaration may stand in this phase: before order_start, or after the order and outside every block.
@@ -146,55 +138,39 @@ fn may_declare(phase: u8) -> bool
 }
 
 // collating-symbol, where a declaration may stand: a collating symbol is declared.
-pub fn symbol_step(
-    src: &[u8],
-    g: Signs,
-    work: &mut [u32],
-    sh: Sheet,
-    at: usize,
-    p: Spot,
-    e: LineEnd,
-) -> Step
-    requires { ⌜ Opened g (now src) at p e "collating-symbol" ⌝ }
+pub fn symbol_step(src: &[u8], g: Signs, work: &mut [u32], sh: Sheet, l: Line, p: Spot) -> Step
+    requires { ⌜ Opened g (now src) (l .at) p (l .end) "collating-symbol" ⌝ }
     requires { ⌜ Sound (keyAt g (now src)) (length (now src)) (now work) ⌝ }
-    ensures { λ r. ⌜ Writes g (now (src .entry)) (now (work .entry)) sh at (now (work .exit)) r ⌝ }
+    ensures { λ r. ⌜ Writes g (now (src .entry)) (now (work .entry)) sh (l .at) (now (work .exit)) r ⌝ }
 {
     if may_declare(sh.phase) { // outside the order and every block
-        if e.text {
+        if l.end.text {
             let s = symbol_line(src, g, work, p);
             match s {
-                Symbol::Declared(_) => return Step::Next(sh, e.next, e.feeds),
+                Symbol::Declared(_) => return Step::Next(sh, l.end.next, l.end.feeds),
                 Symbol::Refused(r) => return Step::Refused(refusal_of(r)),
             }
         }
         return Step::Refused(Refusal::BadByte);
     }
-    Step::Refused(malformed(e.text))
+    Step::Refused(malformed(l.end.text))
 }
 
 // collating-element, where a declaration may stand: a collating element is declared.
-pub fn element_step(
-    src: &[u8],
-    g: Signs,
-    work: &mut [u32],
-    sh: Sheet,
-    at: usize,
-    p: Spot,
-    e: LineEnd,
-) -> Step
-    requires { ⌜ Opened g (now src) at p e "collating-element" ⌝ }
+pub fn element_step(src: &[u8], g: Signs, work: &mut [u32], sh: Sheet, l: Line, p: Spot) -> Step
+    requires { ⌜ Opened g (now src) (l .at) p (l .end) "collating-element" ⌝ }
     requires { ⌜ Sound (keyAt g (now src)) (length (now src)) (now work) ⌝ }
-    ensures { λ r. ⌜ Writes g (now (src .entry)) (now (work .entry)) sh at (now (work .exit)) r ⌝ }
+    ensures { λ r. ⌜ Writes g (now (src .entry)) (now (work .entry)) sh (l .at) (now (work .exit)) r ⌝ }
 {
     if may_declare(sh.phase) {
-        if e.text {
+        if l.end.text {
             let s = element_line(src, g, work, p);
             match s {
-                Element::Declared(_, _) => return Step::Next(sh, e.next, e.feeds),
+                Element::Declared(_, _) => return Step::Next(sh, l.end.next, l.end.feeds),
                 Element::Refused(r) => return Step::Refused(refusal_of(r)),
             }
         }
         return Step::Refused(Refusal::BadByte);
     }
-    Step::Refused(malformed(e.text))
+    Step::Refused(malformed(l.end.text))
 }

@@ -86,11 +86,12 @@ module _ {g : Signs} {src w : List ℕ} {sh : Sheet} {at number depth : ℕ} (v 
   step-word o q t e h f = record { line = v; word = subst (begun.OpeningIs g src at) f h }
 
   -- what the order line of a name is given
-  pub step-name : (o : Opening) (q : Spot) (t : Tok) (e : LineEnd) → begun.OpeningIs g src at o → o ≡ opens.Name q t e → NameLine g src at q t e
+  pub step-name : (o : Opening) (q : Spot) (t : Tok) (e : LineEnd) → begun.OpeningIs g src at o → o ≡ opens.Name q t e → NameLine g src at t e
   step-name o q t e h f =
       let n : begun.NameLine g src at q t e = subst (begun.OpeningIs g src at) f h in
       let x = n .first in
       record {
+        start = q;
         whole = n .outcome;
         token = x .token;
         name = n .kind;

@@ -1,5 +1,5 @@
 // The lines reorder-after and reorder-end in LC_COLLATE, as steps of the reader: they begin and end a block of order lines that move. p is the spot
-// right after that word, e the line's end. The work area stays as it is.
+// right after that word. The work area stays as it is.
 ghost use mathlib.Core.Path.{_≡_};
 ghost use mathlib.Core.Bool.{true, _||_};
 ghost use Prim.Native.Nat.{_≤_};
@@ -18,11 +18,11 @@ use locale_opening::refusal_with;
 use locale_sheet::AFTER_ORDER;
 use locale_sheet::Block;
 use locale_sheet::IN_BLOCK;
+use locale_sheet::Line;
 use locale_sheet::Sheet;
 use locale_sheet::Step;
 use locale_symbols::Head;
 use locale_symbols::name_first;
-use text_lines::LineEnd;
 use text_lines::Signs;
 use text_lines::Spot;
 use text_operands::no_operand;
@@ -107,30 +107,22 @@ fn may_open(phase: u8) -> bool
 }
 
 // reorder-after, after the order: the lines of the block come to stand after the one that it names.
-pub fn reorder_after_line(
-    src: &[u8],
-    g: Signs,
-    work: &[u32],
-    sh: Sheet,
-    at: usize,
-    p: Spot,
-    e: LineEnd,
-) -> Step
-    requires { ⌜ Opened g (now src) at p e "reorder-after" ⌝ }
+pub fn reorder_after_line(src: &[u8], g: Signs, work: &[u32], sh: Sheet, l: Line, p: Spot) -> Step
+    requires { ⌜ Opened g (now src) (l .at) p (l .end) "reorder-after" ⌝ }
     requires { ⌜ Holding g (now src) (now work) ⌝ }
-    ensures { λ r. ⌜ Writes g (now (src .entry)) (now (work .entry)) sh at (now (work .entry)) r ⌝ }
+    ensures { λ r. ⌜ Writes g (now (src .entry)) (now (work .entry)) sh (l .at) (now (work .entry)) r ⌝ }
 {
     let order = sh.order;
     if may_open(sh.phase) {
         let n = named_line(src, g, work, p);
         match n {
-            Named::Refused(r) => return Step::Refused(refusal_with(e.text, r)),
+            Named::Refused(r) => return Step::Refused(refusal_with(l.end.text, r)),
             Named::Stands(m) => {
-                if e.text {
+                if l.end.text {
                     let block = Block {
                         named: m,
                         last: m,
-                        from: e.next,
+                        from: l.end.next,
                     };
                     let next = Sheet {
                         phase: IN_BLOCK,
@@ -140,25 +132,25 @@ pub fn reorder_after_line(
                         order: order,
                         block: block,
                     };
-                    return Step::Next(next, e.next, e.feeds);
+                    return Step::Next(next, l.end.next, l.end.feeds);
                 }
                 return Step::Refused(Refusal::BadByte);
             }
         }
     }
-    Step::Refused(malformed(e.text))
+    Step::Refused(malformed(l.end.text))
 }
 
 // reorder-end, in a block and with no operand.
-pub fn reorder_end_line(src: &[u8], g: Signs, sh: Sheet, at: usize, p: Spot, e: LineEnd) -> Step
-    requires { ⌜ Opened g (now src) at p e "reorder-end" ⌝ }
-    ensures { λ r. ⌜ Still g (now (src .entry)) sh at r ⌝ }
+pub fn reorder_end_line(src: &[u8], g: Signs, sh: Sheet, l: Line, p: Spot) -> Step
+    requires { ⌜ Opened g (now src) (l .at) p (l .end) "reorder-end" ⌝ }
+    ensures { λ r. ⌜ Still g (now (src .entry)) sh (l .at) r ⌝ }
 {
     let order = sh.order;
     let block = sh.block;
     if sh.phase == IN_BLOCK {
         if no_operand(src, g, p) {
-            if e.text {
+            if l.end.text {
                 let next = Sheet {
                     phase: AFTER_ORDER,
                     toggles: sh.toggles,
@@ -167,11 +159,11 @@ pub fn reorder_end_line(src: &[u8], g: Signs, sh: Sheet, at: usize, p: Spot, e: 
                     order: order,
                     block: block,
                 };
-                return Step::Next(next, e.next, e.feeds);
+                return Step::Next(next, l.end.next, l.end.feeds);
             }
             return Step::Refused(Refusal::BadByte);
         }
-        return Step::Refused(malformed(e.text)); // an operand
+        return Step::Refused(malformed(l.end.text)); // an operand
     }
-    Step::Refused(malformed(e.text))
+    Step::Refused(malformed(l.end.text))
 }

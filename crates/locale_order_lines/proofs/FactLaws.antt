@@ -36,7 +36,7 @@ use Rattle.locale_sheet.proofs.MovedLaws.{known-length, taken-found}
 use Rattle.locale_sheet.specs.declared.Block.{Block}
 use Rattle.locale_sheet.specs.declared.Sheet.{Sheet}
 use Rattle.locale_order_lines.specs.declared.Facts.{Facts}
-use Rattle.locale_order_lines.specs.Facts.{Rowed, isBare, isOwn, isAgain, FactsOf, undefinedFacts, SomeKnown}
+use Rattle.locale_order_lines.specs.Facts.{Rowed, isBare, isOwn, isAgain, FactsOf, nameFacts, undefinedFacts, SomeKnown}
 
 -- ## Rows
 
@@ -132,39 +132,46 @@ module _ (g : Signs) (src w : List ℕ) (p : Spot) (f : Found) (i : isInside (p 
       → first (item (subjectLeft g src p)) (k .ds) ≡ f
   mark-is o rs n cs ls k = ap (λ (x : Key). first x (k .ds)) (sym (keyAt-inside g src p i)) ∙ sym (d .is n (k .ds) (k .holds))
 
-  module _ {ordered stood : Bool} (l : ordered ≡ isOrdered w f) where
-    facts-with : (symbol : Bool)
-        → ((o : Order) (rs : List Rule) (n : ℕ) (cs : List Declaration) (ls : List OrderLine) → Known g src w o rs n cs ls → isSymbol cs (subjectLeft g src p) ≡ symbol)
-        → ((o : Order) (rs : List Rule) (n : ℕ) (cs : List Declaration) (ls : List OrderLine) → Known g src w o rs n cs ls → stands cs (subjectLeft g src p) ≡ stood)
-        → FactsOf g src w (subjectLeft g src p) (record { symbol = symbol; ordered = ordered; stands = stood })
-    facts-with symbol y t = record {
-      are = λ o rs n cs ls k. record {
-        symbol = y o rs n cs ls k;
-        ordered = rank-none g src w o rs n cs ls k (subjectLeft g src p) f (mark-found (length src) (k .ds) (nameLeft g src p) ∙ mark-is o rs n cs ls k) ∙ ap not (sym l);
-        others = others-known g src w o rs n cs ls k (subjectLeft g src p) f (mark-found (length src) (k .ds) (nameLeft g src p) ∙ mark-is o rs n cs ls k)
-            ∙ ap (λ (b : Bool). if b then length ls - 1 else length ls) (sym l);
-        stands = t o rs n cs ls k;
-      };
-    }
+  facts-with : (symbol stood : Bool)
+      → ((o : Order) (rs : List Rule) (n : ℕ) (cs : List Declaration) (ls : List OrderLine) → Known g src w o rs n cs ls → isSymbol cs (subjectLeft g src p) ≡ symbol)
+      → ((o : Order) (rs : List Rule) (n : ℕ) (cs : List Declaration) (ls : List OrderLine) → Known g src w o rs n cs ls → stands cs (subjectLeft g src p) ≡ stood)
+      → FactsOf g src w (subjectLeft g src p) (record { symbol = symbol; ordered = isOrdered w f; stands = stood })
+  facts-with symbol stood y t = record {
+    are = λ o rs n cs ls k. record {
+      symbol = y o rs n cs ls k;
+      ordered = rank-none g src w o rs n cs ls k (subjectLeft g src p) f (mark-found (length src) (k .ds) (nameLeft g src p) ∙ mark-is o rs n cs ls k);
+      others = others-known g src w o rs n cs ls k (subjectLeft g src p) f (mark-found (length src) (k .ds) (nameLeft g src p) ∙ mark-is o rs n cs ls k);
+      stands = t o rs n cs ls k;
+    };
+  }
 
-    pub facts-char : {c : Code} {x : CodePoint} → CodeIs (nameLeft g src p) c → c ≡ Char x → stood ≡ isCharacter (x .0)
-        → FactsOf g src w (subjectLeft g src p) (record { symbol = false; ordered = ordered; stands = stood })
-    unfolding isSymbol stands subjectOf
-    facts-char {c} {x} v e t =
-        let z : CharIs (nameLeft g src p) (x .0) = subst (CodeIs (nameLeft g src p)) e v in
-        facts-with false (λ o rs n cs ls k. rw (z .shaped)) (λ o rs n cs ls k. rw (z .shaped) (sym (t ∙ ap isCharacter (z .code))))
+  facts-char : (x : CodePoint) → CharIs (nameLeft g src p) (x .0) → FactsOf g src w (subjectLeft g src p) (nameFacts w f (Char x))
+  unfolding isSymbol stands subjectOf
+  facts-char x z = facts-with false (isCharacter (x .0)) (λ o rs n cs ls k. rw (z .shaped)) (λ o rs n cs ls k. rw (z .shaped) (sym (ap isCharacter (z .code))))
 
-    pub facts-other : {c : Code} {symbol : Bool} → CodeIs (nameLeft g src p) c → c ≡ Other → symbol ≡ isBare w f → stood ≡ isFound f
-        → FactsOf g src w (subjectLeft g src p) (record { symbol = symbol; ordered = ordered; stands = stood })
-    unfolding stands knownIn
-    facts-other {c} {symbol} v e b t =
-        let z : charShaped (nameLeft g src p) ≡ false = subst (CodeIs (nameLeft g src p)) e v in
-        let y : subjectLeft g src p ≡ named (nameLeft g src p) = other-named (nameLeft g src p) z in
-        let found : (o : Order) (rs : List Rule) (n : ℕ) (cs : List Declaration) (ls : List OrderLine) (k : Known g src w o rs n cs ls) → first (item (named (nameLeft g src p))) (k .ds) ≡ f =
-        (λ o rs n cs ls k. ap (λ (x : Subject). first (item x) (k .ds)) (sym y) ∙ mark-is o rs n cs ls k) in
-        facts-with symbol
-        (λ o rs n cs ls k. ap (isSymbol cs) y ∙ symbol-known g src w o rs n cs ls k (nameLeft g src p) f (found o rs n cs ls k) ∙ sym b)
-        (λ o rs n cs ls k. ap (stands cs) y ∙ sym (known-declared w (nameLeft g src p) (k .ds) cs (k .says)) ∙ ap isFound (found o rs n cs ls k) ∙ sym t)
+  facts-other : charShaped (nameLeft g src p) ≡ false → FactsOf g src w (subjectLeft g src p) (nameFacts w f Other)
+  unfolding stands knownIn
+  facts-other z =
+      let y : subjectLeft g src p ≡ named (nameLeft g src p) = other-named (nameLeft g src p) z in
+      let found : (o : Order) (rs : List Rule) (n : ℕ) (cs : List Declaration) (ls : List OrderLine) (k : Known g src w o rs n cs ls) → first (item (named (nameLeft g src p))) (k .ds) ≡ f =
+      (λ o rs n cs ls k. ap (λ (x : Subject). first (item x) (k .ds)) (sym y) ∙ mark-is o rs n cs ls k) in
+      facts-with (isBare w f) (isFound f)
+      (λ o rs n cs ls k. ap (isSymbol cs) y ∙ symbol-known g src w o rs n cs ls k (nameLeft g src p) f (found o rs n cs ls k))
+      (λ o rs n cs ls k. ap (stands cs) y ∙ sym (known-declared w (nameLeft g src p) (k .ds) cs (k .says)) ∙ ap isFound (found o rs n cs ls k))
+
+  -- what is told of a name's find and code is told of its subject
+  pub facts-name : (c : Code) → CodeIs (nameLeft g src p) c → FactsOf g src w (subjectLeft g src p) (nameFacts w f c)
+  facts-name (Char x) z = facts-char x z
+  facts-name Other z = facts-other z
+
+module _ (w : List ℕ) (f : Found) {c : Code} {ordered stood : Bool} where
+  pub told-char : {x : CodePoint} → c ≡ Char x → ordered ≡ isOrdered w f → stood ≡ isCharacter (x .0)
+      → record { symbol = false; ordered = ordered; stands = stood } ≡ nameFacts w f c
+  told-char e l t = rw l (rw t (sym (ap (nameFacts w f) e)))
+
+  pub told-other : {symbol : Bool} → c ≡ Other → ordered ≡ isOrdered w f → symbol ≡ isBare w f → stood ≡ isFound f
+      → record { symbol = symbol; ordered = ordered; stands = stood } ≡ nameFacts w f c
+  told-other e l b t = rw l (rw b (rw t (sym (ap (nameFacts w f) e))))
 
 -- ## The facts of UNDEFINED
 

@@ -44,10 +44,10 @@ use Rattle.locale_sheet.specs.Names.{subjectIn, operandsFrom, NameLine}
 use Rattle.locale_sheet.proofs.SheetLaws.{read-whole}
 use Rattle.locale_sheet.proofs.BlockLaws.{mark-older, place-same, block-same}
 use Rattle.locale_order_lines.specs.declared.Facts.{Facts}
-use Rattle.locale_order_lines.specs.Facts.{isAgain, FactsOf, AgainIs, OwnRefused, RowIs, Ready, Lists}
+use Rattle.locale_order_lines.specs.Facts.{isAgain, FactsOf, nameFacts, AgainIs, OwnRefused, RowIs, Ready, Lists}
 use Rattle.locale_order_lines.specs.Lines.{Reads}
 use Rattle.locale_sheet.proofs.SheetLaws.{spot-behind}
-use Rattle.locale_order_lines.proofs.FactLaws.{mark-found, mark-is}
+use Rattle.locale_order_lines.proofs.FactLaws.{mark-found, mark-is, facts-name}
 use Rattle.locale_order_lines.proofs.AgainLaws.{again-is}
 use Rattle.locale_order_lines.proofs.RangeLaws.{Ranged, ranged-low, ranged-high, ranged-lower, ranged-unless, ranged-tokens, ranged-order, lower-left-zero, lower-right-zero, Taken}
 use Rattle.locale_order_lines.proofs.StepLaws.{phase-of, line-taken, line-listed, Placed, placed-ready}
@@ -83,11 +83,11 @@ walk-on {g} {src} {p} {q} w a b = go (w .passed) (w .run)
 
 -- ## The line
 
-module _ (g : Signs) (src : List ℕ) (at : ℕ) (q : Spot) (t : Tok) (e : LineEnd) (l : NameLine g src at q t e) where
+module _ (g : Signs) (src : List ℕ) (at : ℕ) (t : Tok) (e : LineEnd) (l : NameLine g src at t e) where
   pub name-to : t .inside .at ≤ length src
   name-to = l .token .inside
 
-  pub name-inside : isInside (t .inside .mode) ≡ true
+  name-inside : isInside (t .inside .mode) ≡ true
   name-inside = rw (l .token .name-mode (l .name))
 
   pub name-next : t .next .at ≤ length src
@@ -105,8 +105,11 @@ module _ (g : Signs) (src : List ℕ) (at : ℕ) (q : Spot) (t : Tok) (e : LineE
   pub name-some : 1 ≤ t .next .at
   name-some = let a = l .token .on in omega (arith, a)
 
-  module _ (w : List ℕ) (sh : Sheet) (number : ℕ) (k : Facts) (f : FactsOf g src w (subjectLeft g src (t .inside)) k)
-      (i : Found) (d : Finds (keyAt g src) (length src) w (keyAt g src (2 * t .inside .at)) i) (again : Bool) (u : again ≡ isAgain w sh i) (r : ℕ) (v : OwnRefused g src w sh (t .next) k again r) where
+  module _ (w : List ℕ) (sh : Sheet) (number : ℕ) (i : Found) (d : Finds (keyAt g src) (length src) w (keyAt g src (2 * t .inside .at)) i)
+      (c : Code) (h : CodeIs (nameLeft g src (t .inside)) c) (k : Facts) (f : k ≡ nameFacts w i c) (again : Bool) (u : again ≡ isAgain w sh i) (r : ℕ) (v : OwnRefused g src w sh (t .next) k again r) where
+    facts : FactsOf g src w (subjectLeft g src (t .inside)) k
+    facts = subst (FactsOf g src w (subjectLeft g src (t .inside))) (sym f) (facts-name g src w (t .inside) i name-inside d c h)
+
     second : AgainIs g src w sh (subjectIn g src t) again
     second =
         again-is g src w sh (subjectIn g src t) i again u
@@ -117,7 +120,7 @@ module _ (g : Signs) (src : List ℕ) (at : ℕ) (q : Spot) (t : Tok) (e : LineE
       refusal-is : (cs : List Chain) (s : State) → Open g src w sh cs at s
           → lower (2 unless e .text) (lower (t .refusal) (lower (tokensRefusal (operandsFrom g src (t .next))) (orderLine s number (subjectIn g src t) (operandsFrom g src (t .next)) .refusal))) ≡ y
       refusal-is cs s o =
-          sym (b ∙ ap (lower (2 unless e .text)) (a ∙ ap (lower (t .refusal)) (v .is (subjectIn g src t) f second cs at s number o)))
+          sym (b ∙ ap (lower (2 unless e .text)) (a ∙ ap (lower (t .refusal)) (v .is (subjectIn g src t) facts second cs at s number o)))
 
       ranged : {depth : ℕ} → SomeOpen g src w sh at depth → Ranged y
       ranged so =
@@ -126,7 +129,7 @@ module _ (g : Signs) (src : List ℕ) (at : ℕ) (q : Spot) (t : Tok) (e : LineE
           let d = tokensRefusal (operandsFrom g src (t .next)) in
           subst Ranged (refusal-is (so .chains) s (so .held))
           (ranged-lower (2 unless e .text) (lower (t .refusal) (lower d c)) (ranged-unless 2 (e .text) (omega arith) (omega arith))
-          (ranged-lower (t .refusal) (lower d c) (subst Ranged (l .token .refusal) (ranged-tokens (tokenThere g src q ∷ [])))
+          (ranged-lower (t .refusal) (lower d c) (subst Ranged (l .token .refusal) (ranged-tokens (tokenThere g src (l .start) ∷ [])))
           (ranged-lower d c (ranged-tokens (operandsFrom g src (t .next))) (ranged-order s number (subjectIn g src t) (operandsFrom g src (t .next))))))
 
       pub name-reads : (depth : ℕ) → SomeOpen g src w sh at depth → Reads g src w sh at number (subjectIn g src t) (t .next) y

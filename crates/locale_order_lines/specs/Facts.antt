@@ -6,6 +6,7 @@ use Prim.Native.Nat.{ℕ, _+_, _-_, _*_, _/_, _≤_, _<_}
 use lib.ListN.{length}
 use lib.Dec.{eqb, leb}
 use Rattle.rules.specs.Text.{if_then_else_, oneOf, lower}
+use Rattle.rules.specs.Names.{isCharacter}
 use Rattle.rules.specs.Tokens.{operands, tokensRefusal}
 use Rattle.rules.specs.Meaning.{Rule}
 use Rattle.rules.specs.State.{inBlock, Declaration, Subject, OrderLine, Chain, State}
@@ -14,10 +15,12 @@ use Rattle.text_lines.specs.declared.Signs.{Signs}
 use Rattle.text_lines.specs.declared.Spot.{Spot}
 use Rattle.text_lines.specs.declared.LineEnd.{LineEnd}
 use Rattle.text_tokens.specs.Left.{tokensLeft}
+use Rattle.text_names.specs.declared.Code.{Code}
+use Rattle.text_names.specs.declared.Code.the-variants.{Char, Other}
 use Rattle.work_rows.specs.Cells.{cell}
 use Rattle.work_store.specs.declared.Found.{Found}
 use Rattle.work_store.specs.declared.Found.the-variants.{At, Nothing}
-use Rattle.work_store.specs.Store.{Declares}
+use Rattle.work_store.specs.Store.{isFound, Declares}
 use Rattle.work_subjects.specs.Keys.{keyAt}
 use Rattle.work_order.specs.declared.Order.{Order}
 use Rattle.work_order.specs.Listed.{charsNumber, placeNumber, Row, Backed, Lines, SomeLines, longer, withLine, shorter, unlinked, longerAfter, withLineAfter}
@@ -63,6 +66,11 @@ pub record FactsIn (cs : List Declaration) (ls : List OrderLine) (x : Subject) (
 -- They are, whatever the area is known to hold.
 pub record FactsOf (g : Signs) (src w : List ℕ) (x : Subject) (k : Facts) : Type 0 where
   pub are : (o : Order) (rs : List Rule) (n : ℕ) (cs : List Declaration) (ls : List OrderLine) → Known g src w o rs n cs ls → FactsIn cs ls x k
+
+-- those of a name for which f is found and whose code is c: with a code it is no symbol, and stands if that is a character's
+abbrev pub nameFacts : List ℕ → Found → Code → Facts
+nameFacts w f (Char x) = record { symbol = false; ordered = isOrdered w f; stands = isCharacter (x .0) }
+nameFacts w f Other = record { symbol = isBare w f; ordered = isOrdered w f; stands = isFound f }
 
 -- those of UNDEFINED, whose mark is m: it stands, and it is no symbol
 abbrev pub undefinedFacts : List ℕ → ℕ → Facts

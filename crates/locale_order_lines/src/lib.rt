@@ -9,15 +9,15 @@ ghost use Rattle.rules.specs.Text.{if_then_else_, _unless_, bytes, lower, lowes
 ghost use Rattle.rules.specs.Lines.{inPlain};
 ghost use Rattle.rules.specs.Tokens.{operands};
 ghost use Rattle.rules.specs.State.{inOrder, inBlock, undefined};
-ghost use Rattle.text_tokens.specs.Left.{tokensLeft, isInside};
+ghost use Rattle.text_tokens.specs.Left.{tokensLeft};
 ghost use Rattle.text_names.specs.Named.{nameLeft, CodeIs};
-ghost use Rattle.work_subjects.specs.Keys.{keyAt, subjectLeft};
+ghost use Rattle.work_subjects.specs.Keys.{keyAt};
 ghost use Rattle.work_store.specs.declared.Found.the-variants.{At};
 ghost use Rattle.work_store.specs.Store.{isFound, undefinedMark, Finds, Roomy};
 ghost use Rattle.locale_sheet.proofs.RankLaws.{isOrdered};
 ghost use Rattle.locale_sheet.specs.Names.{subjectIn, NameLine};
 ghost use Rattle.locale_sheet.specs.Sheets.{SomeOpen, StepIs};
-ghost use Rattle.locale_order_lines.specs.Facts.{Rowed, isBare, isOwn, isAgain, FactsOf, undefinedFacts, SomeKnown, OwnRefused, RowIs, withLast, Ready, LastIs, NewIs, MovedIs, Lists};
+ghost use Rattle.locale_order_lines.specs.Facts.{Rowed, isBare, isOwn, isAgain, nameFacts, undefinedFacts, SomeKnown, OwnRefused, RowIs, withLast, Ready, LastIs, NewIs, MovedIs, Lists};
 ghost use Rattle.locale_sheet.specs.Words.{WordLine};
 ghost use Rattle.locale_order_lines.specs.Lines.{Reads};
 use base_units::is_character;
@@ -25,6 +25,7 @@ use base_units::refusal_of;
 use locale_sheet::Block;
 use locale_sheet::IN_BLOCK;
 use locale_sheet::IN_ORDER;
+use locale_sheet::Line;
 use locale_sheet::Sheet;
 use locale_sheet::Step;
 use locale_standing::weights_refusal;
@@ -128,11 +129,10 @@ fn is_found(f: Found) -> bool
     }
 }
 
-// What is told of the name at a spot, where f is found for it and c is its code.
-fn name_facts(src: &[u8], g: Signs, work: &[u32], p: Spot, f: Found, c: Code) -> Facts
-    requires { ⌜ (isInside (p .mode) ≡ true) × CodeIs (nameLeft g (now src) p) c ⌝ }
-    requires { ⌜ SomeKnown g (now src) (now work) × Finds (keyAt g (now src)) (length (now src)) (now work) (keyAt g (now src) (2 * p .at)) f ⌝ }
-    ensures { λ r. ⌜ FactsOf g (now (src .entry)) (now (work .entry)) (subjectLeft g (now (src .entry)) p) r ⌝ }
+// What is told of a name for which f is found and whose code is c.
+fn name_facts(work: &[u32], f: Found, c: Code) -> Facts
+    requires { ⌜ Rowed (now work) f ⌝ }
+    ensures { λ r. ⌜ r ≡ nameFacts (now (work .entry)) f c ⌝ }
 {
     let ordered = is_listed(work, f);
     match c {
@@ -345,49 +345,34 @@ fn name_refusal(
     g: Signs,
     work: &[u32],
     sh: Sheet,
-    at: usize,
-    number: usize,
-    depth: usize,
-    q: Spot,
+    l: Line,
     t: Tok,
-    e: LineEnd,
     f: Found,
     c: Code,
 ) -> u8
-    requires { ⌜ SomeOpen g (now src) (now work) sh at depth × NameLine g (now src) at q t e ⌝ }
+    requires { ⌜ SomeOpen g (now src) (now work) sh (l .at) (l .depth) × NameLine g (now src) (l .at) t (l .end) ⌝ }
     requires { ⌜ Finds (keyAt g (now src)) (length (now src)) (now work) (keyAt g (now src) (2 * t .inside .at)) f × CodeIs (nameLeft g (now src) (t .inside)) c ⌝ }
-    ensures { λ r. ⌜ Reads g (now (src .entry)) (now (work .entry)) sh at number (subjectIn g (now (src .entry)) t) (t .next) r ⌝ }
+    ensures { λ r. ⌜ Reads g (now (src .entry)) (now (work .entry)) sh (l .at) (l .number) (subjectIn g (now (src .entry)) t) (t .next) r ⌝ }
 {
-    let k = name_facts(src, g, work, t.inside, f, c);
+    let k = name_facts(work, f, c);
     let again = is_again(work, sh, f);
     let o = own_refusal(src, g, work, sh, t.next, k, again);
-    let l = lower_of(t.refusal, o);
-    line_refusal(e.text, l)
+    let r = lower_of(t.refusal, o);
+    line_refusal(l.end.text, r)
 }
 
-// A line that opens with the name t: an order line of a character, an element or a symbol. q is where the name begins, e the line's end.
-pub fn name_line(
-    src: &[u8],
-    g: Signs,
-    work: &mut [u32],
-    sh: Sheet,
-    at: usize,
-    number: usize,
-    depth: usize,
-    q: Spot,
-    t: Tok,
-    e: LineEnd,
-) -> Step
-    requires { ⌜ SomeOpen g (now src) (now work) sh at depth × NameLine g (now src) at q t e × (number ≤ at + 1) ⌝ }
-    ensures { λ r. ⌜ StepIs g (now (src .entry)) (now (work .entry)) sh at number depth (now (work .exit)) r ⌝ }
+// A line that opens with the name t: an order line of a character, an element or a symbol.
+pub fn name_line(src: &[u8], g: Signs, work: &mut [u32], sh: Sheet, l: Line, t: Tok) -> Step
+    requires { ⌜ SomeOpen g (now src) (now work) sh (l .at) (l .depth) × NameLine g (now src) (l .at) t (l .end) × (l .number ≤ l .at + 1) ⌝ }
+    ensures { λ r. ⌜ StepIs g (now (src .entry)) (now (work .entry)) sh (l .at) (l .number) (l .depth) (now (work .exit)) r ⌝ }
 {
     let v = 2 * t.inside.at;
     let f = find(src, g, work, v);
     let c = name_char(src, g, t.inside);
-    let r = name_refusal(src, g, work, sh, at, number, depth, q, t, e, f, c);
+    let r = name_refusal(src, g, work, sh, l, t, f, c);
     if r == 0 {
         let m = row_for(src, g, work, v, f);
-        return list_line(work, sh, m, number, t.next.at, e);
+        return list_line(work, sh, m, l.number, t.next.at, l.end);
     }
     Step::Refused(refusal_of(r))
 }
@@ -411,41 +396,28 @@ fn undefined_refusal(
     g: Signs,
     work: &[u32],
     sh: Sheet,
-    at: usize,
-    number: usize,
-    depth: usize,
+    l: Line,
     p: Spot,
-    e: LineEnd,
     m: usize,
 ) -> u8
-    requires { ⌜ SomeOpen g (now src) (now work) sh at depth × WordLine g (now src) at p e (bytes "UNDEFINED") × (m ≡ undefinedMark (length (now src))) ⌝ }
-    ensures { λ r. ⌜ Reads g (now (src .entry)) (now (work .entry)) sh at number undefined p r ⌝ }
+    requires { ⌜ SomeOpen g (now src) (now work) sh (l .at) (l .depth) × WordLine g (now src) (l .at) p (l .end) (bytes "UNDEFINED") × (m ≡ undefinedMark (length (now src))) ⌝ }
+    ensures { λ r. ⌜ Reads g (now (src .entry)) (now (work .entry)) sh (l .at) (l .number) undefined p r ⌝ }
 {
     let k = undefined_facts(work, m);
     let again = is_again(work, sh, Found::At(m));
     let o = own_refusal(src, g, work, sh, p, k, again);
-    line_refusal(e.text, o)
+    line_refusal(l.end.text, o)
 }
 
-// A line that opens with the word UNDEFINED, right after which stands the spot p: its order line. e is the line's end.
-pub fn undefined_line(
-    src: &[u8],
-    g: Signs,
-    work: &mut [u32],
-    sh: Sheet,
-    at: usize,
-    number: usize,
-    depth: usize,
-    p: Spot,
-    e: LineEnd,
-) -> Step
-    requires { ⌜ SomeOpen g (now src) (now work) sh at depth × WordLine g (now src) at p e (bytes "UNDEFINED") × (number ≤ at + 1) ⌝ }
-    ensures { λ r. ⌜ StepIs g (now (src .entry)) (now (work .entry)) sh at number depth (now (work .exit)) r ⌝ }
+// A line that opens with the word UNDEFINED, right after which stands the spot p: its order line.
+pub fn undefined_line(src: &[u8], g: Signs, work: &mut [u32], sh: Sheet, l: Line, p: Spot) -> Step
+    requires { ⌜ SomeOpen g (now src) (now work) sh (l .at) (l .depth) × WordLine g (now src) (l .at) p (l .end) (bytes "UNDEFINED") × (l .number ≤ l .at + 1) ⌝ }
+    ensures { λ r. ⌜ StepIs g (now (src .entry)) (now (work .entry)) sh (l .at) (l .number) (l .depth) (now (work .exit)) r ⌝ }
 {
     let m = undefined_mark(src.len());
-    let r = undefined_refusal(src, g, work, sh, at, number, depth, p, e, m);
+    let r = undefined_refusal(src, g, work, sh, l, p, m);
     if r == 0 {
-        return list_line(work, sh, m, number, p.at, e);
+        return list_line(work, sh, m, l.number, p.at, l.end);
     }
     Step::Refused(refusal_of(r))
 }

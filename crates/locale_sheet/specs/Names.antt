@@ -26,18 +26,19 @@ subjectIn g src t = subjectOf (nameIn (marksLeft g src (t .inside)))
 abbrev pub operandsFrom : Signs → List ℕ → Spot → List Token
 operandsFrom g src p = operands (tokensLeft g src p)
 
--- The line at a place opens with the name t, which begins at the spot q; e is its end.
-pub record NameLine (g : Signs) (src : List ℕ) (at : ℕ) (q : Spot) (t : Tok) (e : LineEnd) : Type 0 where
+-- The line at a place opens with the name t; e is its end. The name begins at some spot of the line.
+pub record NameLine (g : Signs) (src : List ℕ) (at : ℕ) (t : Tok) (e : LineEnd) : Type 0 where
+  pub start : Spot
   pub whole : (s : State) (number : ℕ) → inCollate s ≡ true
       → wholeLine s number (marksLeft g src (lineStart at))
       ≡ gives
       (lower (2 unless e .text) (lower (lower (t .refusal) (tokensRefusal (operandsFrom g src (t .next)))) (orderLine s number (subjectIn g src t) (operandsFrom g src (t .next)) .refusal)))
       (orderLine s number (subjectIn g src t) (operandsFrom g src (t .next)) .state)
-  pub token : TokenIs g src q t
+  pub token : TokenIs g src start t
   pub name : t .kind ≡ tokens.name
   pub line : LineIs g src (lineStart at) e
   pub inside : at < length src
-  pub plain : q .mode ≡ inPlain
-  pub from : at ≤ q .at
+  pub plain : start .mode ≡ inPlain
+  pub from : at ≤ start .at
   pub reach : t .next .at ≤ e .next
   pub far : t .next .at < length src → t .next .at < e .next

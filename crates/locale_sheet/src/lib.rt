@@ -1,5 +1,6 @@
 // What is known between two lines in LC_COLLATE, in the work area and beside it, and what a line may do to it: the contract of every line function.
 use base_units::Refusal;
+use text_lines::LineEnd;
 use work_order::Order;
 
 // LC_COLLATE before its order.
@@ -31,6 +32,14 @@ pub struct Sheet {
     pub levels: usize,
     pub order: Order,
     pub block: Block,
+}
+
+// A line that is read whole: where it begins, its number, how many chains are open before it, and its end.
+pub struct Line {
+    pub at: usize,
+    pub number: usize,
+    pub depth: usize,
+    pub end: LineEnd,
 }
 
 // What a line in a used branch does.

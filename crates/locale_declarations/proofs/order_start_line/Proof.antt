@@ -7,8 +7,8 @@ use Rattle.locale_declarations.proofs.order_start_line.Tie as tie
 levels-of-requires : tie.Need-levels-of-requires
 levels-of-requires c κs = search needs
 
-enum-known-l : tie.Need-enum-known-l
-enum-known-l c = search needs
+enum-known-found : tie.Need-enum-known-found
+enum-known-found c = search needs
 
 refusal-with-requires : tie.Need-refusal-with-requires
 refusal-with-requires c κs = (search start-low, search start-high)
@@ -16,8 +16,8 @@ refusal-with-requires c κs = (search start-low, search start-high)
 returns : tie.Need-returns
 returns c = search start-refused
 
-enum-known-l-2 : tie.Need-enum-known-l-2
-enum-known-l-2 c = search needs
+enum-known-found-2 : tie.Need-enum-known-found-2
+enum-known-found-2 c = search needs
 
 returns-2 : tie.Need-returns-2
 returns-2 c = search start-done
@@ -36,10 +36,10 @@ order-start-line-spec =
     tie.close
     (tie.spec
     levels-of-requires
-    enum-known-l
+    enum-known-found
     refusal-with-requires
     returns
-    enum-known-l-2
+    enum-known-found-2
     returns-2
     returns-3
     malformed-requires

@@ -27,7 +27,7 @@ list-line-requires c κs =
     let coded = read .before .before in
     let found = coded .before in
     let start = found .before .before .before .before .before in
-    search (name-ready _ _ _ _ _ _ (start .pre .1) _ _ _ _ (start .pre .0) _ (found .find .ensures) (coded .name-char .result) (coded .name-char .ensures) _ (read .name-refusal .ensures))
+    search (name-ready _ _ _ _ _ (start .pre .1) _ _ _ _ (start .pre .0) _ (found .find .ensures) (coded .name-char .result) (coded .name-char .ensures) _ (read .name-refusal .ensures))
 
 same-length : tie.Need-same-length
 same-length c = search needs
@@ -39,7 +39,7 @@ returns c =
     let coded = read .before .before in
     let found = coded .before in
     let start = found .before .before .before .before .before in
-    search (name-listed _ _ _ _ _ _ (start .pre .1) _ _ _ _ (start .pre .0) _ (found .find .ensures) (coded .name-char .result) (coded .name-char .ensures) _ (read .name-refusal .ensures))
+    search (name-listed _ _ _ _ _ (start .pre .1) _ _ _ _ (start .pre .0) _ (found .find .ensures) (coded .name-char .result) (coded .name-char .ensures) _ (read .name-refusal .ensures))
 
 refusal-of-requires : tie.Need-refusal-of-requires
 refusal-of-requires c κs = (search line-low, search line-high)

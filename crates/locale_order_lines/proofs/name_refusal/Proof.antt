@@ -1,12 +1,12 @@
 -- `locale_order_lines::name_refusal` meets its contract: it is that of the paper's order line.
 use Rattle.locale_order_lines.proofs.StepLaws.{some-known, open-rowed}
-use Rattle.locale_order_lines.proofs.NameLaws.{name-inside, name-next, name-plain, name-reads}
+use Rattle.locale_order_lines.proofs.NameLaws.{name-next, name-plain, name-reads}
 use borrow.Author.Needs.{needs}
 use Rattle.locale_order_lines.proofs.name_refusal.Statement.{statement}
 use Rattle.locale_order_lines.proofs.name_refusal.Tie as tie
 
 name-facts-requires : tie.Need-name-facts-requires
-name-facts-requires c κs = ((search name-inside, search needs), (search some-known, search needs))
+name-facts-requires c κs = search open-rowed
 
 is-again-requires : tie.Need-is-again-requires
 is-again-requires c κs = search open-rowed
