@@ -10,7 +10,7 @@ use Rattle.rules.proofs.TextLaws.{within-high}
 use Rattle.rules.proofs.SourceLaws.{EndsSound, linesFrom-sound, start-sound}
 use Rattle.text_lines.specs.declared.Signs.{Signs}
 use Rattle.work_order.specs.declared.Order.{Order}
-use Rattle.work_order.specs.Listed.{SomeLines, Ranks}
+use Rattle.work_order.specs.Links.{SomeLines, Ranks}
 use Rattle.locale_sheet.specs.Known.{Known}
 use Rattle.locale_sheet.specs.declared.Sheet.{Sheet}
 use Rattle.table_items.specs.declared.Sums.{Sums}

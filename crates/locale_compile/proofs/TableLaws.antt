@@ -17,7 +17,7 @@ use Rattle.rules.proofs.SizeLaws.{stored-size}
 use Rattle.rules.proofs.TableLaws.{stored-append}
 use Rattle.text_lines.specs.declared.Signs.{Signs}
 use Rattle.work_rows.specs.Cells.{cell}
-use Rattle.work_order.specs.Listed.{placeNumber}
+use Rattle.work_order.specs.Links.{placeNumber}
 use Rattle.table_weights.specs.Ranks.{rankIn}
 use Rattle.work_store.specs.Store.{undefinedMark}
 use Rattle.locale_sheet.specs.declared.Sheet.{Sheet}

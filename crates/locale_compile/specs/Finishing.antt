@@ -14,7 +14,7 @@ use Rattle.text_lines.specs.declared.Signs.{Signs}
 use Rattle.text_tokens.specs.Left.{tokensLeft}
 use Rattle.work_rows.specs.Cells.{cell}
 use Rattle.work_store.specs.Store.{undefinedMark}
-use Rattle.work_order.specs.Listed.{placeNumber}
+use Rattle.work_order.specs.Links.{placeNumber}
 use Rattle.locale_levels.specs.Levels.{startRefusal}
 use Rattle.locale_sheet.specs.Known.{behind}
 use Rattle.locale_sheet.specs.declared.Sheet.{Sheet}

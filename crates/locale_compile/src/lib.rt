@@ -5,7 +5,7 @@ ghost use lib.ListN.{length};
 ghost use lib.Dec.{eqb};
 ghost use Rattle.rules.specs.Calls.{compileCall};
 ghost use Rattle.work_rows.specs.Cells.{cell};
-ghost use Rattle.work_order.specs.Listed.{placeNumber};
+ghost use Rattle.work_order.specs.Links.{placeNumber};
 ghost use Rattle.work_store.specs.Store.{undefinedMark};
 ghost use Rattle.table_items.specs.Items.{WholeSums};
 ghost use Rattle.locale_source.specs.Whole.{Empty, WholeSource};

@@ -3,6 +3,6 @@ pub mod RefusalLaws
 pub mod OpenedLaws
 pub mod EndLaws
 pub mod StartLaws
-pub mod DeclareLaws
-pub mod CompoundLaws
+pub mod SymbolLaws
+pub mod ElementLaws
 pub mod DispatchLaws

@@ -22,7 +22,7 @@ use Rattle.locale_levels.specs.Levels.{startRefusal}
 use Rattle.work_subjects.specs.Keys.{chars}
 use Rattle.work_store.specs.Store.{Decl, knownIn}
 use Rattle.locale_symbols.specs.Symbols.{isNewIn, symbolRefusal}
-use Rattle.locale_elements.specs.Compounds.{elementRefusal}
+use Rattle.locale_elements.specs.Element.{elementRefusal}
 
 -- ## None, or 3 to 7
 

@@ -14,7 +14,7 @@ use Rattle.work_subjects.specs.Numbers.{kindOf}
 use Rattle.work_store.specs.Store.{fresh, aboveOf, Roomy, Declares}
 use Rattle.work_store.proofs.AreaLaws.{other, above-name, above-other, free-name, holds-told}
 use Rattle.work_store.proofs.ListLaws.{isPlace-fresh, isPlace-older, five-older, five-later, five-named}
-use Rattle.locale_elements.specs.Compounds.{DeclaresBoth}
+use Rattle.locale_elements.specs.Element.{DeclaresBoth}
 
 -- the area stays roomy
 pub both-roomy : {key : ℕ → Key} {len : ℕ} {w w₁ : List ℕ} {v : ℕ} → Roomy len w → Declares key len w v w₁ → Roomy len w₁

@@ -35,7 +35,7 @@ use Rattle.locale_elements.specs.declared.Tail.{Tail}
 use Rattle.locale_elements.specs.declared.Tail.the-variants as tail
 use Rattle.locale_elements.specs.declared.Element.{Element}
 use Rattle.locale_elements.specs.declared.Element.the-variants as element
-use Rattle.locale_elements.specs.Compounds.{elementFault, elementRefusal, fromFormed, FromQuotes, FromIs, FaultIs, ElementAt, ElementNot, ElementChecked}
+use Rattle.locale_elements.specs.Element.{elementFault, elementRefusal, fromFormed, FromQuotes, FromIs, FaultIs, ElementAt, ElementNot, ElementChecked}
 use Rattle.locale_elements.proofs.FaultLaws.{key-chars}
 
 -- ## The refusal

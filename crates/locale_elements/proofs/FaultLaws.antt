@@ -23,7 +23,7 @@ use Rattle.work_store.specs.declared.Found.the-variants.{At, Nothing}
 use Rattle.work_store.specs.Store.{Decl, isFound, knownIn, Holds, Finds}
 use Rattle.locale_symbols.specs.Symbols.{isNewIn, NewIs}
 use Rattle.locale_symbols.proofs.NewLaws.{known-is}
-use Rattle.locale_elements.specs.Compounds.{elementFault, FaultIs}
+use Rattle.locale_elements.specs.Element.{elementFault, FaultIs}
 
 -- ## By the four tests
 

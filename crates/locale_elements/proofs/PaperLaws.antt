@@ -16,7 +16,7 @@ use Rattle.work_store.specs.Store.{Decl}
 use Rattle.locale_symbols.specs.Symbols.{Alike}
 use Rattle.locale_symbols.proofs.LateLaws.{unfit-three}
 use Rattle.locale_symbols.proofs.PaperLaws.{new-paper}
-use Rattle.locale_elements.specs.Compounds.{elementRefusal}
+use Rattle.locale_elements.specs.Element.{elementRefusal}
 
 module _ (s : State) (os : List Token) where
   -- where a declaration may stand

@@ -32,7 +32,7 @@ use Rattle.locale_symbols.specs.Symbols.{Unfit}
 use Rattle.locale_symbols.proofs.HeadLaws.{walk-long, walk-on}
 use Rattle.locale_elements.specs.declared.Tail.{Tail}
 use Rattle.locale_elements.specs.declared.Tail.the-variants as tail
-use Rattle.locale_elements.specs.Compounds.{fromFormed, QuotesAlone, AloneIs, FromIs}
+use Rattle.locale_elements.specs.Element.{fromFormed, QuotesAlone, AloneIs, FromIs}
 use Rattle.locale_elements.proofs.ThinLaws.{thin, tokens-thin, thin-word}
 
 -- ## Blanks between

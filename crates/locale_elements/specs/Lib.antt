@@ -1,1 +1,1 @@
-pub mod Compounds
+pub mod Element

@@ -11,7 +11,7 @@ ghost use Rattle.text_tokens.specs.Left.{namesIn, isInside};
 ghost use Rattle.text_names.specs.Named.{nameLeft};
 ghost use Rattle.work_subjects.specs.Keys.{keyAt};
 ghost use Rattle.work_store.specs.Store.{Roomy, Sound};
-ghost use Rattle.locale_elements.specs.Compounds.{AloneIs, FromIs, FaultIs, ElementChecked, DeclaresBoth, ElementIs};
+ghost use Rattle.locale_elements.specs.Element.{AloneIs, FromIs, FaultIs, ElementChecked, DeclaresBoth, ElementIs};
 use base_units::is_character;
 use locale_symbols::Head;
 use locale_symbols::is_new;

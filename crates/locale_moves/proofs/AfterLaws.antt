@@ -29,7 +29,7 @@ use Rattle.locale_sheet.proofs.BlockLaws.{open-block}
 use Rattle.locale_declarations.specs.Worded.{Opened, Writes}
 use Rattle.locale_declarations.proofs.RefusalLaws.{Fair, fair-lower, fair-lowest, fair-unless, fair-tokens, fair-low}
 use Rattle.locale_declarations.proofs.OpenedLaws.{line-moves, line-accepted, line-refused, line-foul}
-use Rattle.locale_declarations.proofs.DeclareLaws.{positive}
+use Rattle.locale_declarations.proofs.SymbolLaws.{positive}
 use Rattle.locale_moves.specs.declared.Named.{Named}
 use Rattle.locale_moves.specs.declared.Named.the-variants as answer
 use Rattle.locale_moves.specs.Named.{Holding, subjectNamed, afterRefusal, NamedAt, NamedNot, NamedIs}

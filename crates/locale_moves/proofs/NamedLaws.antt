@@ -31,7 +31,7 @@ use Rattle.work_store.specs.declared.Found.the-variants.{At, Nothing}
 use Rattle.work_store.specs.Store.{first, isFound, Finds}
 use Rattle.work_store.proofs.ListLaws.{found-within}
 use Rattle.work_order.specs.declared.Order.{Order}
-use Rattle.work_order.specs.Listed.{placeNumber}
+use Rattle.work_order.specs.Links.{placeNumber}
 use Rattle.locale_sheet.specs.Known.{subjectAt, markOf, Known}
 use Rattle.locale_sheet.proofs.MarkLaws.{mark-name, marked-subject, mark-row}
 use Rattle.locale_sheet.proofs.RankLaws.{isOrdered, rank-none}

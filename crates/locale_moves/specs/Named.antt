@@ -14,7 +14,7 @@ use Rattle.work_rows.specs.Cells.{cell}
 use Rattle.work_store.specs.declared.Found.{Found}
 use Rattle.work_store.specs.declared.Found.the-variants.{At, Nothing}
 use Rattle.work_order.specs.declared.Order.{Order}
-use Rattle.work_order.specs.Listed.{placeNumber}
+use Rattle.work_order.specs.Links.{placeNumber}
 use Rattle.locale_sheet.specs.Known.{markOf, Known}
 use Rattle.locale_moves.specs.declared.Named.{Named}
 use Rattle.locale_moves.specs.declared.Named.the-variants as answer

@@ -20,7 +20,7 @@ use Rattle.work_rows.proofs.CellLaws.{Apart}
 use Rattle.work_store.specs.declared.Found.{Found}
 use Rattle.work_store.specs.declared.Found.the-variants.{At, Nothing}
 use Rattle.work_order.specs.declared.Order.{Order}
-use Rattle.work_order.specs.Listed.{placeNumber}
+use Rattle.work_order.specs.Links.{placeNumber}
 use Rattle.work_order.proofs.MoveLaws.{one-has}
 use Rattle.locale_sheet.specs.Known.{subjectAt, isRow, markOf, IsListed, Known}
 use Rattle.locale_sheet.proofs.MarkLaws.{isAt, subject-mark, marked-subject, mark-row, rows-apart}

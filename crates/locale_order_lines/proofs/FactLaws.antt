@@ -27,7 +27,7 @@ use Rattle.work_store.specs.declared.Found.the-variants.{At, Nothing}
 use Rattle.work_store.specs.Store.{Decl, first, isFound, knownIn, undefinedMark, Sound, Finds}
 use Rattle.work_store.proofs.ListLaws.{found-within}
 use Rattle.work_order.specs.declared.Order.{Order}
-use Rattle.work_order.specs.Listed.{charsNumber, placeNumber}
+use Rattle.work_order.specs.Links.{charsNumber, placeNumber}
 use Rattle.locale_standing.specs.Standing.{standsIn}
 use Rattle.locale_sheet.specs.Known.{Says, markOf, Known}
 use Rattle.locale_sheet.proofs.DeclaredLaws.{known-declared, none-later, known-symbol}

@@ -13,7 +13,7 @@ use Rattle.work_store.specs.declared.Found.{Found}
 use Rattle.work_store.specs.declared.Found.the-variants.{At, Nothing}
 use Rattle.work_store.specs.Store.{Declares}
 use Rattle.work_order.specs.declared.Order.{Order}
-use Rattle.work_order.specs.Listed.{Row, Among, longer, withLine, shorter, unlinked, longerAfter, withLineAfter}
+use Rattle.work_order.specs.Links.{Row, Among, longer, withLine, shorter, unlinked, longerAfter, withLineAfter}
 use Rattle.work_order.proofs.ListLaws.{row-kept}
 use Rattle.work_order.proofs.MoveLaws.{without, without-one, out-length, lines-out, backed-out}
 use Rattle.locale_sheet.proofs.RankLaws.{isOrdered}

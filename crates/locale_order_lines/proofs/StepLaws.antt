@@ -24,7 +24,7 @@ use Rattle.work_store.specs.declared.Found.the-variants.{At}
 use Rattle.work_store.specs.Store.{Finds}
 use Rattle.work_rows.specs.Cells.{cellAt, cell}
 use Rattle.work_order.specs.declared.Order.{Order}
-use Rattle.work_order.specs.Listed.{lineNumber, placeNumber, nextNumber, backNumber, Row, linkedTo, numbered, longer, withLine, shorter, unlinked, linkedBetween, longerAfter, withLineAfter}
+use Rattle.work_order.specs.Links.{lineNumber, placeNumber, nextNumber, backNumber, Row, linkedTo, numbered, longer, withLine, shorter, unlinked, linkedBetween, longerAfter, withLineAfter}
 use Rattle.work_order.proofs.ListLaws.{all-map, last-has, link-length}
 use Rattle.work_order.proofs.MoveLaws.{one-has, next-has, back-has, without, without-all, without-one, out-length, lines-out}
 use Rattle.locale_sheet.specs.Known.{subjectAt, behind, isRow, markOf, IsListed, Known}

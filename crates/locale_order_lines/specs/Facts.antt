@@ -23,7 +23,7 @@ use Rattle.work_store.specs.declared.Found.the-variants.{At, Nothing}
 use Rattle.work_store.specs.Store.{isFound, Declares}
 use Rattle.work_subjects.specs.Keys.{keyAt}
 use Rattle.work_order.specs.declared.Order.{Order}
-use Rattle.work_order.specs.Listed.{charsNumber, placeNumber, Row, Backed, Lines, SomeLines, longer, withLine, shorter, unlinked, longerAfter, withLineAfter}
+use Rattle.work_order.specs.Links.{charsNumber, placeNumber, Row, Backed, Lines, SomeLines, longer, withLine, shorter, unlinked, longerAfter, withLineAfter}
 use Rattle.locale_sheet.specs.Known.{Known}
 use Rattle.locale_sheet.proofs.RankLaws.{isOrdered}
 use Rattle.locale_sheet.specs.declared.Block.{Block}

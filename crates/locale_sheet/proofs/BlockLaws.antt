@@ -16,7 +16,7 @@ use Rattle.text_lines.specs.declared.Signs.{Signs}
 use Rattle.work_rows.specs.Cells.{cell}
 use Rattle.work_store.specs.Store.{Decl}
 use Rattle.work_order.specs.declared.Order.{Order}
-use Rattle.work_order.specs.Listed.{placeNumber, nextNumber, Linked, ends, goes}
+use Rattle.work_order.specs.Links.{placeNumber, nextNumber, Linked, ends, goes}
 use Rattle.work_order.proofs.MoveLaws.{one-has}
 use Rattle.locale_sheet.specs.Known.{subjectAt, isRow, IsListed, Known}
 use Rattle.locale_sheet.specs.declared.Block.{Block}

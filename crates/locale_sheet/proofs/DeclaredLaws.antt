@@ -19,7 +19,7 @@ use Rattle.work_subjects.specs.Keys.{Key, item, chars, sameKey}
 use Rattle.work_store.specs.Store.{Decl, first, isPlace, isFound, knownIn, Once, another}
 use Rattle.work_store.specs.declared.Found.the-variants.{At, Nothing}
 use Rattle.work_store.proofs.ListLaws.{isPlace-fresh, isPlace-older}
-use Rattle.work_order.specs.Listed.{charsNumber}
+use Rattle.work_order.specs.Links.{charsNumber}
 use Rattle.locale_sheet.specs.Known.{declaredAt, Says, none, symbols, elements, characters}
 
 same-swap : (a b : List ℕ) → same a b ≡ same b a

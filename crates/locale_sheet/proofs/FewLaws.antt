@@ -14,7 +14,7 @@ use Rattle.rules.specs.State.{Declaration, OrderLine}
 use Rattle.text_lines.specs.declared.Signs.{Signs}
 use Rattle.work_rows.proofs.CellLaws.{Apart}
 use Rattle.work_order.specs.declared.Order.{Order}
-use Rattle.work_order.specs.Listed.{Spread, none, more}
+use Rattle.work_order.specs.Links.{Spread, none, more}
 use Rattle.locale_sheet.specs.Known.{IsListed, Known}
 use Rattle.locale_sheet.proofs.MarkLaws.{row-in}
 

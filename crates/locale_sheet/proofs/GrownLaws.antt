@@ -20,7 +20,7 @@ use Rattle.work_store.specs.Store.{Decl, first, isPlace, Roomy, Holds}
 use Rattle.work_store.proofs.AreaLaws.{zeros, holds-none}
 use Rattle.work_store.proofs.ListLaws.{isPlace-none, place-within}
 use Rattle.work_order.specs.declared.Order.{Order}
-use Rattle.work_order.specs.Listed.{lineNumber, placeNumber, nextNumber, rankNumber, backNumber, Linked, ends, goes, Backed, begins, comes, Spread, lastOf}
+use Rattle.work_order.specs.Links.{lineNumber, placeNumber, nextNumber, rankNumber, backNumber, Linked, ends, goes, Backed, begins, comes, Spread, lastOf}
 use Rattle.work_order.proofs.ListLaws.{row-kept}
 use Rattle.locale_sheet.specs.Known.{Says, none, behind, lineAt, isRow, Accepted, IsListed, Known}
 use Rattle.locale_sheet.proofs.MarkLaws.{row-place, row-undefined, row-by}

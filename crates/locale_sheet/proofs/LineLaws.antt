@@ -23,7 +23,7 @@ use Rattle.work_subjects.specs.Keys.{keyAt}
 use Rattle.work_store.specs.Store.{Decl, Holds}
 use Rattle.work_store.proofs.ListLaws.{place-below}
 use Rattle.work_order.specs.declared.Order.{Order}
-use Rattle.work_order.specs.Listed.{charsNumber, lineNumber, placeNumber, nextNumber, backNumber, Row, Backed, Lines, linkedTo, numbered, withLine, longer, NewLine}
+use Rattle.work_order.specs.Links.{charsNumber, lineNumber, placeNumber, nextNumber, backNumber, Row, Backed, Lines, linkedTo, numbered, withLine, longer, NewLine}
 use Rattle.work_order.proofs.ListLaws.{all-map, all-append, numbered-number, numbered-place, numbered-else, numbered-apart, last-has, link-length, link-other, link-apart, lines-more, backed-more}
 use Rattle.work_order.proofs.MoveLaws.{one-has, all-one}
 use Rattle.locale_sheet.specs.Known.{Says, none, symbols, elements, characters, behind, subjectAt, lineAt, isRow, Accepted, IsListed, Known}

@@ -23,7 +23,7 @@ use Rattle.work_store.specs.Store.{Decl, Once, Holds}
 use Rattle.work_store.specs.declared.Found.{Found}
 use Rattle.work_store.specs.declared.Found.the-variants.{At, Nothing}
 use Rattle.work_order.specs.declared.Order.{Order}
-use Rattle.work_order.specs.Listed.{charsNumber, placeNumber, nextNumber, backNumber, Row, Backed, Lines, Spread, none, more, linkedTo, linkedBetween, withLineAfter, longerAfter, unlinked, shorter}
+use Rattle.work_order.specs.Links.{charsNumber, placeNumber, nextNumber, backNumber, Row, Backed, Lines, Spread, none, more, linkedTo, linkedBetween, withLineAfter, longerAfter, unlinked, shorter}
 use Rattle.work_order.proofs.ListLaws.{row-kept, all-map, numbered-number, numbered-place, numbered-else, numbered-apart}
 use Rattle.work_order.proofs.MoveLaws.{without, behindMark, one-has, all-one, linked-rows, next-has, back-has, without-all, without-apart, without-length, without-one, behind-all, behind-new, behind-one, out-length, out-else, out-next, out-back, lines-out, backed-out, put-length, put-else, next-kept, back-kept, lines-put, backed-put}
 use Rattle.locale_sheet.specs.Known.{subjectAt, lineAt, isRow, markOf, IsListed, Known}

@@ -21,7 +21,7 @@ use Rattle.work_store.specs.declared.Found.the-variants.{Nothing}
 use Rattle.work_store.proofs.AreaLaws.{above-name, above-other, holds-beyond}
 use Rattle.work_store.proofs.ListLaws.{isPlace-older, place-below, place-within, five-older, five-later, five-named, five-character, code-told}
 use Rattle.work_order.specs.declared.Order.{Order}
-use Rattle.work_order.specs.Listed.{charsNumber}
+use Rattle.work_order.specs.Links.{charsNumber}
 use Rattle.locale_sheet.specs.Known.{declaredAt, Says, none, symbols, elements, characters, lineAt, isRow, Known}
 use Rattle.locale_sheet.proofs.MarkLaws.{row-by, row-in, item-by}
 use Rattle.locale_sheet.proofs.GrownLaws.{Grown, KnownAs, known-as, known-grown}

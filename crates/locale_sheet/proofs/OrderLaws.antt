@@ -21,7 +21,7 @@ use Rattle.work_toggles.proofs.AreaLaws.{kept-same, toggles-same}
 use Rattle.work_rows.specs.Cells.{cellAt, cell}
 use Rattle.work_store.specs.Store.{headsOf}
 use Rattle.work_order.specs.declared.Order.{Order}
-use Rattle.work_order.specs.Listed.{lineNumber, placeNumber, nextNumber, backNumber, linkedTo, numbered, withLine, unlinked, linkedBetween, withLineAfter}
+use Rattle.work_order.specs.Links.{lineNumber, placeNumber, nextNumber, backNumber, linkedTo, numbered, withLine, unlinked, linkedBetween, withLineAfter}
 use Rattle.locale_sheet.specs.Known.{behind, isRow, Known}
 use Rattle.locale_sheet.proofs.NewLaws.{known-rules}
 use Rattle.locale_sheet.specs.declared.Block.{Block}

@@ -22,7 +22,7 @@ use Rattle.work_store.specs.Store.{Decl, Once, Holds}
 use Rattle.work_store.specs.declared.Found.{Found}
 use Rattle.work_store.specs.declared.Found.the-variants.{At, Nothing}
 use Rattle.work_order.specs.declared.Order.{Order}
-use Rattle.work_order.specs.Listed.{placeNumber, rankNumber, Row, Spread, more, ranked}
+use Rattle.work_order.specs.Links.{placeNumber, rankNumber, Row, Spread, more, ranked}
 use Rattle.work_order.proofs.MoveLaws.{linked-rows}
 use Rattle.locale_sheet.specs.Known.{lineAt, isRow, markOf, IsListed, Known}
 use Rattle.locale_sheet.proofs.MarkLaws.{isAt, subject-mark, mark-row, rows-apart}

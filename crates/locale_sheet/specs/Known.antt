@@ -22,7 +22,7 @@ use Rattle.work_store.specs.Store.{Decl, first, isPlace, undefinedMark, Holds}
 use Rattle.work_store.specs.declared.Found.{Found}
 use Rattle.work_store.specs.declared.Found.the-variants.{At}
 use Rattle.work_order.specs.declared.Order.{Order}
-use Rattle.work_order.specs.Listed.{charsNumber, lineNumber, placeNumber, nextNumber, rankNumber, Backed, Lines}
+use Rattle.work_order.specs.Links.{charsNumber, lineNumber, placeNumber, nextNumber, rankNumber, Backed, Lines}
 
 -- ## Declarations
 

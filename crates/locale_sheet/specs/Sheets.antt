@@ -19,7 +19,7 @@ use Rattle.text_tokens.specs.Left.{tokensLeft}
 use Rattle.locale_levels.specs.Levels.{startRefusal}
 use Rattle.work_toggles.specs.Kept.{togglesIn, Kept}
 use Rattle.work_rows.specs.Cells.{cell}
-use Rattle.work_order.specs.Listed.{placeNumber}
+use Rattle.work_order.specs.Links.{placeNumber}
 use Rattle.locale_sheet.specs.Known.{subjectAt, behind, Known}
 use Rattle.locale_sheet.specs.declared.Block.{Block}
 use Rattle.locale_sheet.specs.declared.Sheet.{Sheet}

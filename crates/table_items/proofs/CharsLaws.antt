@@ -20,7 +20,7 @@ use Rattle.work_subjects.proofs.KeyLaws.{keyAt-name, keyAt-quotes}
 use Rattle.work_store.specs.Store.{Decl, first, isPlace, Once, headsOf, Roomy, Holds, undefinedMark}
 use Rattle.work_store.specs.declared.Found.the-variants.{At}
 use Rattle.work_store.proofs.ListLaws.{nodes-keyed, place-within}
-use Rattle.work_order.specs.Listed.{charsNumber}
+use Rattle.work_order.specs.Links.{charsNumber}
 use Rattle.locale_sheet.specs.Known.{Says, subjectAt, isRow, markOf}
 use Rattle.locale_sheet.proofs.DeclaredLaws.{known-symbol, known-quotes, known-character}
 use Rattle.locale_sheet.proofs.MarkLaws.{mark-name, below-undefined, at-undefined, at-source, subject-marked}

@@ -23,7 +23,7 @@ use Rattle.work_rows.specs.Cells.{cell}
 use Rattle.work_subjects.specs.Keys.{keyAt}
 use Rattle.work_store.specs.Store.{Decl, Holds, Sound}
 use Rattle.work_order.specs.declared.Order.{Order}
-use Rattle.work_order.specs.Listed.{placeNumber, rankNumber, nextNumber, Row, Linked, goes}
+use Rattle.work_order.specs.Links.{placeNumber, rankNumber, nextNumber, Row, Linked, goes}
 use Rattle.work_order.proofs.RankLaws.{linked-one}
 use Rattle.locale_weights.specs.Weights.{weightRefusalBy, weightsRefusalBy}
 use Rattle.locale_weights.proofs.LateLaws.{weights-cons}

@@ -7,7 +7,7 @@ use native.Mathlib.Omega.{arith}
 use lib.Dec.{eqb}
 use borrow.Author.Tests.{le-leb, lt-leb, ne-eqb, eq-eqb, eqb-false, not-true}
 use Rattle.work_rows.specs.Cells.{cell}
-use Rattle.work_order.specs.Listed.{charsNumber}
+use Rattle.work_order.specs.Links.{charsNumber}
 use Rattle.work_store.specs.Store.{undefinedMark}
 use Rattle.table_records.specs.Writing.{HasChars}
 use Rattle.table_items.specs.Items.{isItem}

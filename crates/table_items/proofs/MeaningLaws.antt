@@ -18,7 +18,7 @@ use Rattle.work_rows.specs.Cells.{cell}
 use Rattle.work_subjects.specs.Keys.{keyAt}
 use Rattle.work_store.specs.Store.{Decl, headsOf, Holds, undefinedMark}
 use Rattle.work_order.specs.declared.Order.{Order}
-use Rattle.work_order.specs.Listed.{charsNumber, lineNumber, placeNumber, Lines, Ranks}
+use Rattle.work_order.specs.Links.{charsNumber, lineNumber, placeNumber, Lines, Ranks}
 use Rattle.locale_sheet.specs.Known.{Says, subjectAt, lineAt, Known}
 use Rattle.locale_sheet.proofs.LineLaws.{says-kept}
 use Rattle.locale_sheet.proofs.FewLaws.{known-few}

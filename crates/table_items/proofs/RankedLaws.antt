@@ -21,7 +21,7 @@ use Rattle.work_store.specs.Store.{Decl, first, Roomy, Holds, undefinedMark}
 use Rattle.work_store.specs.declared.Found.{Found}
 use Rattle.work_store.specs.declared.Found.the-variants.{At, Nothing}
 use Rattle.work_order.specs.declared.Order.{Order}
-use Rattle.work_order.specs.Listed.{lineNumber, placeNumber, rankNumber, Lines, ranked}
+use Rattle.work_order.specs.Links.{lineNumber, placeNumber, rankNumber, Lines, ranked}
 use Rattle.work_order.proofs.ListLaws.{all-map, lines-other}
 use Rattle.locale_sheet.specs.Known.{subjectAt, behind, lineAt, isRow, IsListed, Known}
 use Rattle.locale_sheet.proofs.MarkLaws.{holds-row, mark-name, mark-undefined, subject-marked}

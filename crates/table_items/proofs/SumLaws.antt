@@ -15,7 +15,7 @@ use Rattle.work_rows.specs.Cells.{cell}
 use Rattle.work_subjects.specs.Keys.{keyAt}
 use Rattle.work_store.specs.Store.{Decl, Holds}
 use Rattle.work_order.specs.declared.Order.{Order}
-use Rattle.work_order.specs.Listed.{lineNumber, nextNumber, Row, Linked, goes}
+use Rattle.work_order.specs.Links.{lineNumber, nextNumber, Row, Linked, goes}
 use Rattle.work_order.proofs.RankLaws.{linked-one}
 use Rattle.table_weights.specs.declared.Measured.{Measured}
 use Rattle.table_weights.specs.Ranks.{rankIn}

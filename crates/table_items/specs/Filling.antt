@@ -11,7 +11,7 @@ use Rattle.text_lines.specs.declared.Signs.{Signs}
 use Rattle.work_subjects.specs.Keys.{keyAt}
 use Rattle.work_store.specs.Store.{Decl, Holds}
 use Rattle.work_order.specs.declared.Order.{Order}
-use Rattle.work_order.specs.Listed.{Lines}
+use Rattle.work_order.specs.Links.{Lines}
 use Rattle.table_weights.specs.Ranks.{rankIn}
 use Rattle.table_items.specs.Items.{itemsOf, LinesReady}
 

@@ -1,4 +1,4 @@
--- The items that the order lines give, by the marks of the lines (Rattle.work_order.specs.Listed): which lines give one, and whether each of their
+-- The items that the order lines give, by the marks of the lines (Rattle.work_order.specs.Links): which lines give one, and whether each of their
 -- weights has a rank.
 use mathlib.Core.Path.{_≡_}
 use mathlib.Core.Bool.{Bool, true, false, not, _||_}
@@ -15,7 +15,7 @@ use Rattle.work_rows.specs.Cells.{cell}
 use Rattle.work_subjects.specs.Keys.{keyAt}
 use Rattle.work_store.specs.Store.{Decl, Holds, Sound, undefinedMark}
 use Rattle.work_order.specs.declared.Order.{Order}
-use Rattle.work_order.specs.Listed.{charsNumber, lineNumber, Lines}
+use Rattle.work_order.specs.Links.{charsNumber, lineNumber, Lines}
 use Rattle.table_weights.specs.Ranks.{rankIn}
 use Rattle.table_weights.specs.Reading.{itemRanks, RowReady}
 use Rattle.table_records.specs.Writing.{itemChars, CharsReady}

@@ -5,7 +5,7 @@ ghost use lib.ListN.{length};
 ghost use Prim.Native.Nat.{_+_, _*_, _/_, _≤_};
 ghost use Rattle.rules.specs.Text.{if_then_else_, lower};
 ghost use Rattle.work_rows.specs.Cells.{cell};
-ghost use Rattle.work_order.specs.Listed.{lineNumber};
+ghost use Rattle.work_order.specs.Links.{lineNumber};
 ghost use Rattle.table_records.specs.Writing.{CharsReady};
 ghost use Rattle.table_items.specs.Items.{isItem, LinesReady, SumsAre};
 ghost use Rattle.table_items.specs.Filling.{Fillable, Filled};

@@ -12,7 +12,7 @@ use Rattle.rules.specs.Table.{pad, padded, sums, counts}
 use Rattle.text_lines.specs.declared.Signs.{Signs}
 use Rattle.text_lines.specs.declared.Spot.{Spot}
 use Rattle.work_rows.specs.Cells.{cell}
-use Rattle.work_order.specs.Listed.{charsNumber, placeNumber, rankNumber}
+use Rattle.work_order.specs.Links.{charsNumber, placeNumber, rankNumber}
 use Rattle.base_units.specs.declared.CodePoint.{CodePoint}
 use Rattle.work_subjects.specs.declared.NextChar.{NextChar}
 use Rattle.work_subjects.specs.declared.NextChar.the-variants.{Char, End}

@@ -15,7 +15,7 @@ use Rattle.text_lines.specs.declared.Spot.{Spot}
 use Rattle.text_lines.specs.Stream.{marksLeft}
 use Rattle.text_tokens.specs.Left.{namesIn}
 use Rattle.work_rows.specs.Cells.{cell}
-use Rattle.work_order.specs.Listed.{charsNumber}
+use Rattle.work_order.specs.Links.{charsNumber}
 use Rattle.work_subjects.specs.Keys.{quoteSpot, charsLeft, keyAt}
 use Rattle.work_store.specs.Store.{Decl, undefinedMark, Roomy, Holds}
 use Rattle.table_weights.specs.declared.Part.{Part}

@@ -9,7 +9,7 @@ use Rattle.text_lines.specs.declared.Signs.{Signs}
 use Rattle.text_lines.specs.declared.Spot.{Spot}
 use Rattle.text_tokens.specs.Left.{isInside}
 use Rattle.work_rows.specs.Cells.{cell}
-use Rattle.work_order.specs.Listed.{rankNumber}
+use Rattle.work_order.specs.Links.{rankNumber}
 use Rattle.work_subjects.specs.Keys.{Key, keyAt, subjectLeft}
 use Rattle.work_subjects.proofs.SpotLaws.{keyAt-inside}
 use Rattle.work_store.specs.declared.Found.{Found}

@@ -15,7 +15,7 @@ use Rattle.text_tokens.specs.Left.{isInside}
 use Rattle.base_units.specs.declared.Rank.{Rank}
 use Rattle.work_subjects.specs.Keys.{keyAt, subjectLeft}
 use Rattle.work_rows.specs.Cells.{cell}
-use Rattle.work_order.specs.Listed.{placeNumber, rankNumber}
+use Rattle.work_order.specs.Links.{placeNumber, rankNumber}
 use Rattle.work_store.specs.Store.{Decl, Holds, Sound}
 use Rattle.table_weights.specs.declared.Part.{Part}
 use Rattle.table_weights.specs.declared.Part.the-variants as part

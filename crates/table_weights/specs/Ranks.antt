@@ -1,4 +1,4 @@
--- The weights of an order line as ranks, taken from the work area once every order line has its rank in its row (Rattle.work_order.specs.Listed).
+-- The weights of an order line as ranks, taken from the work area once every order line has its rank in its row (Rattle.work_order.specs.Links).
 use mathlib.Core.Path.{_≡_}
 use mathlib.Core.List.{List, [], _∷_, map}
 use Prim.Native.Nat.{ℕ, zero, suc}
@@ -6,7 +6,7 @@ use Rattle.rules.specs.Tokens.{Token}
 use Rattle.rules.specs.State.{Subject}
 use Rattle.rules.specs.OrderLines.{subjectOf}
 use Rattle.work_rows.specs.Cells.{cell}
-use Rattle.work_order.specs.Listed.{rankNumber}
+use Rattle.work_order.specs.Links.{rankNumber}
 use Rattle.work_subjects.specs.Keys.{Key, item}
 use Rattle.work_store.specs.declared.Found.{Found}
 use Rattle.work_store.specs.declared.Found.the-variants.{At, Nothing}

@@ -20,7 +20,7 @@ use Rattle.text_operands.specs.Operand.{operandsLeft}
 use Rattle.locale_weights.specs.Weights.{weightsRefusalBy}
 use Rattle.work_subjects.specs.Keys.{Key, subjectLeft, keyAt}
 use Rattle.work_rows.specs.Cells.{cell}
-use Rattle.work_order.specs.Listed.{placeNumber, rankNumber}
+use Rattle.work_order.specs.Links.{placeNumber, rankNumber}
 use Rattle.work_store.specs.Store.{Decl, headsOf, Holds}
 use Rattle.table_weights.specs.declared.NextRank.{NextRank}
 use Rattle.table_weights.specs.declared.NextRank.the-variants as nextRank

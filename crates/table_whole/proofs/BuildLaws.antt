@@ -23,7 +23,7 @@ use Rattle.table_layout.proofs.LayoutLaws.{endsAt-is, endsAt-room, weightsPart-
 use Rattle.text_lines.specs.declared.Signs.{Signs}
 use Rattle.text_tokens.specs.Left.{tokensLeft}
 use Rattle.work_rows.specs.Cells.{cell}
-use Rattle.work_order.specs.Listed.{placeNumber, rankNumber}
+use Rattle.work_order.specs.Links.{placeNumber, rankNumber}
 use Rattle.work_subjects.specs.Keys.{keyAt}
 use Rattle.work_store.specs.Store.{Sound}
 use Rattle.locale_levels.specs.Writing.{ruleNumbers, RulesFit}

@@ -17,7 +17,7 @@ use Rattle.text_lines.specs.declared.Signs.{Signs}
 use Rattle.text_tokens.specs.Left.{tokensLeft}
 use Rattle.work_subjects.specs.Keys.{keyAt}
 use Rattle.work_store.specs.Store.{Decl, Holds}
-use Rattle.work_order.specs.Listed.{Lines}
+use Rattle.work_order.specs.Links.{Lines}
 use Rattle.locale_levels.specs.Levels.{startRefusal}
 use Rattle.locale_sheet.specs.Known.{behind}
 use Rattle.locale_sheet.specs.declared.Sheet.{Sheet}

@@ -11,7 +11,7 @@ use Rattle.base_lists.proofs.Lists.{All}
 use Rattle.work_rows.specs.Cells.{cellAt, cell}
 use Rattle.work_rows.proofs.CellLaws.{Apart, cell-told, cell-other, cell-apart}
 use Rattle.work_order.specs.declared.Order.{Order}
-use Rattle.work_order.specs.Listed.{Reached, lineNumber, placeNumber, nextNumber, backNumber, Row, Linked, ends, goes, Backed, begins, comes, Spread, none, more, lastOf, Lines, SomeLines, linkedTo, numbered, withLine, longer, NewLine}
+use Rattle.work_order.specs.Links.{Reached, lineNumber, placeNumber, nextNumber, backNumber, Row, Linked, ends, goes, Backed, begins, comes, Spread, none, more, lastOf, Lines, SomeLines, linkedTo, numbered, withLine, longer, NewLine}
 
 -- ## What a list keeps
 

@@ -13,7 +13,7 @@ use Rattle.rules.specs.Text.{if_then_else_, oneOf}
 use Rattle.work_rows.specs.Cells.{cellAt, cell}
 use Rattle.work_rows.proofs.CellLaws.{Apart, cell-told, cell-other, cell-apart}
 use Rattle.work_order.specs.declared.Order.{Order}
-use Rattle.work_order.specs.Listed.{nextNumber, backNumber, Row, Linked, ends, goes, Backed, begins, comes, Spread, none, more, Lines, linkedTo, numbered, Reached, longer, Among, Between, unlinked, shorter, linkedBetween, withLineAfter, longerAfter}
+use Rattle.work_order.specs.Links.{nextNumber, backNumber, Row, Linked, ends, goes, Backed, begins, comes, Spread, none, more, Lines, linkedTo, numbered, Reached, longer, Among, Between, unlinked, shorter, linkedBetween, withLineAfter, longerAfter}
 use Rattle.work_order.proofs.ListLaws.{row-kept, all-map, linked-kept, backed-kept, numbered-lines, numbered-backed, lastFrom, last-from, link-length, link-told, link-other, link-apart}
 
 -- ## Marks of a list

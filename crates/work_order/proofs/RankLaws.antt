@@ -8,7 +8,7 @@ use lib.ListN.{length, set, length-set}
 use Rattle.work_rows.specs.Cells.{cellAt, cell}
 use Rattle.work_rows.proofs.CellLaws.{cell-other}
 use Rattle.work_order.specs.declared.Order.{Order}
-use Rattle.work_order.specs.Listed.{rankNumber, nextNumber, Row, Linked, ends, goes, Lines, SomeLines, ranked, Ranks}
+use Rattle.work_order.specs.Links.{rankNumber, nextNumber, Row, Linked, ends, goes, Lines, SomeLines, ranked, Ranks}
 use Rattle.work_order.proofs.ListLaws.{linked-other}
 
 -- ## The loop

@@ -4,7 +4,7 @@ ghost use mathlib.Core.Path.{_≡_};
 ghost use Prim.Native.Nat.{_<_};
 ghost use lib.Dec.{eqb};
 ghost use Rattle.rules.specs.Text.{if_then_else_};
-ghost use Rattle.work_order.specs.Listed.{Row, Reached, SomeLines, linkedTo, numbered, longer, withLine, Among, unlinked, shorter, Between, linkedBetween, withLineAfter, longerAfter, Ranks};
+ghost use Rattle.work_order.specs.Links.{Row, Reached, SomeLines, linkedTo, numbered, longer, withLine, Among, unlinked, shorter, Between, linkedBetween, withLineAfter, longerAfter, Ranks};
 use work_rows::tell;
 use work_rows::told;
 

@@ -1,5 +1,5 @@
 -- `locale_declarations::element_step` meets its contract: a law for each answer.
-use Rattle.locale_declarations.proofs.CompoundLaws.{element-low, element-high, element-misplaced-step, element-foul, element-refused-step, element-done}
+use Rattle.locale_declarations.proofs.ElementLaws.{element-low, element-high, element-misplaced-step, element-foul, element-refused-step, element-done}
 use borrow.Author.Needs.{needs}
 use Rattle.locale_declarations.proofs.element_step.Statement.{statement}
 use Rattle.locale_declarations.proofs.element_step.Tie as tie

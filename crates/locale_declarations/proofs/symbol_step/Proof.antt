@@ -1,5 +1,5 @@
 -- `locale_declarations::symbol_step` meets its contract: a law for each answer.
-use Rattle.locale_declarations.proofs.DeclareLaws.{symbol-low, symbol-high, symbol-misplaced-step, symbol-foul, symbol-refused-step, symbol-done}
+use Rattle.locale_declarations.proofs.SymbolLaws.{symbol-low, symbol-high, symbol-misplaced-step, symbol-foul, symbol-refused-step, symbol-done}
 use borrow.Author.Needs.{needs}
 use Rattle.locale_declarations.proofs.symbol_step.Statement.{statement}
 use Rattle.locale_declarations.proofs.symbol_step.Tie as tie

@@ -23,7 +23,7 @@ use Rattle.work_subjects.specs.Keys.{Key, chars, keyAt}
 use Rattle.work_subjects.specs.Numbers.{isDeclarable, kindOf}
 use Rattle.work_store.specs.declared.Found.the-variants.{Nothing}
 use Rattle.work_store.specs.Store.{Decl, first, knownIn, fresh, headsOf, Holds}
-use Rattle.work_order.specs.Listed.{charsNumber}
+use Rattle.work_order.specs.Links.{charsNumber}
 use Rattle.locale_symbols.specs.Symbols.{isNewIn, operandsAfter, Unfit, Gives, Reaches, NameMark}
 use Rattle.locale_elements.specs.declared.Tail.{Tail}
 use Rattle.locale_elements.specs.declared.Tail.the-variants as tail

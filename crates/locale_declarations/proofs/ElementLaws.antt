@@ -31,7 +31,7 @@ use Rattle.work_store.specs.declared.Found.the-variants.{Nothing}
 use Rattle.work_store.proofs.ListLaws.{first-fresh-other, isPlace-older, place-below}
 use Rattle.work_rows.specs.Cells.{cell}
 use Rattle.work_order.specs.declared.Order.{Order}
-use Rattle.work_order.specs.Listed.{charsNumber}
+use Rattle.work_order.specs.Links.{charsNumber}
 use Rattle.locale_sheet.specs.Known.{declaredAt, Says, elements, isRow, Known}
 use Rattle.locale_sheet.proofs.MarkLaws.{row-by}
 use Rattle.locale_sheet.proofs.GrownLaws.{Grown, known-grown}
@@ -39,7 +39,7 @@ use Rattle.locale_sheet.proofs.NewLaws.{says-on, kind-name}
 use Rattle.locale_symbols.specs.Symbols.{isNewIn}
 use Rattle.locale_elements.specs.declared.Element.{Element}
 use Rattle.locale_elements.specs.declared.Element.the-variants as answer
-use Rattle.locale_elements.specs.Compounds.{elementRefusal, charsIn, DeclaresBoth, ElementAt, ElementNot, ElementIs}
+use Rattle.locale_elements.specs.Element.{elementRefusal, charsIn, DeclaresBoth, ElementAt, ElementNot, ElementIs}
 use Rattle.locale_elements.proofs.PaperLaws.{element-paper, element-misplaced}
 use Rattle.locale_opening.proofs.KeywordLaws.{at-element}
 use Rattle.locale_opening.proofs.OpenLaws.{with-text}
@@ -50,7 +50,7 @@ use Rattle.locale_sheet.proofs.OrderLaws.{open-declared}
 use Rattle.locale_declarations.specs.Worded.{Opened, Writes}
 use Rattle.locale_declarations.proofs.RefusalLaws.{Fair, fair-low, fair-element}
 use Rattle.locale_declarations.proofs.OpenedLaws.{line-moves, line-accepted, line-refused, line-foul}
-use Rattle.locale_declarations.proofs.DeclareLaws.{says-alike, first-none, new-unknown, first-declarable, positive, line-reaches}
+use Rattle.locale_declarations.proofs.SymbolLaws.{says-alike, first-none, new-unknown, first-declarable, positive, line-reaches}
 
 -- ## What is known after it
 
