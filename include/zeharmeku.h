@@ -21,9 +21,10 @@
  * once: who sorts many strings calls zeharmeku_key once for each, and compares the keys by memcmp, without any call.
  *
  * A table in a file. A table is numbers of 32 bits in the machine's order of bytes: on x86-64 four bytes for each, the low one first. Keep
- * the size that compile answered, in this order, and nothing else is needed to read it back. Nothing of the file has to be trusted: a table
- * that was damaged, cut off or stored in the other order of bytes is refused by 11. Another version may store tables in another way, so
- * keep the source too, and compile it again where the version changes. */
+ * the size that compile answered, in this order, and nothing else is needed to read it back. Nothing of the file has to be trusted: what was
+ * cut off, changed so that it is no table, or stored in the other order of bytes is refused by 11. Whether an accepted table is the one that
+ * was meant, no check can know. Another version may store tables in another way, so keep the source too, and compile it again where the
+ * version changes. */
 
 #ifndef ZEHARMEKU_H
 #define ZEHARMEKU_H

@@ -5,6 +5,14 @@
 install=() # --install, if the script was started with it
 missing=() # packages
 
+# help_if_asked WORDS..: where the first of a script's words is `--help`, prints the comment that the script begins with, and ends.
+help_if_asked() {
+    if [ "${1:-}" = --help ]; then
+        sed -n '2,/^[^#]/s/^# \{0,1\}//p' "$0"
+        exit
+    fi
+}
+
 # take_install WORDS..: whether the first of a script's words is `--install`, which the script then drops.
 take_install() {
     [ "${1:-}" = --install ] || return 1
