@@ -1,6 +1,7 @@
 pub mod Computed
 pub mod Examples
 pub mod TextLaws
+pub mod RefusalLaws
 pub mod MeaningLaws
 pub mod StorableLaws
 pub mod SortLaws
