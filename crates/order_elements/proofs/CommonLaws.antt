@@ -1,6 +1,6 @@
 -- What two strings have in common, cut once for both.
 use mathlib.Core.Path.{_≡_, refl, sym, ap, _∙_}
-use mathlib.Core.Bool.{Bool, true, false, _&&_}
+use mathlib.Core.Bool.{Bool, true}
 use mathlib.Core.List.{List, [], _++_, map, append-nil}
 use Prim.Native.Nat.{ℕ, min, _+_, _-_, _≤_, _<_}
 use native.Mathlib.Nat.{add-zero}
@@ -8,11 +8,10 @@ use native.Mathlib.Omega.{arith}
 use mir.Syntax.{w32, w64}
 use mir.Val.{Fits}
 use borrow.Author.Count.{below-more}
-use borrow.Author.Tests.{eq-eqb, ne-eqb, eqb-true}
 use lib.Dec.{eqb}
 use lib.ListN.{length, getD, take, drop, set, length-set, length-drop, take-append-drop}
 use lib.Seq.{length-take-le, getD-take, getD-drop, ext-getD}
-use Rattle.base_lists.proofs.Bools.{and-left, and-right, cond-both}
+use Rattle.base_lists.proofs.Bools.{cond-both}
 use Rattle.base_lists.proofs.Runs.{run-first}
 use Rattle.rules.specs.Text.{every}
 use Rattle.rules.specs.Names.{isCharacter}
@@ -26,12 +25,13 @@ use Rattle.table_layout.specs.Parts.{Within, Many}
 use Rattle.table_layout.proofs.PartLaws.{table-good}
 use Rattle.order_find.specs.Answer.{foundAs, Quick}
 use Rattle.order_find.specs.declared.Found.{Found}
-use Rattle.order_entries.specs.Walk.{skippedAfter}
+use Rattle.order_entries.specs.Walk.{levelWith, skippedAfter}
+use Rattle.order_entries.proofs.BothLaws.{Abreast, abreast}
 use Rattle.order_elements.specs.declared.Walk.{Walk}
 use Rattle.order_elements.specs.declared.Common.{Common}
 use Rattle.order_elements.specs.Cuts.{Ready, CutOne}
 use Rattle.order_elements.specs.Firsts.{entriesOn, Sound}
-use Rattle.order_elements.specs.Commons.{Shared, Certain, levelWith, Level, Further, Both, Together}
+use Rattle.order_elements.specs.Commons.{Shared, Certain, Level, Further, Both, Together}
 use Rattle.order_elements.proofs.AlikeLaws.{step-front, seen-element, entries-element}
 use Rattle.order_elements.proofs.CutLaws.{ready-kept, found-within, found-fits, found-first, cut-more}
 use Rattle.order_elements.proofs.FirstLaws.{left-none}
@@ -134,33 +134,6 @@ certain-none is s = record { is = λ z. absurd (omega arith) }
 
 skipped-least : (n count : ℕ) → skippedAfter n count ≤ n + 1
 skipped-least n count = cond-both (λ (k : ℕ). k ≤ n + 1) (eqb count 0) (omega arith) (omega arith)
-
--- ## Walks that stand level
-
-module _ (x y : Walk) where
-  pub level-both : x .left ≡ 0 → y .left ≡ 0 → eqb (x .skipped) (y .skipped) ≡ levelWith x y
-  level-both h k = rw (eq-eqb (x .left) 0 h, eq-eqb (y .left) 0 k)
-
-  pub level-first : x .left ≡ 0 → (y .left ≡ 0 → ⊥) → false ≡ levelWith x y
-  level-first h k = rw (eq-eqb (x .left) 0 h, ne-eqb (y .left) 0 k)
-
-  pub level-none : (x .left ≡ 0 → ⊥) → false ≡ levelWith x y
-  level-none h = rw (ne-eqb (x .left) 0 h)
-
--- two walks that stand level
-record Abreast (x y : Walk) : Type 0 where
-  first : x .left ≡ 0
-  second : y .left ≡ 0
-  skipped : x .skipped ≡ y .skipped
-
-abreast : (x y : Walk) {l : Bool} → l ≡ levelWith x y → l ≡ true → Abreast x y
-abreast x y e q =
-    let lefts : (eqb (x .left) 0 && eqb (y .left) 0) ≡ true = and-left (eqb (x .left) 0 && eqb (y .left) 0) (eqb (x .skipped) (y .skipped)) (sym e ∙ q) in
-    record {
-      first = eqb-true (x .left) 0 (and-left (eqb (x .left) 0) (eqb (y .left) 0) lefts);
-      second = eqb-true (y .left) 0 (and-right (eqb (x .left) 0) (eqb (y .left) 0) lefts);
-      skipped = eqb-true (x .skipped) (y .skipped) (and-right (eqb (x .left) 0 && eqb (y .left) 0) (eqb (x .skipped) (y .skipped)) (sym e ∙ q));
-    }
 
 -- ## One element more
 
@@ -306,36 +279,40 @@ module _ {t a b as₀ bs₀ as′ bs : List ℕ} {i j n k skipped agreed end siz
 abbrev onBy : Walk → Common → Walk
 onBy x c = record { at = x .at + c .size; many = x .many + c .many; from = 0; left = 0; skipped = c .skipped }
 
-module _ {t a b as′ bs : List ℕ} {x y : Walk} {agreed : ℕ} {l : Bool} (e : l ≡ levelWith x y) (q : l ≡ true) where
-  pub together-level : Ready t a as′ → Ready t b bs → Sound t a as′ x → Sound t b bs y → agreed ≤ 32768
-      → Level t a b as′ bs (x .at) (y .at) (x .many) (y .many) (x .skipped) agreed
-  together-level r s h k m = record {
-    first-ready = r;
-    second-ready = s;
-    first = h .cut;
-    second = k .cut;
-    first-skipped = h .skipped;
-    second-skipped = omega (arith, k .skipped, abreast x y e q .skipped);
-    small = omega arith;
-  }
+module _ (x y : Walk) {l : Bool} (e : l ≡ levelWith (x .left) (y .left) (x .skipped) (y .skipped)) (q : l ≡ true) where
+  abreast-here : Abreast (x .left) (y .left) (x .skipped) (y .skipped)
+  abreast-here = abreast (x .left) (y .left) (x .skipped) (y .skipped) (sym e ∙ q)
 
-  pub together-on : {c : Common} → Both t a b as′ bs (x .at) (y .at) (x .many) (y .many) (x .skipped) agreed c
-      → Together t a b as′ bs x y agreed (record { x = onBy x c; y = onBy y c; agreed = c .agreed })
-  together-on {c} v = record {
-    first = record { cut = v .level .first; skipped = v .level .first-skipped; inside = λ z. absurd (omega arith) };
-    second = record { cut = v .level .second; skipped = v .level .second-skipped; inside = λ z. absurd (omega arith) };
-    rises = v .further .rises;
-    all = λ p. rw (left-none t a p x (omega (arith, abreast x y e q .first)), left-none t a p (onBy x c) (omega arith)) (v .further .all p);
-    same = λ p.
-        rw (
-          left-none t a p x (omega (arith, abreast x y e q .first)),
-          left-none t b p y (omega (arith, abreast x y e q .second)),
-          left-none t a p (onBy x c) (omega arith),
-          left-none t b p (onBy y c) (omega arith),
-          ← abreast x y e q .skipped,
-        )
-        (v .further .same p);
-  }
+  module _ {t a b as′ bs : List ℕ} {agreed : ℕ} where
+    pub together-level : Ready t a as′ → Ready t b bs → Sound t a as′ x → Sound t b bs y → agreed ≤ 32768
+        → Level t a b as′ bs (x .at) (y .at) (x .many) (y .many) (x .skipped) agreed
+    together-level r s h k m = record {
+      first-ready = r;
+      second-ready = s;
+      first = h .cut;
+      second = k .cut;
+      first-skipped = h .skipped;
+      second-skipped = omega (arith, k .skipped, abreast-here .as-many);
+      small = omega arith;
+    }
+
+    pub together-on : {c : Common} → Both t a b as′ bs (x .at) (y .at) (x .many) (y .many) (x .skipped) agreed c
+        → Together t a b as′ bs x y agreed (record { x = onBy x c; y = onBy y c; agreed = c .agreed })
+    together-on {c} v = record {
+      first = record { cut = v .level .first; skipped = v .level .first-skipped; inside = λ z. absurd (omega arith) };
+      second = record { cut = v .level .second; skipped = v .level .second-skipped; inside = λ z. absurd (omega arith) };
+      rises = v .further .rises;
+      all = λ p. rw (left-none t a p x (omega (arith, abreast-here .first)), left-none t a p (onBy x c) (omega arith)) (v .further .all p);
+      same = λ p.
+          rw (
+            left-none t a p x (omega (arith, abreast-here .first)),
+            left-none t b p y (omega (arith, abreast-here .second)),
+            left-none t a p (onBy x c) (omega arith),
+            left-none t b p (onBy y c) (omega arith),
+            ← abreast-here .as-many,
+          )
+          (v .further .same p);
+    }
 
 pub together-stay : {t a b as′ bs : List ℕ} {x y : Walk} (agreed : ℕ) → Sound t a as′ x → Sound t b bs y
     → Together t a b as′ bs x y agreed (record { x = x; y = y; agreed = agreed })

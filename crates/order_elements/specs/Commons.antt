@@ -1,10 +1,9 @@
 -- What two strings have in common is walked once: the same elements, from walks that stand level, give the same entries.
 use mathlib.Core.Path.{_≡_}
-use mathlib.Core.Bool.{Bool, _&&_}
+use mathlib.Core.Bool.{Bool}
 use mathlib.Core.List.{List, _++_}
 use Prim.Native.Nat.{ℕ, _+_, _*_, _≤_, _<_}
 use lib.ListN.{length, getD}
-use lib.Dec.{eqb}
 use Rattle.rules.specs.Meaning.{Item}
 use Rattle.rules.specs.Order.{stepOf}
 use Rattle.rules.proofs.PassedLaws.{seen}
@@ -30,10 +29,6 @@ pub record Certain (items : List Item) (s : List ℕ) (r : Found) : Type 0 where
   pub is : 0 < r .size → (rest : List ℕ) → foundAs r ≡ stepOf items (s ++ rest)
 
 -- ## Two walks
-
--- both stand between elements, with as many elements without a weight behind them
-abbrev pub levelWith : Walk → Walk → Bool
-levelWith x y = eqb (x .left) 0 && eqb (y .left) 0 && eqb (x .skipped) (y .skipped)
 
 -- Two strings are cut up to i and j into n and k elements, the last `skipped` of both without a weight, and so many entries agree.
 pub record Level (t a b as′ bs : List ℕ) (i j n k skipped agreed : ℕ) : Type 0 where

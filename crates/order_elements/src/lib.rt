@@ -9,7 +9,7 @@ ghost use Rattle.rules.specs.Table.{accepted, meaningIn};
 ghost use Rattle.rules.specs.Directory.{firstOf};
 ghost use Rattle.order_elements.specs.Cuts.{Ready, Cut, CutOne, Split};
 ghost use Rattle.order_elements.specs.Firsts.{fresh, Sound, entriesOn, entriesLeft, Gives, leadingAs, firstEntries, meeting, Meets, FirstCompared};
-ghost use Rattle.order_elements.specs.Commons.{Shared, Certain, levelWith, Level, Both, Together};
+ghost use Rattle.order_elements.specs.Commons.{Shared, Certain, Level, Both, Together};
 use base_units::Rank;
 use base_units::Sign;
 use order_entries::Entry;
@@ -345,19 +345,6 @@ fn both(
     }
 }
 
-// Whether two walks stand between elements, with as many elements without a weight behind them.
-fn level_with(x: Walk, y: Walk) -> bool
-    ensures { λ r. ⌜ r ≡ levelWith x y ⌝ }
-{
-    if x.left == 0 {
-        if y.left == 0 {
-            return x.skipped == y.skipped;
-        }
-        return false;
-    }
-    false
-}
-
 // Two walks that stand level go on over what both strings have in common; others stay where they are.
 fn together(
     t: &[u32],
@@ -376,7 +363,7 @@ fn together(
     requires { ⌜ agreed ≤ 32768 ⌝ }
     ensures { λ r. ⌜ Together (now (t .entry)) (now (a .entry)) (now (b .entry)) (now (first .exit)) (now (second .exit)) x y agreed r ⌝ }
 {
-    let level = level_with(x, y);
+    let level = order_entries::level_with(x.left, y.left, x.skipped, y.skipped);
     if level {
         let c = both(
             t,

@@ -1,6 +1,6 @@
 -- Two walks that stand level: an element that both go on with gives both the same entries, and leaves them level.
 use mathlib.Core.Path.{_≡_, refl, sym, ap, _∙_}
-use mathlib.Core.Bool.{Bool, true, false, cond}
+use mathlib.Core.Bool.{Bool, true, false, cond, _&&_}
 use mathlib.Core.List.{List, [], _∷_, _++_}
 use Prim.Native.Nat.{ℕ, suc, min, _+_, _-_, _≤_, _<_}
 use native.Mathlib.Numerals.{add-one}
@@ -17,27 +17,42 @@ use Rattle.rules.proofs.SignLaws.{orders-entry}
 use Rattle.rules.proofs.EntryLaws.{entries-length}
 use Rattle.rules.proofs.PassedLaws.{seen, seen-passed}
 use Rattle.table_layout.specs.Parts.{Within, Many}
-use Rattle.order_entries.specs.declared.Cursor.{Cursor}
 use Rattle.order_entries.specs.declared.Walks.{Walks}
 use Rattle.order_entries.specs.Walk.{directed, Level, entriesOn, entriesLeft, levelWith, atElements, skippedAfter, Walking, Onward}
 use Rattle.order_entries.proofs.WalkLaws.{weightsOn, on-element, left-none, element-within}
 
 -- ## The tests
 
--- where the first walk stands within an element, where the second does, and where neither does
-module _ (x y : Cursor) where
-  pub within-first : (x .left ≡ 0 → ⊥) → false ≡ levelWith x y
+-- that two walks stand level, taken apart
+pub record Abreast (m n skipped other : ℕ) : Type 0 where
+  pub first : m ≡ 0
+  pub second : n ≡ 0
+  pub as-many : skipped ≡ other
+
+module _ (m n skipped other : ℕ) where
+  pub abreast : levelWith m n skipped other ≡ true → Abreast m n skipped other
   unfolding levelWith
-  within-first h = rw (ne-eqb (x .left) 0 h)
+  abreast l =
+      let rest = and-right (eqb m 0) (eqb n 0 && eqb skipped other) l in
+      record {
+        first = eqb-true m 0 (and-left (eqb m 0) (eqb n 0 && eqb skipped other) l);
+        second = eqb-true n 0 (and-left (eqb n 0) (eqb skipped other) rest);
+        as-many = eqb-true skipped other (and-right (eqb n 0) (eqb skipped other) rest);
+      }
 
-  module _ (h : x .left ≡ 0) where
-    pub within-second : (y .left ≡ 0 → ⊥) → false ≡ levelWith x y
-    unfolding levelWith
-    within-second k = rw (eq-eqb (x .left) 0 h, ne-eqb (y .left) 0 k)
+  -- where the first walk stands within an element, where the second does, and where neither does
+  pub within-first : (m ≡ 0 → ⊥) → false ≡ levelWith m n skipped other
+  unfolding levelWith
+  within-first h = rw (ne-eqb m 0 h)
 
-    pub within-none : y .left ≡ 0 → eqb (x .skipped) (y .skipped) ≡ levelWith x y
+  module _ (h : m ≡ 0) where
+    pub within-second : (n ≡ 0 → ⊥) → false ≡ levelWith m n skipped other
     unfolding levelWith
-    within-none k = rw (eq-eqb (x .left) 0 h, eq-eqb (y .left) 0 k)
+    within-second k = rw (eq-eqb m 0 h, ne-eqb n 0 k)
+
+    pub within-none : n ≡ 0 → eqb skipped other ≡ levelWith m n skipped other
+    unfolding levelWith
+    within-none k = rw (eq-eqb m 0 h, eq-eqb n 0 k)
 
 module _ (n count : ℕ) where
   pub one-skipped : count ≡ 0 → n + 1 ≡ skippedAfter n count
@@ -47,8 +62,8 @@ module _ (n count : ℕ) where
   none-skipped h = rw (ne-eqb count 0 h)
 
 -- what the test answers, the walks are
-pub level-told : (x y : Cursor) {r : Bool} → r ≡ levelWith x y → r ≡ true → levelWith x y ≡ true
-level-told x y e h = sym e ∙ h
+pub level-told : (m n skipped other : ℕ) {r : Bool} → r ≡ levelWith m n skipped other → r ≡ true → levelWith m n skipped other ≡ true
+level-told m n skipped other e h = sym e ∙ h
 
 -- two walks that do not stand level stay where they are
 pub onward-none : {t a b : List ℕ} {level : ℕ} {rule : Rule} {w : Walks} → Walking t a b level rule w → Onward t a b level rule w w
@@ -107,24 +122,16 @@ pub record Alike (t a b : List ℕ) (level : ℕ) (rule : Rule) (i₀ j₀ skipp
   pub same : seen (entriesOn t a level rule i skipped) (entriesOn t b level rule j skipped) agreed
       ≡ seen (entriesOn t a level rule i₀ skipped₀) (entriesOn t b level rule j₀ skipped₀) agreed₀
 
-module _ (t a b : List ℕ) (level : ℕ) (rule : Rule) (w : Walks) (s : Walking t a b level rule w) (l : levelWith (w .x) (w .y) ≡ true) where
-  between-first : w .x .left ≡ 0
-  unfolding levelWith
-  between-first = eqb-true (w .x .left) 0 (and-left (eqb (w .x .left) 0) _ l)
-
-  between-second : w .y .left ≡ 0
-  unfolding levelWith
-  between-second = eqb-true (w .y .left) 0 (and-left (eqb (w .y .left) 0) _ (and-right (eqb (w .x .left) 0) _ l))
-
-  as-many : w .x .skipped ≡ w .y .skipped
-  unfolding levelWith
-  as-many = eqb-true (w .x .skipped) (w .y .skipped) (and-right (eqb (w .y .left) 0) _ (and-right (eqb (w .x .left) 0) _ l))
+module _ (t a b : List ℕ) (level : ℕ) (rule : Rule) (w : Walks) (s : Walking t a b level rule w)
+    (l : levelWith (w .x .left) (w .y .left) (w .x .skipped) (w .y .skipped) ≡ true) where
+  abreast-here : Abreast (w .x .left) (w .y .left) (w .x .skipped) (w .y .skipped)
+  abreast-here = abreast (w .x .left) (w .y .left) (w .x .skipped) (w .y .skipped) l
 
   first-left : entriesLeft t a level rule (w .x) ≡ entriesOn t a level rule (w .x .passed) (w .x .skipped)
-  first-left = left-none t a level rule (w .x) (omega (arith, between-first))
+  first-left = left-none t a level rule (w .x) (omega (arith, abreast-here .first))
 
   second-left : entriesLeft t b level rule (w .y) ≡ entriesOn t b level rule (w .y .passed) (w .x .skipped)
-  second-left = left-none t b level rule (w .y) (omega (arith, between-second)) ∙ rw as-many
+  second-left = left-none t b level rule (w .y) (omega (arith, abreast-here .second)) ∙ rw (abreast-here .as-many)
 
   pub alike-none : {n : ℕ} → n ≡ min (length a - w .x .passed) (length b - w .y .passed)
       → Alike t a b level rule (w .x .passed) (w .y .passed) (w .x .skipped) (w .agreed) (w .x .passed + n) (w .x .passed) (w .y .passed) (w .x .skipped) (w .agreed)
@@ -137,7 +144,7 @@ module _ (t a b : List ℕ) (level : ℕ) (rule : Rule) (w : Walks) (s : Walking
         end-first = omega (arith, s .first .passed);
         end-second = omega (arith, s .second .passed);
         skipped-first = s .first .skipped;
-        skipped-second = omega (arith, s .second .skipped, as-many);
+        skipped-second = omega (arith, s .second .skipped, abreast-here .as-many);
         few = rw (← first-left) (s .few);
         no-more = omega arith;
         same = refl;

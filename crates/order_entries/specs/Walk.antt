@@ -67,9 +67,9 @@ abbrev pub Gives : List ℕ → List ℕ → ℕ → Rule → List order.Entry �
 Gives t places level rule es (One e c) = First t places level rule es e c
 Gives t places level rule es End = es ≡ []
 
--- whether two walks stand between elements, with as many elements without a weight behind them
-unfoldable pub levelWith : Cursor → Cursor → Bool
-levelWith x y = eqb (x .left) 0 && (eqb (y .left) 0 && eqb (x .skipped) (y .skipped))
+-- whether two walks, with m and n weights of an element still to come, stand between elements with as many without a weight behind them
+unfoldable pub levelWith : ℕ → ℕ → ℕ → ℕ → Bool
+levelWith m n skipped other = eqb m 0 && (eqb n 0 && eqb skipped other)
 
 -- two walks that stand so, i and j elements passed
 abbrev pub atElements : ℕ → ℕ → ℕ → ℕ → Walks

@@ -168,13 +168,13 @@ pub fn order_of(x: Entry, y: Entry) -> Sign
     Sign::Equal
 }
 
-// Whether two walks stand between elements, with as many elements without a weight behind them.
-fn level_with(x: Cursor, y: Cursor) -> bool
-    ensures { λ r. ⌜ r ≡ levelWith x y ⌝ }
+// Whether two walks, with m and n weights of an element still to come, stand between elements with as many without a weight behind them.
+pub fn level_with(m: usize, n: usize, skipped: usize, other: usize) -> bool
+    ensures { λ r. ⌜ r ≡ levelWith m n skipped other ⌝ }
 {
-    if x.left == 0 {
-        if y.left == 0 {
-            return x.skipped == y.skipped;
+    if m == 0 {
+        if n == 0 {
+            return skipped == other;
         }
     }
     false
@@ -227,7 +227,7 @@ fn both(t: &[u32], a: &[u32], b: &[u32], level: usize, rule: Rule, w: Walks) -> 
     requires { ⌜ Level (now t) (now a) level ⌝ }
     requires { ⌜ Level (now t) (now b) level ⌝ }
     requires { ⌜ Walking (now t) (now a) (now b) level (ruleAs rule) w ⌝ }
-    requires { ⌜ levelWith (w .x) (w .y) ≡ true ⌝ }
+    requires { ⌜ levelWith (w .x .left) (w .y .left) (w .x .skipped) (w .y .skipped) ≡ true ⌝ }
     ensures { λ r. ⌜ Onward (now (t .entry)) (now (a .entry)) (now (b .entry)) level (ruleAs rule) w r ⌝ }
 {
     let x = w.x;
@@ -259,7 +259,7 @@ fn onward(t: &[u32], a: &[u32], b: &[u32], level: usize, rule: Rule, w: Walks) -
     requires { ⌜ Walking (now t) (now a) (now b) level (ruleAs rule) w ⌝ }
     ensures { λ r. ⌜ Onward (now (t .entry)) (now (a .entry)) (now (b .entry)) level (ruleAs rule) w r ⌝ }
 {
-    let even = level_with(w.x, w.y);
+    let even = level_with(w.x.left, w.y.left, w.x.skipped, w.y.skipped);
     if even {
         return both(t, a, b, level, rule, w);
     }

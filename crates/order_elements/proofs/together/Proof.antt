@@ -31,7 +31,7 @@ same-length-2 c = search needs
 returns : tie.Need-returns
 returns c =
     let s = c .before .before .before .before .before .before .before .before .before .before .before .before in
-    together-on (s .before .before .before .before .level-with .ensures) (s .before .before .before .if1 .taken) (s .both .ensures)
+    together-on _ _ (s .before .before .before .before .level-with .ensures) (s .before .before .before .if1 .taken) (s .both .ensures)
 
 returns-2 : tie.Need-returns-2
 returns-2 c = search together-stay
