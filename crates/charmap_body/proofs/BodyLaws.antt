@@ -11,7 +11,7 @@ use Rattle.rules.specs.Text.{every, _unless_}
 use Rattle.rules.specs.Tokens.{isText, Token, tokensOf, isEntry}
 use Rattle.rules.specs.Lines.{Chars, Scan}
 use Rattle.rules.specs.Charmap.{Given, Mapping, MapOutcome, leaves, mapEnded, entryLine, bodyLine, mapLinesFrom}
-use Rattle.rules.proofs.TextLaws.{within-low, within-high}
+use Rattle.rules.proofs.RefusalLaws.{Bounded, bounded-low, bounded-high, bounded-names}
 use Rattle.rules.proofs.RunLaws.{map-run-at, map-run-refused}
 use Rattle.base_units.specs.Numbers.{numberOf}
 use Rattle.base_units.specs.declared.Refusal.{Refusal}
@@ -30,7 +30,7 @@ use Rattle.charmap_body.specs.Outcomes.{Holds, Area, entryRefusal, newOf
 use Rattle.charmap_body.specs.Plain.{LineTo, BlankLine, EndLine, BadLine, PlainIs}
 use Rattle.charmap_body.specs.Body.{charsOf, inBody, lineAt, outcomeAt, Spans, LineGoes, LineRefused, BodyIs, OtherIs}
 use Rattle.charmap_body.proofs.OutcomeLaws.{entry-refusal, entry-mapping}
-use Rattle.charmap_body.proofs.BoundLaws.{Bounded, bounded-names, bounded-entry}
+use Rattle.charmap_body.proofs.BoundLaws.{bounded-entry}
 use Rattle.charmap_body.proofs.FirstLaws.{cons-some}
 
 -- ## A line that is no entry
@@ -131,9 +131,9 @@ module _ (g : Signs) (src : List ℕ) (at : ℕ) {p : Parts} {area after : List 
     body-bounds =
         let first = nameLeft g src (p .first) in
         let last = nameLeft g src (p .last) in
-        let names = subst Bounded names-told (bounded-names first last) in
-        let b = subst Bounded (w (a .given) (a .holds) .same) (bounded-entry (p .text) (p .refusal) first last (p .byte) (a .given) names) z in
-        (within-low 2 10 r b, within-high 2 10 r b)
+        let names = subst (Bounded 3 7) names-told (bounded-names (first ∷ last ∷ [])) in
+        let b = subst (Bounded 2 10) (w (a .given) (a .holds) .same) (bounded-entry (p .text) (p .refusal) first last (p .byte) (a .given) names) in
+        (bounded-low 2 10 r b z, bounded-high 2 10 r b z)
 
     pub body-refused : {n : ℕ} → n ≡ r → LineRefused g src at area after n
     body-refused e = record {

@@ -1,6 +1,6 @@
--- collating-element: what it does where it may stand, and its refusal.
+-- collating-element: what it does where it may stand.
 use mathlib.Core.Path.{_≡_, refl, sym, ap, _∙_, subst}
-use mathlib.Core.Bool.{Bool, true, false, not, _&&_, _||_, false≢true}
+use mathlib.Core.Bool.{Bool, true, false, not, _&&_, false≢true}
 use mathlib.Core.List.{List, [], _∷_, map}
 use Prim.Native.Nat.{ℕ, _+_, _/_, _%_, _≤_, _<_}
 use native.Mathlib.Omega.{arith}
@@ -8,17 +8,14 @@ use lib.ListN.{length}
 use lib.Dec.{eqb, leb}
 use borrow.Author.Tests.{eqb-true}
 use Rattle.base_lists.proofs.Bools.{by, clash, and-left, and-right}
-use Rattle.rules.specs.Text.{bytes, within, every, _unless_, lower, lowest}
+use Rattle.rules.specs.Text.{bytes, within, every, _unless_, lowest}
 use Rattle.rules.specs.Names.{codeOf, isCharName}
 use Rattle.rules.specs.Meaning.{Rule}
 use Rattle.rules.specs.Tokens.{Token, tokenAt, theName, operands, tokensRefusal}
-use Rattle.rules.specs.State.{beforeOrder, afterOrder, Chain, Declaration, element, named, OrderLine, State, withDeclared, Outcome}
+use Rattle.rules.specs.State.{Declaration, element, named, OrderLine, State, withDeclared, Outcome}
 use Rattle.rules.specs.Declarations.{elementFormed, elementLine}
 use Rattle.rules.specs.Source.{collateLine}
 use Rattle.rules.proofs.TextLaws.{lower-none, lowest-unless}
-use Rattle.base_units.specs.declared.Refusal.{Refusal}
-use Rattle.base_units.specs.declared.Refusal.the-variants.{BadByte}
-use Rattle.base_units.specs.Numbers.{numberOf}
 use Rattle.text_lines.specs.declared.Signs.{Signs}
 use Rattle.text_lines.specs.declared.Spot.{Spot}
 use Rattle.text_lines.specs.declared.LineEnd.{LineEnd}
@@ -26,7 +23,7 @@ use Rattle.text_tokens.specs.Left.{tokensLeft}
 use Rattle.work_subjects.specs.Keys.{Key, item, chars, keyAt, sameKey}
 use Rattle.work_subjects.specs.Numbers.{isDeclarable, kindOf}
 use Rattle.work_subjects.proofs.NumberLaws.{chars-declarable}
-use Rattle.work_store.specs.Store.{Decl, first, knownIn, isPlace, fresh, Holds, Sound}
+use Rattle.work_store.specs.Store.{Decl, first, knownIn, isPlace, fresh}
 use Rattle.work_store.specs.declared.Found.the-variants.{Nothing}
 use Rattle.work_store.proofs.ListLaws.{first-fresh-other, isPlace-older, place-below}
 use Rattle.work_rows.specs.Cells.{cell}
@@ -39,18 +36,16 @@ use Rattle.locale_sheet.proofs.NewLaws.{says-on, kind-name}
 use Rattle.locale_symbols.specs.Symbols.{isNewIn}
 use Rattle.locale_elements.specs.declared.Element.{Element}
 use Rattle.locale_elements.specs.declared.Element.the-variants as answer
-use Rattle.locale_elements.specs.Element.{elementRefusal, charsIn, DeclaresBoth, ElementAt, ElementNot, ElementIs}
+use Rattle.locale_elements.specs.Element.{elementRefusal, charsIn, DeclaresBoth, ElementAt, ElementIs}
 use Rattle.locale_elements.proofs.PaperLaws.{element-paper, element-misplaced}
 use Rattle.locale_opening.proofs.KeywordLaws.{at-element}
-use Rattle.locale_opening.proofs.OpenLaws.{with-text}
 use Rattle.locale_sheet.specs.declared.Sheet.{Sheet}
-use Rattle.locale_sheet.specs.declared.Step.the-variants.{Next, Refused}
-use Rattle.locale_sheet.specs.Sheets.{Open}
+use Rattle.locale_sheet.specs.declared.Step.the-variants.{Next}
 use Rattle.locale_sheet.proofs.OrderLaws.{open-declared}
 use Rattle.locale_declarations.specs.Worded.{Opened, Writes}
-use Rattle.locale_declarations.proofs.RefusalLaws.{Fair, fair-low, fair-element}
-use Rattle.locale_declarations.proofs.OpenedLaws.{line-moves, line-accepted, line-refused, line-foul}
-use Rattle.locale_declarations.proofs.SymbolLaws.{says-alike, first-none, new-unknown, first-declarable, positive, line-reaches}
+use Rattle.locale_declarations.proofs.RefusalLaws.{bounded-element}
+use Rattle.locale_declarations.proofs.OpenedLaws.{line-moves, line-accepted}
+use Rattle.locale_declarations.proofs.DeclaringLaws.{first-none, new-unknown, first-declarable, line-reaches, may, Declaring, line-fault}
 
 -- ## What is known after it
 
@@ -151,94 +146,55 @@ element-new ds os h =
 
 -- ## collating-element
 
--- the refusal of its operands
-module _ (g : Signs) (src : List ℕ) (p : Spot) (w w′ : List ℕ) (i : Sound (keyAt g src) (length src) w) (y : Element) (a : ElementIs g src p w w′ y) (r : ℕ) (z : y ≡ answer.Refused r) where
-  told : ElementNot g src p w r
-  told = subst (ElementIs g src p w w′) z a .0
-
-  fair : Fair r
-  fair = subst Fair (told .refusal .is (i .n) (i .ds) (i .holds)) (fair-element (i .ds) (operands (tokensLeft g src p)))
-
-  pub element-low : 2 ≤ r
-  element-low = fair-low r fair (positive r (told .some))
-
-  pub element-high : r ≤ 10
-  element-high = let h = fair .high in omega (arith, h)
+pub element-declaring : Declaring "collating-element" elementLine elementRefusal ElementIs answer.Refused
+element-declaring = record {
+  collate = λ s number os. at-element s number (bytes "collating-element") os refl;
+  paper = element-paper;
+  misplaced = element-misplaced;
+  bounded = bounded-element;
+  told = λ a. record { refusal = a .0 .refusal; some = a .0 .some };
+}
 
 module _ (g : Signs) (src : List ℕ) (at : ℕ) (p : Spot) (e : LineEnd) (l : Opened g src at p e "collating-element") where
   abbrev left : List Token
   left = operands (tokensLeft g src p)
 
-  element-fault : (s : State) (number : ℕ)
-      → lower (tokensRefusal left) (collateLine s number (bytes "collating-element") left .refusal) ≡ lower (tokensRefusal left) (elementLine s left .refusal)
-  element-fault s number = ap (λ (o : Outcome). lower (tokensRefusal left) (o .refusal)) (at-element s number (bytes "collating-element") left refl)
-
   element-state : (s : State) (number : ℕ)
       → collateLine s number (bytes "collating-element") left .state ≡ withDeclared s (element (theName (tokenAt left 0)) (charsIn left) ∷ s .declared)
   unfolding elementLine
-  element-state s number = ap (λ (o : Outcome). o .state) (at-element s number (bytes "collating-element") left refl)
+  element-state s number = ap (λ (o : Outcome). o .state) (element-declaring .collate s number left)
 
   -- its name stands behind the keyword
   element-behind : (v : ℕ) → p .at < v / 2 → at + 18 ≤ v / 2
   unfolding bytes
   element-behind v h = let a : 17 + at ≤ p .at = l .first .long in omega (arith, a, h)
 
-  module _ (w w′ : List ℕ) (sh : Sheet) where
-    -- where a declaration may stand
-    abbrev may : Bool
-    may = eqb (sh .phase) beforeOrder || eqb (sh .phase) afterOrder
-
-    pub element-misplaced-step : {x : Refusal} → numberOf x ≡ lower (2 unless e .text) 3 → {t : Bool} → t ≡ may → t ≡ false → Writes g src w sh at w′ (Refused x)
-    element-misplaced-step b z n =
+  module _ (w w′ : List ℕ) (sh : Sheet) {t : Bool} (j : t ≡ may sh) (f : t ≡ true) (x : e .text ≡ true) {y : Element} (a : ElementIs g src p w w′ y) where
+    pub element-done : {v q : ℕ} → y ≡ answer.Declared v q → Writes g src w sh at w′ (Next sh (e .next) (e .feeds))
+    element-done {v} {q} z =
+        let b : ElementAt g src p w v q = subst (ElementIs g src p w w′) z a .0 in
+        let c : DeclaresBoth (keyAt g src) (length src) w v q w′ = subst (ElementIs g src p w w′) z a .1 in
+        let m = theName (tokenAt left 0) in
+        let declares : may sh ≡ true = sym j ∙ f in
+        let xs = charsIn left in
+        let far = element-behind v (b .mark .behind) in
         record {
-          is = λ number depth. line-refused l w sh number depth b (λ cs s o d u.
-              element-fault s number ∙ element-misplaced s left (rw (o .phase) (sym z ∙ n)));
+          is = λ number depth. record {
+            moves = line-moves l;
+            leaves = λ cs s o d u.
+                let k = o .known in
+                let n = element-new (k .ds) left (b .refusal .is (o .n) (k .ds) (k .holds)) in
+                let rows : o .n ≤ (at + 5) / 8 = rw declares at (o .rows (l .first .inside)) in
+                record {
+                  after = withDeclared s (element m xs ∷ s .declared);
+                  outcome = line-accepted l w sh number o u x (line-fault element-declaring g src at p e l w sh declares (b .refusal) number o) (element-state s number);
+                  held = open-declared g src w sh cs at s o (l .first .inside) (e .next) w′ (q / 16 + 1) (element m xs ∷ s .declared) declares (let i = line-moves l .on in omega (arith, i))
+                      (known-element-new g src w (sh .order) (s .ordered .rules) (o .n) (s .declared) (s .ordered .lines) k v q w′ c
+                      (omega (arith, rows, far)) (b .quotes .later) (b .quotes .within) (let y = b .mark .behind in omega (arith, y)) m xs (b .mark .key) (b .quotes .key) (b .quotes .odd)
+                      (n .fit) (n .fits) (first-none (item (named m)) (k .ds) (n .name)) (first-none (chars xs) (k .ds) (n .quotes)))
+                      (c .long)
+                      (element-older g src w (sh .order) (s .ordered .rules) (o .n) (s .declared) (s .ordered .lines) k v q w′ c
+                      (omega (arith, rows, far)) (b .quotes .later) (b .quotes .within)) (c .beyond) (λ h. let r = line-reaches l (b .quotes .room) h in omega (arith, r));
+                };
+          };
         }
-
-    pub element-foul : e .text ≡ false → Writes g src w sh at w′ (Refused BadByte)
-    element-foul x = record { is = λ number depth. line-foul l w sh number depth x }
-
-    module _ {t : Bool} (m : t ≡ may) (f : t ≡ true) (x : e .text ≡ true) where
-      declares : may ≡ true
-      declares = sym m ∙ f
-
-      paper : {r : ℕ} → ((n : ℕ) (ds : List Decl) → Holds (keyAt g src) (length src) w n ds → elementRefusal ds left ≡ r)
-          → {cs : List Chain} {s : State} (number : ℕ) → Open g src w sh cs at s
-          → lower (tokensRefusal left) (collateLine s number (bytes "collating-element") left .refusal) ≡ r
-      paper h {s = s} number o =
-          let k = o .known in
-          element-fault s number ∙ sym (element-paper s left (k .ds) (says-alike (k .says)) (rw (o .phase) declares)) ∙ h (o .n) (k .ds) (k .holds)
-
-      module _ {y : Element} (a : ElementIs g src p w w′ y) where
-        pub element-refused-step : {r : ℕ} {v : Refusal} → y ≡ answer.Refused r → numberOf v ≡ r → Writes g src w sh at w′ (Refused v)
-        element-refused-step {r} z c =
-            let b : ElementNot g src p w r = subst (ElementIs g src p w w′) z a .0 in
-            record { is = λ number depth. line-refused l w sh number depth (with-text (e .text) r c x) (λ cs s o d u. paper (b .refusal .is) number o) }
-
-        pub element-done : {v q : ℕ} → y ≡ answer.Declared v q → Writes g src w sh at w′ (Next sh (e .next) (e .feeds))
-        element-done {v} {q} z =
-            let b : ElementAt g src p w v q = subst (ElementIs g src p w w′) z a .0 in
-            let c : DeclaresBoth (keyAt g src) (length src) w v q w′ = subst (ElementIs g src p w w′) z a .1 in
-            let m = theName (tokenAt left 0) in
-            let xs = charsIn left in
-            let far = element-behind v (b .mark .behind) in
-            record {
-              is = λ number depth. record {
-                moves = line-moves l;
-                leaves = λ cs s o d u.
-                    let k = o .known in
-                    let n = element-new (k .ds) left (b .refusal .is (o .n) (k .ds) (k .holds)) in
-                    let rows : o .n ≤ (at + 5) / 8 = rw declares at (o .rows (l .first .inside)) in
-                    record {
-                      after = withDeclared s (element m xs ∷ s .declared);
-                      outcome = line-accepted l w sh number o u x (paper (b .refusal .is) number o) (element-state s number);
-                      held = open-declared g src w sh cs at s o (l .first .inside) (e .next) w′ (q / 16 + 1) (element m xs ∷ s .declared) declares (let i = line-moves l .on in omega (arith, i))
-                          (known-element-new g src w (sh .order) (s .ordered .rules) (o .n) (s .declared) (s .ordered .lines) k v q w′ c
-                          (omega (arith, rows, far)) (b .quotes .later) (b .quotes .within) (let y = b .mark .behind in omega (arith, y)) m xs (b .mark .key) (b .quotes .key) (b .quotes .odd)
-                          (n .fit) (n .fits) (first-none (item (named m)) (k .ds) (n .name)) (first-none (chars xs) (k .ds) (n .quotes)))
-                          (c .long)
-                          (element-older g src w (sh .order) (s .ordered .rules) (o .n) (s .declared) (s .ordered .lines) k v q w′ c
-                          (omega (arith, rows, far)) (b .quotes .later) (b .quotes .within)) (c .beyond) (λ h. let r = line-reaches l (b .quotes .room) h in omega (arith, r));
-                    };
-              };
-            }

@@ -3,6 +3,7 @@ pub mod RefusalLaws
 pub mod OpenedLaws
 pub mod EndLaws
 pub mod StartLaws
+pub mod DeclaringLaws
 pub mod SymbolLaws
 pub mod ElementLaws
 pub mod DispatchLaws

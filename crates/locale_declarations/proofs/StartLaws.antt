@@ -11,6 +11,7 @@ use Rattle.rules.specs.Tokens.{Token, operands, tokensRefusal}
 use Rattle.rules.specs.State.{inOrder, State, withOrdered, toPhase, Outcome}
 use Rattle.rules.specs.OrderLines.{ruleOf, ruleCodes, orderStartLine}
 use Rattle.rules.specs.Source.{collateLine}
+use Rattle.rules.proofs.RefusalLaws.{Bounded, bounded-low, bounded-high}
 use Rattle.base_units.specs.declared.Refusal.{Refusal}
 use Rattle.base_units.specs.declared.Refusal.the-variants.{BadByte}
 use Rattle.base_units.specs.Numbers.{numberOf}
@@ -30,7 +31,7 @@ use Rattle.locale_sheet.specs.Sheets.{rulesAt}
 use Rattle.locale_sheet.proofs.SheetLaws.{spot-behind}
 use Rattle.locale_sheet.proofs.OrderLaws.{open-ordered}
 use Rattle.locale_declarations.specs.Worded.{Opened, Still}
-use Rattle.locale_declarations.proofs.RefusalLaws.{Fair, fair-low, fair-start}
+use Rattle.locale_declarations.proofs.RefusalLaws.{bounded-start}
 use Rattle.locale_declarations.proofs.OpenedLaws.{line-moves, line-accepted, line-refused, line-foul}
 
 -- the refusal of its operands
@@ -38,14 +39,17 @@ module _ (os : List Token) (v : Levels) (k : LevelsIs os v) (m : ℕ) (i : v ≡
   told : LevelsRefused os m
   told = subst (LevelsIs os) i k
 
-  fair : Fair m
-  fair = subst Fair (told .refusal) (fair-start os)
+  bounded : Bounded 3 7 m
+  bounded = subst (Bounded 3 7) (told .refusal) (bounded-start os)
+
+  some : m ≡ 0 → ⊥
+  some z = let h = told .some in omega (arith, h, z)
 
   pub start-low : 2 ≤ m
-  start-low = fair-low m fair (told .some)
+  start-low = let h = bounded-low 3 7 m bounded some in omega (arith, h)
 
   pub start-high : m ≤ 7
-  start-high = fair .high
+  start-high = bounded-high 3 7 m bounded some
 
 module _ {g : Signs} {src : List ℕ} {at : ℕ} {p : Spot} {e : LineEnd} (l : Opened g src at p e "order_start") where
   abbrev left : List Token

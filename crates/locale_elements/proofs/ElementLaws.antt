@@ -20,7 +20,8 @@ use Rattle.text_lines.specs.declared.Signs.{Signs}
 use Rattle.text_lines.specs.declared.Spot.{Spot}
 use Rattle.text_lines.specs.Stream.{marksLeft}
 use Rattle.text_tokens.specs.Left.{namesIn}
-use Rattle.text_tokens.proofs.RefusalLaws.{Late, late-lowest, late-unless, refusal-later}
+use Rattle.rules.proofs.RefusalLaws.{Bounded, bounded-lowest, bounded-unless}
+use Rattle.text_tokens.proofs.RefusalLaws.{refusal-later}
 use Rattle.text_operands.specs.Operand.{operandsLeft}
 use Rattle.text_names.specs.Named.{nameLeft}
 use Rattle.work_subjects.specs.Keys.{item, chars, keyAt}
@@ -45,19 +46,19 @@ refusal-parts : (ds : List Decl) (os : List Token)
 unfolding elementRefusal elementFault lowest
 refusal-parts ds os = refl
 
-late-fault : (ds : List Decl) (n : List ℕ) (ns : List (List ℕ)) → Late (elementFault ds n ns)
+bounded-fault : (ds : List Decl) (n : List ℕ) (ns : List (List ℕ)) → Bounded 3 7 (elementFault ds n ns)
 unfolding elementFault
-late-fault ds n ns =
+bounded-fault ds n ns =
     let a = isNewIn ds n && not (every isCharName ns && knownIn (chars (map codeOf ns)) ds) in
     let b = every isCharName ns in
     let c = within 2 4 (length (map codeOf ns)) in
-    late-lowest (5 unless a ∷ 6 unless b ∷ 7 unless c ∷ []) (late-unless 5 a (omega arith), (late-unless 6 b (omega arith), (late-unless 7 c (omega arith), tt)))
+    bounded-lowest 3 7 (5 unless a ∷ 6 unless b ∷ 7 unless c ∷ []) (bounded-unless 3 7 5 a refl, (bounded-unless 3 7 6 b refl, (bounded-unless 3 7 7 c refl, tt)))
 
 -- operands of another form
 refusal-unfit : (ds : List Decl) (os : List Token) → Unfit os (elementFormed os) → elementRefusal ds os ≡ 3
 refusal-unfit ds os u =
     refusal-parts ds os
-    ∙ unfit-three os (elementFormed os) (elementFault ds (theName (tokenAt os 0)) (tokenAt os 2 .names)) (late-fault ds (theName (tokenAt os 0)) (tokenAt os 2 .names)) u
+    ∙ unfit-three os (elementFormed os) (elementFault ds (theName (tokenAt os 0)) (tokenAt os 2 .names)) (bounded-fault ds (theName (tokenAt os 0)) (tokenAt os 2 .names)) u
 
 not-three : (g : Signs) (src : List ℕ) (p : Spot) (w : List ℕ) → Unfit (operandsAfter g src p) (elementFormed (operandsAfter g src p)) → ElementNot g src p w 3
 not-three g src p w u = record { refusal = record { is = λ n ds o. refusal-unfit ds (operandsAfter g src p) u }; some = λ e. omega arith }

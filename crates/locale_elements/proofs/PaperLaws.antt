@@ -4,14 +4,13 @@ use mathlib.Core.Path.{_≡_, refl}
 use mathlib.Core.Logic.{inr}
 use mathlib.Core.Bool.{true, false, not, _&&_}
 use mathlib.Core.List.{List, [], _∷_, map}
-use native.Mathlib.Omega.{arith}
 use lib.ListN.{length}
 use Rattle.rules.specs.Text.{within, every, oneOf, _unless_, lower, lowest}
 use Rattle.rules.specs.Names.{codeOf, isCharName}
 use Rattle.rules.specs.Tokens.{Token, tokenAt, theName, tokensRefusal}
 use Rattle.rules.specs.State.{State}
 use Rattle.rules.specs.Declarations.{declaresChars, isNew, mayDeclare, elementLine}
-use Rattle.text_tokens.proofs.RefusalLaws.{late-lowest, late-unless}
+use Rattle.rules.proofs.RefusalLaws.{bounded-lowest, bounded-unless}
 use Rattle.work_store.specs.Store.{Decl}
 use Rattle.locale_symbols.specs.Symbols.{Alike}
 use Rattle.locale_symbols.proofs.LateLaws.{unfit-three}
@@ -36,5 +35,5 @@ module _ (s : State) (os : List Token) where
       let c = within 2 4 (length (map codeOf ns)) in
       rw p
       (unfit-three os false (lowest (5 unless a ∷ 6 unless b ∷ 7 unless c ∷ []))
-      (late-lowest (5 unless a ∷ 6 unless b ∷ 7 unless c ∷ []) (late-unless 5 a (omega arith), (late-unless 6 b (omega arith), (late-unless 7 c (omega arith), tt))))
+      (bounded-lowest 3 7 (5 unless a ∷ 6 unless b ∷ 7 unless c ∷ []) (bounded-unless 3 7 5 a refl, (bounded-unless 3 7 6 b refl, (bounded-unless 3 7 7 c refl, tt))))
       (inr refl))

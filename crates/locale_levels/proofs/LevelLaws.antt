@@ -13,21 +13,21 @@ use Rattle.rules.specs.Tokens.{broken, Token, token, operands, tokensRefusal}
 use Rattle.rules.specs.State.{beforeOrder, inOrder, State, withOrdered, inPhase, toPhase}
 use Rattle.rules.specs.OrderLines.{splitAt, ruleCode, ruleOf, ruleCodes, rulesFormed, orderStartLine}
 use Rattle.rules.proofs.TextLaws.{lower-none, unless-none}
+use Rattle.rules.proofs.RefusalLaws.{bounded-tokens}
 use Rattle.text_lines.specs.declared.Signs.{Signs}
 use Rattle.text_lines.specs.declared.Spot.{Spot}
 use Rattle.text_tokens.specs.Left.{tokensLeft}
-use Rattle.text_tokens.proofs.RefusalLaws.{lower-none-left, lower-none-right, lower-assoc, refusal-broken}
+use Rattle.text_tokens.proofs.RefusalLaws.{lower-none-left, lower-none-right, lower-assoc, three-right, refusal-broken}
 use Rattle.text_operands.specs.declared.After.{After}
 use Rattle.text_operands.specs.declared.After.the-variants as after
 use Rattle.text_operands.specs.Operand.{operandsLeft, OperandsFrom, AfterIs}
-use Rattle.text_operands.proofs.LineLaws.{refusal-known}
 use Rattle.locale_levels.specs.declared.Tally.{Tally}
 use Rattle.locale_levels.specs.declared.Tally.the-variants as tally
 use Rattle.locale_levels.specs.declared.Levels.{Levels}
 use Rattle.locale_levels.specs.declared.Levels.the-variants as levels
 use Rattle.locale_levels.specs.Rules.{codesLeft, malformed}
 use Rattle.locale_levels.specs.Levels.{Counts, TallyIs, countRefusal, JudgedIs, startRefusal, LevelsAre, LevelsRefused, LevelsIs}
-use Rattle.locale_levels.proofs.RuleLaws.{malformed-tokens, three-second}
+use Rattle.locale_levels.proofs.RuleLaws.{malformed-tokens}
 
 -- ## The refusal, part by part
 
@@ -133,7 +133,7 @@ unfolding orderStartLine lowest
 start-elsewhere s os h =
     let a = every (leb 1) (ruleCodes os) in
     let b = leb (length (ruleCodes os)) 8 in
-    rw (h, three-all a b) (three-second (tokensRefusal os) (refusal-known os))
+    rw (h, three-all a b) (three-right (tokensRefusal os) (bounded-tokens os))
 
 -- the state that it gives
 pub start-state : (s : State) (os : List Token)

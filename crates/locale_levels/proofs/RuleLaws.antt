@@ -1,6 +1,5 @@
 -- One rule, read token by token up to the `;` that follows it or to the end.
 use mathlib.Core.Path.{_≡_, refl, sym, ap, _∙_, subst}
-use mathlib.Core.Logic.{inl, inr}
 use mathlib.Core.Bool.{Bool, true, false, not, _&&_}
 use mathlib.Core.List.{List, [], _∷_, _++_, map}
 use Prim.Native.Nat.{ℕ, _-_, _≤_, _<_}
@@ -13,16 +12,16 @@ use Rattle.rules.specs.Text.{lower}
 use Rattle.rules.specs.Lines.{inPlain}
 use Rattle.rules.specs.Tokens.{semi, broken, quote, Token, isSolid, tokensRefusal}
 use Rattle.rules.specs.OrderLines.{splitAt, ruleCode, rulesFormed}
+use Rattle.rules.proofs.RefusalLaws.{bounded-tokens}
 use Rattle.text_lines.specs.declared.Signs.{Signs}
 use Rattle.text_lines.specs.declared.Spot.{Spot}
 use Rattle.text_tokens.specs.declared.Tok.{Tok}
 use Rattle.text_tokens.specs.Left.{tokenThere, TokenIs}
-use Rattle.text_tokens.proofs.RefusalLaws.{refusal-later}
+use Rattle.text_tokens.proofs.RefusalLaws.{three-right, refusal-later}
 use Rattle.text_operands.specs.declared.Operand.{Operand}
 use Rattle.text_operands.specs.declared.Operand.the-variants as operand
 use Rattle.text_operands.specs.Operand.{operandsLeft, OperandAt, OperandIs}
 use Rattle.text_operands.proofs.AfterLaws.{next-less}
-use Rattle.text_operands.proofs.LineLaws.{Known, refusal-known}
 use Rattle.locale_levels.specs.Rules.{symbolOf, joinedTo, codeOf, codesLeft, malformed, RuleMore, RuleLast}
 use Rattle.locale_levels.proofs.MachineLaws.{stateOf, state-snoc, code-state}
 
@@ -62,15 +61,9 @@ pub malformed-tokens : (ts : List Token) → tokensRefusal ts ≡ 3 → malforme
 unfolding malformed lower
 malformed-tokens ts e = rw e (by (rulesFormed false ts) (λ h. rw h) (λ h. rw h))
 
-pub three-second : (r : ℕ) → Known r → lower r 3 ≡ 3
-unfolding lower
-three-second r (inl e) = rw e
-three-second r (inr (inl e)) = rw e
-three-second r (inr (inr e)) = rw e
-
 pub malformed-formed : (ts : List Token) → rulesFormed false ts ≡ false → malformed ts ≡ 3
 unfolding malformed
-malformed-formed ts e = rw e (three-second (tokensRefusal ts) (refusal-known ts))
+malformed-formed ts e = rw e (three-right (tokensRefusal ts) (bounded-tokens ts))
 
 -- ## The turns
 

@@ -19,7 +19,7 @@ use Rattle.text_lines.specs.declared.Signs.{Signs}
 use Rattle.text_lines.specs.declared.Spot.{Spot}
 use Rattle.text_lines.specs.declared.LineEnd.{LineEnd}
 use Rattle.text_tokens.specs.Left.{tokensLeft}
-use Rattle.text_tokens.proofs.RefusalLaws.{late-lowest, late-unless}
+use Rattle.rules.proofs.RefusalLaws.{Bounded, bounded-lowest, bounded-unless, bounded-low, bounded-high}
 use Rattle.locale_opening.proofs.KeywordLaws.{at-reorder-after}
 use Rattle.locale_symbols.proofs.LateLaws.{unfit-three}
 use Rattle.locale_sheet.specs.declared.Sheet.{Sheet}
@@ -27,9 +27,8 @@ use Rattle.locale_sheet.specs.declared.Step.the-variants.{Next, Refused}
 use Rattle.locale_sheet.specs.Sheets.{Open, SomeOpen}
 use Rattle.locale_sheet.proofs.BlockLaws.{open-block}
 use Rattle.locale_declarations.specs.Worded.{Opened, Writes}
-use Rattle.locale_declarations.proofs.RefusalLaws.{Fair, fair-lower, fair-lowest, fair-unless, fair-tokens, fair-low}
+use Rattle.locale_declarations.proofs.RefusalLaws.{bounded-operands}
 use Rattle.locale_declarations.proofs.OpenedLaws.{line-moves, line-accepted, line-refused, line-foul}
-use Rattle.locale_declarations.proofs.SymbolLaws.{positive}
 use Rattle.locale_moves.specs.declared.Named.{Named}
 use Rattle.locale_moves.specs.declared.Named.the-variants as answer
 use Rattle.locale_moves.specs.Named.{Holding, subjectNamed, afterRefusal, NamedAt, NamedNot, NamedIs}
@@ -48,16 +47,14 @@ module _ (s : State) (os : List Token) where
   unfolding reorderAfterLine lowest
   after-elsewhere p =
       let b = leb 1 (rankOf (s .ordered .lines) (subjectNamed os)) in
-      rw p (unfit-three os false (lowest (6 unless b ∷ [])) (late-lowest (6 unless b ∷ []) (late-unless 6 b (omega arith), tt)) (inr refl))
+      rw p (unfit-three os false (lowest (6 unless b ∷ [])) (bounded-lowest 3 7 (6 unless b ∷ []) (bounded-unless 3 7 6 b refl, tt)) (inr refl))
 
-fair-after : (ls : List OrderLine) (os : List Token) → Fair (afterRefusal ls os)
+bounded-after : (ls : List OrderLine) (os : List Token) → Bounded 3 7 (afterRefusal ls os)
 unfolding afterRefusal
-fair-after ls os =
+bounded-after ls os =
     let formed = single name os in
     let there = leb 1 (rankOf ls (subjectNamed os)) in
-    let rs = 3 unless formed ∷ 6 unless there ∷ [] in
-    fair-lower (tokensRefusal os) (lowest rs) (fair-tokens os)
-    (fair-lowest rs (fair-unless 3 formed (omega arith) (omega arith), (fair-unless 6 there (omega arith) (omega arith), tt)))
+    bounded-operands os (3 unless formed ∷ 6 unless there ∷ []) (bounded-unless 3 7 3 formed refl, (bounded-unless 3 7 6 there refl, tt))
 
 -- ## What is held
 
@@ -77,14 +74,14 @@ module _ (g : Signs) (src w : List ℕ) (os : List Token) (i : Holding g src w) 
   told : NamedNot g src w os r
   told = subst (NamedIs g src w os) z k
 
-  fair : Fair r
-  fair = subst Fair (told .refusal (i .order) (i .rules) (i .n) (i .declared) (i .ordered) (i .known)) (fair-after (i .ordered) os)
+  bounded : Bounded 3 7 r
+  bounded = subst (Bounded 3 7) (told .refusal (i .order) (i .rules) (i .n) (i .declared) (i .ordered) (i .known)) (bounded-after (i .ordered) os)
 
   pub after-low : 2 ≤ r
-  after-low = fair-low r fair (positive r (told .some))
+  after-low = let h = bounded-low 3 7 r bounded (told .some) in omega (arith, h)
 
   pub after-high : r ≤ 7
-  after-high = fair .high
+  after-high = bounded-high 3 7 r bounded (told .some)
 
 -- ## The step
 

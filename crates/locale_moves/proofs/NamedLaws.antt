@@ -19,7 +19,8 @@ use Rattle.rules.proofs.TextLaws.{lower-none}
 use Rattle.text_lines.specs.declared.Signs.{Signs}
 use Rattle.text_lines.specs.declared.Spot.{Spot}
 use Rattle.text_tokens.specs.Left.{isInside}
-use Rattle.text_tokens.proofs.RefusalLaws.{lower-none-right, late-lowest, late-unless}
+use Rattle.rules.proofs.RefusalLaws.{bounded-lowest, bounded-unless}
+use Rattle.text_tokens.proofs.RefusalLaws.{lower-none-right}
 use Rattle.text_operands.specs.Operand.{operandsLeft}
 use Rattle.text_operands.proofs.ListLaws.{single-more}
 use Rattle.text_names.specs.Named.{nameLeft}
@@ -145,7 +146,7 @@ refusal-unfit : (ls : List OrderLine) (os : List Token) → Unfit os (single nam
 unfolding afterRefusal lowest
 refusal-unfit ls os u =
     let b = leb 1 (rankOf ls (subjectNamed os)) in
-    unfit-three os (single name os) (lowest (6 unless b ∷ [])) (late-lowest (6 unless b ∷ []) (late-unless 6 b (omega arith), tt)) u
+    unfit-three os (single name os) (lowest (6 unless b ∷ [])) (bounded-lowest 3 7 (6 unless b ∷ []) (bounded-unless 3 7 6 b refl, tt)) u
 
 refusal-single : (ls : List OrderLine) (os : List Token) (b : Bool) → single name os ≡ true → leb 1 (rankOf ls (subjectNamed os)) ≡ b
     → afterRefusal ls os ≡ lower (tokensRefusal os) (6 unless b)

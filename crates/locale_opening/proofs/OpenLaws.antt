@@ -6,8 +6,7 @@ use Prim.Native.Nat.{ℕ, _≤_, _<_}
 use native.Mathlib.Omega.{arith}
 use lib.ListN.{length, getD}
 use lib.Seq.{drop-cons}
-use lib.Dec.{ltb}
-use borrow.Author.Tests.{ne-eqb, ltb-false}
+use borrow.Author.Tests.{ne-eqb}
 use Rattle.base_lists.proofs.Bools.{by, cond-both}
 use Rattle.rules.specs.Text.{_unless_, lower}
 use Rattle.rules.specs.Names.{nameRefusal}
@@ -17,6 +16,7 @@ use Rattle.rules.specs.Tokens.{word, name, Token, token, withoutBlanks, tokensO
 use Rattle.rules.specs.State.{Outcome, gives}
 use Rattle.rules.specs.Source.{tokenLine}
 use Rattle.rules.proofs.TextLaws.{every-head}
+use Rattle.rules.proofs.RefusalLaws.{lower-keeps}
 use Rattle.rules.proofs.RunLaws.{scan-size}
 use Rattle.text_lines.specs.declared.Signs.{Signs}
 use Rattle.text_lines.specs.declared.Spot.{Spot}
@@ -41,22 +41,27 @@ use Rattle.locale_opening.proofs.CollateLaws.{line-word, line-name, lin
 -- ## A byte that is no text, and another refusal
 
 module _ (t : Bool) (r : ℕ) where
-  pub with-text : {x : ℕ} → x ≡ r → t ≡ true → x ≡ lower (2 unless t) r
-  with-text e h = rw h (e ∙ sym (lower-none-left r))
+  pub with-text : t ≡ true → r ≡ lower (2 unless t) r
+  with-text h = rw h (sym (lower-none-left r))
 
-  pub with-foul : 2 ≤ r → t ≡ false → 2 ≡ lower (2 unless t) r
-  unfolding lower
-  with-foul l h =
-      let some = ne-eqb r 0 (λ e. omega (arith, e, l)) in
-      by (ltb 2 r) (λ u. rw (h, some, u)) (λ u. let k = ltb-false 2 r u in rw (h, some, u) (omega (arith, k, l)))
+  pub with-foul : {x : ℕ} → x ≡ lower 2 r → t ≡ false → x ≡ lower (2 unless t) r
+  with-foul e h = rw h e
+
+  -- where r is the refusal of a source, so is that
+  pub with-within : {x : ℕ} → x ≡ lower (2 unless t) r → (2 ≤ r) × (r ≤ 7) → (2 ≤ x) × (x ≤ 10)
+  with-within e h =
+      let P : ℕ → Type 0 = λ y. (2 ≤ y) × (y ≤ 10) in
+      let k : P r = (h .0, let l = h .1 in omega (arith, l)) in
+      subst P (sym e) (by t (λ u. rw (u, lower-none-left r) k) (λ u. rw u (lower-keeps P 2 r (omega arith, omega arith) k)))
 
 -- a malformed line
 module _ (t : Bool) where
   pub three-text : t ≡ true → 3 ≡ lower (2 unless t) 3
-  three-text h = with-text t 3 refl h
+  three-text h = with-text t 3 h
 
   pub three-foul : t ≡ false → 2 ≡ lower (2 unless t) 3
-  three-foul h = with-foul t 3 (omega arith) h
+  unfolding lower
+  three-foul h = with-foul t 3 refl h
 
 -- ## A line takes a byte more
 

@@ -19,6 +19,7 @@ use text_tokens::NAME;
 use text_tokens::Next;
 use text_tokens::Tok;
 use text_tokens::WORD;
+use text_tokens::lower_of;
 use text_tokens::next_token;
 use text_tokens::skip_gaps;
 use text_tokens::word_is;
@@ -116,15 +117,23 @@ pub enum Opening {
     Name(Spot, Tok, LineEnd),
 }
 
-// The refusal of a line: that of a byte of it that is no text, else r.
+// The number of a line's refusal, 0 for none: that of a byte of it that is no text, else r.
+pub fn line_refusal(text: bool, r: u8) -> u8
+    ensures { λ x. ⌜ x ≡ lower (2 unless text) r ⌝ }
+{
+    if text {
+        return r;
+    }
+    lower_of(2, r)
+}
+
+// The same as a refusal, where r is one.
 pub fn refusal_with(text: bool, r: u8) -> Refusal
     requires { ⌜ (2 ≤ r) × (r ≤ 7) ⌝ }
     ensures { λ x. ⌜ numberOf x ≡ lower (2 unless text) r ⌝ }
 {
-    if text {
-        return refusal_of(r);
-    }
-    Refusal::BadByte
+    let x = line_refusal(text, r);
+    refusal_of(x)
 }
 
 // The same of a line that is malformed or misplaced.

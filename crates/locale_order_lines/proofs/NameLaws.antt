@@ -14,6 +14,8 @@ use Rattle.rules.specs.Lines.{inPlain, inName}
 use Rattle.rules.specs.Tokens.{tokensRefusal}
 use Rattle.rules.specs.State.{Declaration, character, Chain, State, gives}
 use Rattle.rules.specs.OrderLines.{subjectOf, stands, orderLine}
+use Rattle.rules.proofs.TextLaws.{lower-none}
+use Rattle.rules.proofs.RefusalLaws.{Bounded, bounded-lower, bounded-low, bounded-high, bounded-tokens}
 use Rattle.text_lines.specs.declared.Signs.{Signs}
 use Rattle.text_lines.specs.declared.Spot.{Spot}
 use Rattle.text_lines.specs.declared.LineEnd.{LineEnd}
@@ -49,7 +51,7 @@ use Rattle.locale_order_lines.specs.Lines.{Reads}
 use Rattle.locale_sheet.proofs.SheetLaws.{spot-behind}
 use Rattle.locale_order_lines.proofs.FactLaws.{mark-found, mark-is, facts-name}
 use Rattle.locale_order_lines.proofs.AgainLaws.{again-is}
-use Rattle.locale_order_lines.proofs.RangeLaws.{Ranged, ranged-low, ranged-high, ranged-lower, ranged-unless, ranged-tokens, ranged-order, lower-left-zero, lower-right-zero, Taken}
+use Rattle.locale_order_lines.proofs.RangeLaws.{bounded-line, bounded-order, Taken}
 use Rattle.locale_order_lines.proofs.StepLaws.{phase-of, line-taken, line-listed, Placed, placed-ready}
 
 -- ## Names
@@ -122,15 +124,15 @@ module _ (g : Signs) (src : List ℕ) (at : ℕ) (t : Tok) (e : LineEnd) (l : Na
       refusal-is cs s o =
           sym (b ∙ ap (lower (2 unless e .text)) (a ∙ ap (lower (t .refusal)) (v .is (subjectIn g src t) facts second cs at s number o)))
 
-      ranged : {depth : ℕ} → SomeOpen g src w sh at depth → Ranged y
-      ranged so =
+      bounded : {depth : ℕ} → SomeOpen g src w sh at depth → Bounded 2 7 y
+      bounded so =
           let s = so .state in
           let c = orderLine s number (subjectIn g src t) (operandsFrom g src (t .next)) .refusal in
           let d = tokensRefusal (operandsFrom g src (t .next)) in
-          subst Ranged (refusal-is (so .chains) s (so .held))
-          (ranged-lower (2 unless e .text) (lower (t .refusal) (lower d c)) (ranged-unless 2 (e .text) (omega arith) (omega arith))
-          (ranged-lower (t .refusal) (lower d c) (subst Ranged (l .token .refusal) (ranged-tokens (tokenThere g src (l .start) ∷ [])))
-          (ranged-lower d c (ranged-tokens (operandsFrom g src (t .next))) (ranged-order s number (subjectIn g src t) (operandsFrom g src (t .next))))))
+          subst (Bounded 2 7) (refusal-is (so .chains) s (so .held))
+          (bounded-line (e .text) (lower (t .refusal) (lower d c))
+          (bounded-lower 3 7 (t .refusal) (lower d c) (subst (Bounded 3 7) (l .token .refusal) (bounded-tokens (tokenThere g src (l .start) ∷ [])))
+          (bounded-lower 3 7 d c (bounded-tokens (operandsFrom g src (t .next))) (bounded-order s number (subjectIn g src t) (operandsFrom g src (t .next))))))
 
       pub name-reads : (depth : ℕ) → SomeOpen g src w sh at depth → Reads g src w sh at number (subjectIn g src t) (t .next) y
       name-reads depth so = record {
@@ -143,13 +145,13 @@ module _ (g : Signs) (src : List ℕ) (at : ℕ) (t : Tok) (e : LineEnd) (l : Na
         none = λ z cs s o.
             let c = orderLine s number (subjectIn g src t) (operandsFrom g src (t .next)) .refusal in
             let d = tokensRefusal (operandsFrom g src (t .next)) in
-            lower-right-zero d c (lower-right-zero (t .refusal) (lower d c) (lower-right-zero (2 unless e .text) (lower (t .refusal) (lower d c)) (refusal-is cs s o ∙ z)));
+            lower-none d c (lower-none (t .refusal) (lower d c) (lower-none (2 unless e .text) (lower (t .refusal) (lower d c)) (refusal-is cs s o ∙ z) .1) .1) .1;
         tokens = λ z.
             let c = orderLine (so .state) number (subjectIn g src t) (operandsFrom g src (t .next)) .refusal in
             let d = tokensRefusal (operandsFrom g src (t .next)) in
-            lower-left-zero d c (lower-right-zero (t .refusal) (lower d c) (lower-right-zero (2 unless e .text) (lower (t .refusal) (lower d c)) (refusal-is (so .chains) (so .state) (so .held) ∙ z)));
-        low = ranged-low y (ranged so);
-        high = ranged-high y (ranged so);
+            lower-none d c (lower-none (t .refusal) (lower d c) (lower-none (2 unless e .text) (lower (t .refusal) (lower d c)) (refusal-is (so .chains) (so .state) (so .held) ∙ z) .1) .1) .0;
+        low = bounded-low 2 7 y (bounded so);
+        high = bounded-high 2 7 y (bounded so);
       }
 
   -- ## Its row

@@ -1,6 +1,5 @@
 -- The refusal of an order line, by the facts of its subject.
 use mathlib.Core.Path.{_≡_, refl, sym, ap, _∙_}
-use mathlib.Core.Logic.{inl}
 use mathlib.Core.Bool.{Bool, true, false, not, _&&_, _||_, or-true}
 use mathlib.Core.List.{List, [], _∷_}
 use Prim.Native.Nat.{ℕ, _-_, _≤_, _<_}
@@ -12,13 +11,12 @@ use Rattle.base_lists.proofs.Bools.{by}
 use Rattle.rules.specs.Text.{if_then_else_, _unless_, lower, lowest}
 use Rattle.rules.specs.Tokens.{Token, operands, tokensRefusal}
 use Rattle.rules.specs.State.{inOrder, inBlock, Subject, Chain, State}
-use Rattle.rules.specs.OrderLines.{operandList, stands, weightsRefusal, orderLine}
+use Rattle.rules.specs.OrderLines.{operandList, weightsRefusal, orderLine}
 use Rattle.text_lines.specs.declared.Signs.{Signs}
 use Rattle.text_lines.specs.declared.Spot.{Spot}
 use Rattle.text_tokens.specs.Left.{tokensLeft}
-use Rattle.text_tokens.proofs.RefusalLaws.{lower-assoc, lower-none-left, Late, late-lower, late-unless, late-tokens, three-left, three-right}
-use Rattle.locale_weights.proofs.LateLaws.{late-weights}
-use Rattle.locale_weights.proofs.ByLaws.{weights-paper}
+use Rattle.rules.proofs.RefusalLaws.{Bounded, bounded-lower, bounded-lowest, bounded-unless, bounded-tokens}
+use Rattle.text_tokens.proofs.RefusalLaws.{lower-assoc, lower-none-left, three-left, three-right}
 use Rattle.locale_standing.specs.declared.Counted.{Counted}
 use Rattle.locale_standing.specs.Refusing.{Counts}
 use Rattle.locale_standing.proofs.CountLaws.{refusal-paper}
@@ -28,6 +26,7 @@ use Rattle.locale_sheet.specs.Sheets.{Open}
 use Rattle.locale_order_lines.specs.declared.Facts.{Facts}
 use Rattle.locale_order_lines.specs.Facts.{FactsIn, AgainIs, OwnRefused}
 use Rattle.locale_order_lines.proofs.FactLaws.{stands-known}
+use Rattle.locale_order_lines.proofs.RangeLaws.{bounded-operands}
 
 -- ## Whether a line is formed
 
@@ -101,12 +100,10 @@ module _ (again stood : Bool) (many levels : ℕ) (room : Bool) where
         unfolding lowest lower
         late-none l = sym (rw (e, t, le-leb many levels h, l))
 
-late-later : (again stood fits : Bool) → Late (later again stood fits)
-unfolding lowest
-late-later again stood fits =
-    late-lower (5 unless not again) (lower (6 unless stood) (lower (7 unless fits) 0)) (late-unless 5 (not again) (omega arith))
-    (late-lower (6 unless stood) (lower (7 unless fits) 0) (late-unless 6 stood (omega arith))
-    (late-lower (7 unless fits) 0 (late-unless 7 fits (omega arith)) (inl refl)))
+bounded-later : (again stood fits : Bool) → Bounded 3 7 (later again stood fits)
+bounded-later again stood fits =
+    bounded-lowest 3 7 (5 unless not again ∷ 6 unless stood ∷ 7 unless fits ∷ [])
+    (bounded-unless 3 7 5 (not again) refl, (bounded-unless 3 7 6 stood refl, (bounded-unless 3 7 7 fits refl, tt)))
 
 -- ## The lowest of all
 
@@ -114,17 +111,17 @@ module _ (t w : ℕ) (ok again stood fits : Bool) where
   abbrev whole : ℕ
   whole = lower t (lowest (3 unless ok ∷ w ∷ 5 unless not again ∷ 6 unless stood ∷ 7 unless fits ∷ []))
 
-  pub whole-unformed : Late t → Late w → ok ≡ false → _≡_ {A = ℕ} 3 whole
+  pub whole-unformed : Bounded 3 7 t → Bounded 3 7 w → ok ≡ false → _≡_ {A = ℕ} 3 whole
   unfolding lowest
   whole-unformed a b e =
-      sym (rw e (ap (lower t) (three-left (lower w (later again stood fits)) (late-lower w (later again stood fits) b (late-later again stood fits))) ∙ three-right t a))
+      sym (rw e (ap (lower t) (three-left (lower w (later again stood fits)) (bounded-lower 3 7 w (later again stood fits) b (bounded-later again stood fits))) ∙ three-right t a))
 
   whole-formed : ok ≡ true → whole ≡ lower (lower t w) (later again stood fits)
   unfolding lowest
   whole-formed e = rw e (ap (lower t) (lower-none-left (lower w (later again stood fits))) ∙ sym (lower-assoc t w (later again stood fits)))
 
   pub whole-three : ok ≡ true → lower t w ≡ 3 → _≡_ {A = ℕ} 3 whole
-  whole-three e h = sym (whole-formed e ∙ ap (λ (x : ℕ). lower x (later again stood fits)) h ∙ three-left (later again stood fits) (late-later again stood fits))
+  whole-three e h = sym (whole-formed e ∙ ap (λ (x : ℕ). lower x (later again stood fits)) h ∙ three-left (later again stood fits) (bounded-later again stood fits))
 
 -- ## Of a state that is held
 
@@ -147,12 +144,6 @@ module _ {g : Signs} {src w : List ℕ} {sh : Sheet} {cs : List Chain} {at : ℕ
       c .refusal (o .n) (o .known .ds) (o .known .holds)
       ∙ ap (lower (tokensRefusal os)) (refusal-paper (o .known .ds) (s .declared) (stands-known w (o .known .ds) (s .declared) (o .known .says)) ws)
 
-  late-paper : (ws : List (List Token)) → Late (weightsRefusal (s .declared) ws)
-  late-paper ws = subst-late (weights-paper (s .declared) ws) (late-weights (stands (s .declared)) ws)
-    where
-      subst-late : {a b : ℕ} → a ≡ b → Late a → Late b
-      subst-late e h = rw (← e) h
-
 module _ (g : Signs) (src w : List ℕ) (sh : Sheet) (p : Spot) (k : Facts) (again : Bool) {ok : Bool}
     (f : ok ≡ ((eqb (sh .phase) inOrder || eqb (sh .phase) inBlock) && (eqb (length (operands (tokensLeft g src p))) 0 || not (k .symbol)))) where
   abbrev os : List Token
@@ -167,7 +158,7 @@ module _ (g : Signs) (src w : List ℕ) (sh : Sheet) (p : Spot) (k : Facts) (aga
   pub own-unformed : ok ≡ false → OwnRefused g src w sh p k again 3
   own-unformed e = record {
     is = λ x a b cs at s number o.
-        whole-unformed (tokensRefusal os) (weightsRefusal (s .declared) (operandList os)) _ again (k .stands) room (late-tokens os) (late-paper o (operandList os)) (sym f ∙ e)
+        whole-unformed (tokensRefusal os) (weightsRefusal (s .declared) (operandList os)) _ again (k .stands) room (bounded-tokens os) (bounded-operands (s .declared) (operandList os)) (sym f ∙ e)
         ∙ ap (lower (tokensRefusal os)) (sym (by-facts o x k again number os (a .are (sh .order) (s .ordered .rules) (o .n) (s .declared) (s .ordered .lines) (o .known)) b));
   }
 

@@ -65,8 +65,8 @@ module _ {g : Signs} {src w : List ℕ} {sh : Sheet} {at number : ℕ} {x : Subj
   pub line-low : (r ≡ 0 → ⊥) → 2 ≤ r
   line-low h = v .low h
 
-  pub line-high : r ≤ 10
-  line-high = let h = v .high in omega (arith, h)
+  pub line-high : (r ≡ 0 → ⊥) → r ≤ 10
+  line-high h = let k = v .high h in omega (arith, k)
 
   pub line-refused : (depth : ℕ) {y : ℕ} → y ≡ r → RefusedIs g src w sh at number depth y
   line-refused depth e = record { refusal = λ cs s o l u. ap (λ (y : Outcome). y .refusal) (v .outcome cs s o u) ∙ sym e }

@@ -10,6 +10,8 @@ use Rattle.rules.specs.Tokens.{Token, tokensRefusal}
 use Rattle.rules.specs.State.{undefined, Chain, State, Outcome, gives}
 use Rattle.rules.specs.OrderLines.{orderLine}
 use Rattle.rules.specs.Source.{collateLine}
+use Rattle.rules.proofs.TextLaws.{lower-none}
+use Rattle.rules.proofs.RefusalLaws.{Bounded, bounded-lower, bounded-low, bounded-high, bounded-tokens}
 use Rattle.text_lines.specs.declared.Signs.{Signs}
 use Rattle.text_lines.specs.declared.Spot.{Spot}
 use Rattle.text_lines.specs.declared.LineEnd.{LineEnd}
@@ -28,7 +30,7 @@ use Rattle.locale_order_lines.specs.Lines.{Reads}
 use Rattle.locale_sheet.proofs.SheetLaws.{spot-behind}
 use Rattle.locale_order_lines.proofs.FactLaws.{undefined-are}
 use Rattle.locale_order_lines.proofs.AgainLaws.{again-is}
-use Rattle.locale_order_lines.proofs.RangeLaws.{Ranged, ranged-low, ranged-high, ranged-lower, ranged-unless, ranged-tokens, ranged-order, lower-left-zero, lower-right-zero}
+use Rattle.locale_order_lines.proofs.RangeLaws.{bounded-line, bounded-order}
 use Rattle.locale_order_lines.proofs.StepLaws.{phase-of, line-taken, line-listed, Placed, placed-ready}
 use Rattle.work_store.specs.Store.{undefinedMark}
 
@@ -52,14 +54,13 @@ module _ (g : Signs) (src : List ℕ) (at : ℕ) (p : Spot) (e : LineEnd) (l : W
         → lower (2 unless e .text) (lower (tokensRefusal (operandsFrom g src p)) (orderLine s number undefined (operandsFrom g src p) .refusal)) ≡ y
     refusal-is cs s o = sym (b ∙ ap (lower (2 unless e .text)) (v .is undefined (undefined-are g src w m k mark f) second cs at s number o))
 
-    ranged : {depth : ℕ} → SomeOpen g src w sh at depth → Ranged y
-    ranged so =
+    bounded : {depth : ℕ} → SomeOpen g src w sh at depth → Bounded 2 7 y
+    bounded so =
         let s = so .state in
         let c = orderLine s number undefined (operandsFrom g src p) .refusal in
         let d = tokensRefusal (operandsFrom g src p) in
-        subst Ranged (refusal-is (so .chains) s (so .held))
-        (ranged-lower (2 unless e .text) (lower d c) (ranged-unless 2 (e .text) (omega arith) (omega arith))
-        (ranged-lower d c (ranged-tokens (operandsFrom g src p)) (ranged-order s number undefined (operandsFrom g src p))))
+        subst (Bounded 2 7) (refusal-is (so .chains) s (so .held))
+        (bounded-line (e .text) (lower d c) (bounded-lower 3 7 d c (bounded-tokens (operandsFrom g src p)) (bounded-order s number undefined (operandsFrom g src p))))
 
     pub undefined-reads : (depth : ℕ) → SomeOpen g src w sh at depth → Reads g src w sh at number undefined p y
     undefined-reads depth so = record {
@@ -71,13 +72,13 @@ module _ (g : Signs) (src : List ℕ) (at : ℕ) (p : Spot) (e : LineEnd) (l : W
       none = λ z cs s o.
           let c = orderLine s number undefined (operandsFrom g src p) .refusal in
           let d = tokensRefusal (operandsFrom g src p) in
-          lower-right-zero d c (lower-right-zero (2 unless e .text) (lower d c) (refusal-is cs s o ∙ z));
+          lower-none d c (lower-none (2 unless e .text) (lower d c) (refusal-is cs s o ∙ z) .1) .1;
       tokens = λ z.
           let c = orderLine (so .state) number undefined (operandsFrom g src p) .refusal in
           let d = tokensRefusal (operandsFrom g src p) in
-          lower-left-zero d c (lower-right-zero (2 unless e .text) (lower d c) (refusal-is (so .chains) (so .state) (so .held) ∙ z));
-      low = ranged-low y (ranged so);
-      high = ranged-high y (ranged so);
+          lower-none d c (lower-none (2 unless e .text) (lower d c) (refusal-is (so .chains) (so .state) (so .held) ∙ z) .1) .0;
+      low = bounded-low 2 7 y (bounded so);
+      high = bounded-high 2 7 y (bounded so);
     }
 
   -- ## The step

@@ -19,4 +19,4 @@ pub record Reads (g : Signs) (src w : List ℕ) (sh : Sheet) (at number : ℕ) (
   pub none : r ≡ 0 → (cs : List Chain) (s : State) → Open g src w sh cs at s → orderLine s number x (operandsFrom g src p) .refusal ≡ 0
   pub tokens : r ≡ 0 → tokensRefusal (operandsFrom g src p) ≡ 0
   pub low : (r ≡ 0 → ⊥) → 2 ≤ r
-  pub high : r ≤ 7
+  pub high : (r ≡ 0 → ⊥) → r ≤ 7

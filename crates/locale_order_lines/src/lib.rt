@@ -5,7 +5,7 @@ ghost use mathlib.Core.List.{[], _∷_};
 ghost use Prim.Native.Nat.{_+_, _-_, _*_, _/_, _≤_, _<_};
 ghost use lib.ListN.{length};
 ghost use lib.Dec.{eqb, leb, ltb};
-ghost use Rattle.rules.specs.Text.{if_then_else_, _unless_, bytes, lower, lowest};
+ghost use Rattle.rules.specs.Text.{if_then_else_, _unless_, bytes, lowest};
 ghost use Rattle.rules.specs.Lines.{inPlain};
 ghost use Rattle.rules.specs.Tokens.{operands};
 ghost use Rattle.rules.specs.State.{inOrder, inBlock, undefined};
@@ -22,6 +22,7 @@ ghost use Rattle.locale_sheet.specs.Words.{WordLine};
 ghost use Rattle.locale_order_lines.specs.Lines.{Reads};
 use base_units::is_character;
 use base_units::refusal_of;
+use locale_opening::line_refusal;
 use locale_sheet::Block;
 use locale_sheet::IN_BLOCK;
 use locale_sheet::IN_ORDER;
@@ -231,16 +232,6 @@ fn own_refusal(src: &[u8], g: Signs, work: &[u32], sh: Sheet, p: Spot, k: Facts,
         return lower_of(f, d);
     }
     3
-}
-
-// The number of a line's refusal, 0 for none: that of a byte of it that is no text, else r.
-fn line_refusal(text: bool, r: u8) -> u8
-    ensures { λ x. ⌜ x ≡ lower (2 unless text) r ⌝ }
-{
-    if text {
-        return r;
-    }
-    lower_of(2, r)
 }
 
 // A row for what stands at a mark, where f is found for it: that of f, or a new one.

@@ -21,7 +21,7 @@ use Rattle.text_operands.specs.declared.After.{After}
 use Rattle.text_operands.specs.declared.After.the-variants as after
 use Rattle.text_operands.specs.Operand.{operandsLeft, OperandsFrom, AfterIs}
 use Rattle.locale_weights.specs.Weights.{weightsRefusalBy}
-use Rattle.locale_weights.proofs.LateLaws.{late-weights, weights-none}
+use Rattle.locale_weights.proofs.LateLaws.{bounded-weights, weights-none}
 use Rattle.locale_weights.proofs.ByLaws.{weights-alike, weights-paper}
 use Rattle.work_subjects.specs.Keys.{keyAt}
 use Rattle.work_store.specs.Store.{Decl, Holds}
@@ -112,7 +112,7 @@ module _ (g : Signs) (src w : List ℕ) where
         refusal = λ m ds h.
             let ws = operandList os in
             sym (ap (λ (r : ℕ). lower r (weightsRefusalBy (standsIn ds) ws)) (ap tokensRefusal e ∙ refusal-broken (token broken [] []) [] refl)
-            ∙ three-left (weightsRefusalBy (standsIn ds) ws) (late-weights (standsIn ds) ws));
+            ∙ three-left (weightsRefusalBy (standsIn ds) ws) (bounded-weights (standsIn ds) ws));
         many = λ u. absurd (u refl);
       }
 

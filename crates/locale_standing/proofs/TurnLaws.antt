@@ -13,12 +13,13 @@ use Rattle.text_lines.specs.declared.Signs.{Signs}
 use Rattle.text_lines.specs.declared.Spot.{Spot}
 use Rattle.text_tokens.specs.declared.Tok.{Tok}
 use Rattle.text_tokens.specs.Left.{tokenThere, TokenIs}
-use Rattle.text_tokens.proofs.RefusalLaws.{lower-none-left, lower-none-right, late-lower, late-tokens, three-right, tokensRefusal-cons}
+use Rattle.rules.proofs.RefusalLaws.{bounded-lower, bounded-tokens}
+use Rattle.text_tokens.proofs.RefusalLaws.{lower-none-left, lower-none-right, three-right, tokensRefusal-cons}
 use Rattle.text_operands.specs.Operand.{operandsLeft}
 use Rattle.locale_weights.specs.declared.Weight.{Weight}
 use Rattle.locale_weights.specs.declared.Weight.the-variants as weight
 use Rattle.locale_weights.specs.Weights.{weightRefusalBy, weightsRefusalBy, separator, EmptyWeight, OneWeight, BadWeights, WeightIs}
-use Rattle.locale_weights.proofs.LateLaws.{late-weight, weights-cons, weights-none}
+use Rattle.locale_weights.proofs.LateLaws.{bounded-weight, weights-cons, weights-none}
 use Rattle.locale_weights.proofs.SplitLaws.{split-end}
 use Rattle.locale_weights.proofs.WeightLaws.{lower-four}
 use Rattle.work_subjects.specs.Keys.{keyAt}
@@ -93,7 +94,7 @@ one-bound g src w t s v =
     let a = tokensRefusal (t ∷ []) in
     let b = weightRefusalBy (standsIn (s .ds)) (t ∷ []) in
     ap (λ (x : ℕ). lower x 3) (v .is (s .n) (s .ds) (s .holds))
-    ∙ three-right (lower a b) (late-lower a b (late-tokens (t ∷ [])) (late-weight (standsIn (s .ds)) (t ∷ [])))
+    ∙ three-right (lower a b) (bounded-lower 3 7 a b (bounded-tokens (t ∷ [])) (bounded-weight (standsIn (s .ds)) (t ∷ [])))
 
 module _ (g : Signs) (src w : List ℕ) (p : Spot) {x : Weight} (v : WeightIs g src p x) where
   pub turn-bad : x ≡ weight.Bad → BadRefusal g src w p

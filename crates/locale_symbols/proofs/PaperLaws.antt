@@ -4,7 +4,6 @@ use mathlib.Core.Logic.{inr}
 use mathlib.Core.Bool.{Bool, true, false, _||_}
 use mathlib.Core.List.{List, [], _∷_}
 use Prim.Native.Nat.{ℕ}
-use native.Mathlib.Omega.{arith}
 use Rattle.base_lists.proofs.Bools.{by}
 use Rattle.rules.specs.Text.{oneOf, same, _unless_, lower, lowest}
 use Rattle.rules.specs.Tokens.{Token, tokenAt, theName, tokensRefusal}
@@ -12,7 +11,7 @@ use Rattle.rules.specs.State.{Declaration, symbol, element, character, named, S
 use Rattle.rules.specs.OrderLines.{sameSubject}
 use Rattle.rules.specs.Declarations.{declares, declaresChars, isNew, mayDeclare, symbolLine}
 use Rattle.rules.proofs.TextLaws.{same-true, same-refl, same-swap-false}
-use Rattle.text_tokens.proofs.RefusalLaws.{late-lowest, late-unless}
+use Rattle.rules.proofs.RefusalLaws.{bounded-lowest, bounded-unless}
 use Rattle.work_subjects.specs.Keys.{Key, item, chars, sameKey}
 use Rattle.work_store.specs.Store.{Decl, knownIn, fresh}
 use Rattle.work_store.proofs.ListLaws.{first-none, first-fresh-same, first-fresh-other}
@@ -92,4 +91,4 @@ module _ (s : State) (os : List Token) where
   unfolding symbolLine lowest
   symbol-misplaced p =
       let b = isNew (s .declared) (theName (tokenAt os 0)) in
-      rw p (unfit-three os false (lowest (5 unless b ∷ [])) (late-lowest (5 unless b ∷ []) (late-unless 5 b (omega arith), tt)) (inr refl))
+      rw p (unfit-three os false (lowest (5 unless b ∷ [])) (bounded-lowest 3 7 (5 unless b ∷ []) (bounded-unless 3 7 5 b refl, tt)) (inr refl))

@@ -1,5 +1,5 @@
 -- The line `collating-symbol`: a law for each answer.
-use mathlib.Core.Path.{_≡_, sym, ap, _∙_, subst}
+use mathlib.Core.Path.{_≡_, refl, sym, ap, _∙_, subst}
 use mathlib.Core.Logic.{inr}
 use mathlib.Core.Bool.{Bool, true, false, not, _&&_, _||_, false≢true}
 use mathlib.Core.List.{List, [], _∷_}
@@ -19,7 +19,8 @@ use Rattle.rules.proofs.TextLaws.{unless-none, lower-none, lowest-none}
 use Rattle.text_lines.specs.declared.Signs.{Signs}
 use Rattle.text_lines.specs.declared.Spot.{Spot}
 use Rattle.text_tokens.specs.Left.{isInside}
-use Rattle.text_tokens.proofs.RefusalLaws.{lower-none-right, late-lowest, late-unless}
+use Rattle.rules.proofs.RefusalLaws.{bounded-lowest, bounded-unless}
+use Rattle.text_tokens.proofs.RefusalLaws.{lower-none-right}
 use Rattle.text_operands.specs.Operand.{operandsLeft}
 use Rattle.text_operands.proofs.ListLaws.{single-more}
 use Rattle.text_names.specs.Named.{nameLeft}
@@ -46,7 +47,7 @@ refusal-unfit : (ds : List Decl) (os : List Token) → Unfit os (single name os)
 unfolding symbolRefusal lowest
 refusal-unfit ds os u =
     let b = isNewIn ds (theName (tokenAt os 0)) in
-    unfit-three os (single name os) (lowest (5 unless b ∷ [])) (late-lowest (5 unless b ∷ []) (late-unless 5 b (omega arith), tt)) u
+    unfit-three os (single name os) (lowest (5 unless b ∷ [])) (bounded-lowest 3 7 (5 unless b ∷ []) (bounded-unless 3 7 5 b refl, tt)) u
 
 -- one name, by whether it is new
 refusal-single : (ds : List Decl) (os : List Token) (b : Bool) → single name os ≡ true → isNewIn ds (theName (tokenAt os 0)) ≡ b

@@ -11,8 +11,7 @@ use Rattle.rules.specs.Tokens.{Token, tokenAt, tokensRefusal}
 use Rattle.rules.specs.State.{Chain, Toggle, State, withBlocks, Outcome, gives}
 use Rattle.rules.specs.Conditionals.{isOn, turned, toggleRefusal, blocks, chain, inmost, defineLine, ifLine, elifLine}
 use Rattle.text_lines.specs.declared.Signs.{Signs}
-use Rattle.text_tokens.proofs.RefusalLaws.{lower-none-left, lower-none-right, lower-assoc}
-use Rattle.text_operands.proofs.LineLaws.{Known, refusal-known}
+use Rattle.text_tokens.proofs.RefusalLaws.{lower-none-left, lower-none-right, lower-assoc, lower-swap}
 use Rattle.work_toggles.specs.Kept.{togglesIn}
 use Rattle.locale_toggle.specs.declared.Set.{Set}
 use Rattle.locale_toggle.specs.Named.{setTo, Has, NamedIs, RefusedIs}
@@ -87,17 +86,9 @@ limit-adds-none r false (inl e) = rw e
 limit-adds-none r true (inr e) = rw e
 limit-adds-none r false (inr e) = rw e
 
--- the two orders of malformed and a refusal of the tokens
-three-swaps : (r : ℕ) → Known r → lower r 3 ≡ lower 3 r
-unfolding lower
-three-swaps r (inl e) = rw e
-three-swaps r (inr (inl e)) = rw e
-three-swaps r (inr (inr e)) = rw e
-
 -- a refusal of the place stands before or behind those of the tokens
-three-moves : (a b : ℕ) (t : Bool) → Known a → lower a (lower (3 unless t) b) ≡ lower (3 unless t) (lower a b)
-three-moves a b true k = ap (λ (x : ℕ). lower a x) (lower-none-left b) ∙ sym (lower-none-left (lower a b))
-three-moves a b false k = sym (lower-assoc a 3 b) ∙ ap (λ (x : ℕ). lower x b) (three-swaps a k) ∙ lower-assoc 3 a b
+lower-moves : (a b c : ℕ) → lower a (lower b c) ≡ lower b (lower a c)
+lower-moves a b c = sym (lower-assoc a b c) ∙ ap (λ (x : ℕ). lower x c) (lower-swap a b) ∙ lower-assoc b a c
 
 module _ {g : Signs} {src work after : List ℕ} {base n : ℕ} {os : List Token} {r : ℕ}
     (v : RefusedIs g src work after base n os r) (s : State) (h : Has g src work base n s) where
@@ -116,5 +107,5 @@ module _ {g : Signs} {src work after : List ℕ} {base n : ℕ} {os : List Token
   pub elif-refused : lower (tokensRefusal os) (elifLine s os .refusal) ≡ lower (3 unless not (inmost s .closed)) r
   unfolding elifLine
   elif-refused =
-      three-moves (tokensRefusal os) (toggleRefusal s os) (not (inmost s .closed)) (refusal-known os)
+      lower-moves (tokensRefusal os) (3 unless not (inmost s .closed)) (toggleRefusal s os)
       ∙ ap (λ (x : ℕ). lower (3 unless not (inmost s .closed)) x) (v .refusal s h)

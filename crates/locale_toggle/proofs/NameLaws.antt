@@ -11,28 +11,22 @@ use Rattle.rules.specs.Text.{every, lower, lowest}
 use Rattle.rules.specs.Tokens.{Token, tokenAt, operands, tokensRefusal}
 use Rattle.rules.specs.State.{State, Toggle}
 use Rattle.rules.specs.Conditionals.{isToggleByte, isOn, turned, toggleRefusal}
+use Rattle.rules.proofs.RefusalLaws.{bounded-tokens}
 use Rattle.text_lines.specs.declared.Signs.{Signs}
 use Rattle.text_lines.specs.declared.Spot.{Spot}
 use Rattle.text_lines.specs.Stream.{lineStart}
 use Rattle.text_tokens.specs.Left.{tokensLeft}
-use Rattle.text_tokens.proofs.RefusalLaws.{lower-none-left}
+use Rattle.text_tokens.proofs.RefusalLaws.{lower-none-left, three-right}
 use Rattle.text_operands.specs.declared.One.{One}
 use Rattle.text_operands.specs.declared.One.the-variants as one
 use Rattle.text_operands.specs.Operand.{WordAlone, OneIs}
-use Rattle.text_operands.proofs.LineLaws.{Known, refusal-known, spot-start, word-single, word-text, word-unrefused}
+use Rattle.text_operands.proofs.LineLaws.{spot-start, word-single, word-text, word-unrefused}
 use Rattle.work_toggles.specs.Kept.{wordLeft, togglesIn, Proper, Kept, isFree, refusalFor, MayTurn, Turned}
 use Rattle.work_toggles.proofs.RefusalLaws.{paper-refusal, paper-foul, refusal-free, refusal-proper}
 use Rattle.locale_toggle.specs.declared.Set.{Set}
 use Rattle.locale_toggle.specs.Named.{setTo, MayName, Has, NamedIs, RefusedIs}
 
 -- ## Refusals
-
--- malformed, where the tokens give any refusal or none
-three-wins : (r : ℕ) → Known r → lower r 3 ≡ 3
-unfolding lower
-three-wins r (inl e) = rw e
-three-wins r (inr (inl e)) = rw e
-three-wins r (inr (inr e)) = rw e
 
 -- a word that is refused is malformed or meets a limit
 which-refusal : (w : List ℕ) (known : List Toggle) → (refusalFor w known ≡ 0 → ⊥) → (refusalFor w known ≡ 3) ⊎ (refusalFor w known ≡ 7)
@@ -47,7 +41,7 @@ module _ (g : Signs) (src : List ℕ) (os : List Token) {o : One} (v : OneIs g s
   pub no-word : {work : List ℕ} {base n : ℕ} → o ≡ one.Other → RefusedIs g src work work base n os 3
   no-word e =
       record {
-        refusal = λ s h. ap (λ (x : ℕ). lower (tokensRefusal os) x) (paper-foul s os (subst (OneIs g src os) e v)) ∙ three-wins (tokensRefusal os) (refusal-known os);
+        refusal = λ s h. ap (λ (x : ℕ). lower (tokensRefusal os) x) (paper-foul s os (subst (OneIs g src os) e v)) ∙ three-right (tokensRefusal os) (bounded-tokens os);
         which = inl refl;
         area = refl;
       }

@@ -10,9 +10,10 @@ use Rattle.rules.specs.Text.{lower}
 use Rattle.rules.specs.Tokens.{semi, Token, tokensRefusal}
 use Rattle.rules.specs.State.{Subject}
 use Rattle.rules.specs.OrderLines.{splitAt}
-use Rattle.text_tokens.proofs.RefusalLaws.{late-tokens, three-left, three-right}
+use Rattle.rules.proofs.RefusalLaws.{bounded-tokens}
+use Rattle.text_tokens.proofs.RefusalLaws.{three-left, three-right}
 use Rattle.locale_weights.specs.Weights.{weightsRefusalBy, BadWeights}
-use Rattle.locale_weights.proofs.LateLaws.{late-weights, weight-two, weights-three}
+use Rattle.locale_weights.proofs.LateLaws.{bounded-weights, weight-two, weights-three}
 
 pub split-end : (part : List Token) → splitAt part [] ≡ part ∷ []
 unfolding splitAt
@@ -54,7 +55,7 @@ split-begun part (t ∷ ts) =
 
 pub bad-tokens : (os : List Token) → tokensRefusal os ≡ 3 → BadWeights os
 bad-tokens os e =
-    record { by = λ (f : Subject → Bool). rw e (three-left (weightsRefusalBy f (splitAt [] os)) (late-weights f (splitAt [] os))) }
+    record { by = λ (f : Subject → Bool). rw e (three-left (weightsRefusalBy f (splitAt [] os)) (bounded-weights f (splitAt [] os))) }
 
 -- two tokens with no `;` between them
 pub bad-two : (t u : Token) (ts : List Token) → eqb (t .kind) semi ≡ false → eqb (u .kind) semi ≡ false → BadWeights (t ∷ u ∷ ts)
@@ -65,5 +66,5 @@ bad-two t u ts h k =
       by = λ (f : Subject → Bool).
           ap (λ (ws : List (List Token)). lower (tokensRefusal (t ∷ u ∷ ts)) (weightsRefusalBy f ws)) e
           ∙ ap (λ (r : ℕ). lower (tokensRefusal (t ∷ u ∷ ts)) r) (weights-three f (t ∷ u ∷ b .more) (b .rest) (weight-two f t u (b .more)))
-          ∙ three-right (tokensRefusal (t ∷ u ∷ ts)) (late-tokens (t ∷ u ∷ ts));
+          ∙ three-right (tokensRefusal (t ∷ u ∷ ts)) (bounded-tokens (t ∷ u ∷ ts));
     }

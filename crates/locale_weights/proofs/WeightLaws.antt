@@ -5,15 +5,15 @@ use mathlib.Core.List.{List, [], _∷_, map}
 use Prim.Native.Nat.{ℕ, _≤_}
 use native.Mathlib.Omega.{arith}
 use lib.ListN.{length}
-use lib.Dec.{eqb, leb, ltb}
-use borrow.Author.Tests.{eqb-true, ltb-true, ltb-false, le-ltb}
+use lib.Dec.{eqb, leb}
 use Rattle.base_lists.proofs.Bools.{by}
 use Rattle.rules.specs.Text.{bytes, same, is, every, _unless_, lower, lowest}
 use Rattle.rules.specs.Tokens.{Token}
 use Rattle.rules.specs.State.{Subject}
 use Rattle.rules.specs.OrderLines.{isNames, subjectOf}
-use Rattle.text_tokens.proofs.RefusalLaws.{lower-none-left, lower-none-right, lower-assoc, late-lower, late-unless, three-left}
+use Rattle.text_tokens.proofs.RefusalLaws.{lower-none-left, lower-none-right, lower-assoc, lower-swap}
 use Rattle.locale_weights.specs.Weights.{weightRefusalBy}
+use Rattle.locale_weights.proofs.LateLaws.{three-others}
 
 -- ## One token
 
@@ -28,10 +28,7 @@ module _ (f : Subject → Bool) (t : Token) where
   pub weight-other : isNames t ≡ false → is (t .text) "IGNORE" ≡ false → weightRefusalBy f (t ∷ []) ≡ 3
   unfolding weightRefusalBy lowest
   weight-other e k =
-      let b = every f (map subjectOf (t .names)) in
-      let c = leb (length (t .names)) 8 in
-      rw (e, k) (three-left (lower (6 unless b) (lower (7 unless c) 0))
-      (late-lower (6 unless b) (lower (7 unless c) 0) (late-unless 6 b (omega arith)) (rw (lower-none-right (7 unless c)) (late-unless 7 c (omega arith)))))
+      rw (e, k) (three-others (every f (map subjectOf (t .names))) (leb (length (t .names)) 8))
 
   pub weight-ignore : isNames t ≡ false → is (t .text) "IGNORE" ≡ true → t .names ≡ [] → weightRefusalBy f (t ∷ []) ≡ 0
   unfolding weightRefusalBy lowest lower every
@@ -46,15 +43,6 @@ module _ (f : Subject → Bool) (t : Token) where
       rw (e, lower-none-right (7 unless c)) (lower-none-left (lower (6 unless b) (7 unless c)))
 
 -- ## Two refusals of each of two
-
-lower-swap : (a b : ℕ) → lower a b ≡ lower b a
-unfolding lower
-lower-swap a b =
-    by (eqb a 0) (λ t. by (eqb b 0) (λ u. rw (t, u) (eqb-true b 0 u ∙ sym (eqb-true a 0 t))) (λ u. rw (t, u))) (λ t.
-    by (eqb b 0) (λ u. rw (t, u)) (λ u.
-    by (ltb a b)
-    (λ l. rw (t, u, l, le-ltb b a (let z = ltb-true a b l in omega arith)))
-    (λ l. by (ltb b a) (λ m. rw (t, u, l, m)) (λ m. rw (t, u, l, m) (let y = ltb-false a b l in let z = ltb-false b a m in omega arith)))))
 
 pub lower-four : (a x b y : ℕ) → lower (lower a x) (lower b y) ≡ lower (lower a b) (lower x y)
 lower-four a x b y =

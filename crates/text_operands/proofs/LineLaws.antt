@@ -1,17 +1,12 @@
 -- A line's first token and its operands, as callers need them: the tokens of the line, its refusal, and what one operand is.
 use mathlib.Core.Path.{_≡_, refl, ap, _∙_}
-use mathlib.Core.Logic.{_⊎_, inl, inr}
-use mathlib.Core.Bool.{Bool, true, false, not, _&&_, _||_}
-use mathlib.Core.List.{List, [], _∷_, map}
+use mathlib.Core.Bool.{Bool, true}
+use mathlib.Core.List.{List, [], _∷_}
 use Prim.Native.Nat.{ℕ}
-use lib.ListN.{length}
-use lib.Dec.{eqb, leb, ltb}
-use Rattle.base_lists.proofs.Bools.{by}
-use Rattle.base_lists.proofs.Lists.{All}
-use Rattle.rules.specs.Text.{every, lower, lowest, _unless_}
-use Rattle.rules.specs.Names.{isVisible, nameRefusal, namesRefusal}
+use Rattle.rules.specs.Text.{every, lower, lowest}
+use Rattle.rules.specs.Names.{namesRefusal}
 use Rattle.rules.specs.Lines.{inPlain}
-use Rattle.rules.specs.Tokens.{broken, word, quote, Token, tokenAt, single, tokensOf, operands, tokensRefusal}
+use Rattle.rules.specs.Tokens.{word, Token, tokenAt, single, tokensOf, operands, tokensRefusal}
 use Rattle.text_lines.specs.declared.Signs.{Signs}
 use Rattle.text_lines.specs.declared.Spot.{Spot}
 use Rattle.text_lines.specs.Stream.{marksLeft, lineStart}
@@ -72,46 +67,3 @@ module _ {g : Signs} {src : List ℕ} {os : List Token} {q : Spot} where
   pub word-unrefused : WordAlone g src os q → tokensRefusal os ≡ 0
   unfolding tokensRefusal namesRefusal lowest lower
   word-unrefused v = rw (v .alone)
-
--- ## Which refusals tokens give
-
--- none, malformed, or too long
-abbrev pub Known : ℕ → Type 0
-Known r = (r ≡ 0) ⊎ ((r ≡ 3) ⊎ (r ≡ 7))
-
-known-lower : (a b : ℕ) → Known a → Known b → Known (lower a b)
-unfolding lower
-known-lower a b h k =
-    by (eqb a 0) (λ t. rw t k) (λ t. by (eqb b 0) (λ u. rw (t, u) h) (λ u. by (ltb a b) (λ w. rw (t, u, w) h) (λ w. rw (t, u, w) k)))
-
-known-lowest : (rs : List ℕ) → All Known rs → Known (lowest rs)
-unfolding lowest
-known-lowest [] h = inl refl
-known-lowest (r ∷ rs) h = known-lower r (lowest rs) (h .0) (known-lowest rs (h .1))
-
-known-three : (t : Bool) → Known (3 unless t)
-known-three true = inl refl
-known-three false = inr (inl refl)
-
-known-seven : (t : Bool) → Known (7 unless t)
-known-seven true = inl refl
-known-seven false = inr (inr refl)
-
-known-name : (n : List ℕ) → Known (nameRefusal n)
-unfolding nameRefusal
-known-name n =
-    known-lower (3 unless (leb 1 (length n) && every isVisible n)) (7 unless leb (length n) 32)
-    (known-three (leb 1 (length n) && every isVisible n)) (known-seven (leb (length n) 32))
-
-known-names : (ns : List (List ℕ)) → All Known (map nameRefusal ns)
-known-names [] = tt
-known-names (n ∷ ns) = (known-name n, known-names ns)
-
-pub refusal-known : (ts : List Token) → Known (tokensRefusal ts)
-unfolding tokensRefusal namesRefusal
-refusal-known [] = inl refl
-refusal-known (t ∷ ts) =
-    known-lowest ((3 unless not (eqb (t .kind) broken || (eqb (t .kind) quote && eqb (length (t .names)) 0))) ∷ namesRefusal (t .names) ∷ tokensRefusal ts ∷ []) (
-      known-three (not (eqb (t .kind) broken || (eqb (t .kind) quote && eqb (length (t .names)) 0))),
-      (known-lowest (map nameRefusal (t .names)) (known-names (t .names)), (refusal-known ts, tt)),
-    )

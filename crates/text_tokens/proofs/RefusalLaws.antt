@@ -1,18 +1,17 @@
 -- Refusals of tokens (Rattle.rules.specs.Text, Names, Tokens): the lower of several, and that a malformed token gives 3 whatever else stands.
 use mathlib.Core.Path.{_≡_, refl, sym, ap, _∙_}
-use mathlib.Core.Logic.{_⊎_, inl, inr}
-use mathlib.Core.Bool.{Bool, true, false, not, _&&_, _||_}
-use mathlib.Core.List.{List, [], _∷_, _++_, map}
+use mathlib.Core.Bool.{not, _&&_, _||_}
+use mathlib.Core.List.{List, [], _∷_, _++_}
 use Prim.Native.Nat.{ℕ, _≤_, _<_, min}
 use native.Mathlib.Omega.{arith}
 use lib.ListN.{length}
-use lib.Dec.{eqb, leb, ltb}
+use lib.Dec.{eqb, ltb}
 use borrow.Author.Tests.{eqb-true, eqb-false, ltb-true, ltb-false, ne-eqb, lt-ltb, le-ltb}
 use Rattle.base_lists.proofs.Bools.{by}
-use Rattle.rules.specs.Text.{every, _unless_, lower, lowest}
-use Rattle.rules.specs.Names.{isVisible, nameRefusal, namesRefusal}
+use Rattle.rules.specs.Text.{_unless_, lower, lowest}
+use Rattle.rules.specs.Names.{nameRefusal, namesRefusal}
 use Rattle.rules.specs.Tokens.{broken, quote, name, Token, token, tokensRefusal}
-use Rattle.base_lists.proofs.Lists.{All}
+use Rattle.rules.proofs.RefusalLaws.{Bounded, bounded-lowest, bounded-low, bounded-names, bounded-tokens}
 
 -- ## The lower of two
 
@@ -34,6 +33,9 @@ lower-min a b h k =
 min-assoc : (a b c : ℕ) → min (min a b) c ≡ min a (min b c)
 min-assoc a b c = omega arith
 
+min-swap : (a b : ℕ) → min a b ≡ min b a
+min-swap a b = omega arith
+
 pub lower-assoc : (a b c : ℕ) → lower (lower a b) c ≡ lower a (lower b c)
 lower-assoc a b c =
     by (eqb a 0) (λ t. rw (eqb-true a 0 t, lower-none-left b, lower-none-left (lower b c))) (λ t.
@@ -50,54 +52,23 @@ lower-assoc a b c =
     ∙ ap (λ (x : ℕ). min a x) (sym f)
     ∙ sym (lower-min a (lower b c) h (λ z. omega arith)))))
 
--- ## Refusals from 3 on
+pub lower-swap : (a b : ℕ) → lower a b ≡ lower b a
+lower-swap a b =
+    by (eqb a 0) (λ t. rw (eqb-true a 0 t, lower-none-left b, lower-none-right b)) (λ t.
+    by (eqb b 0) (λ u. rw (eqb-true b 0 u, lower-none-left a, lower-none-right a)) (λ u.
+    let h = eqb-false a 0 t in
+    let k = eqb-false b 0 u in
+    lower-min a b h k ∙ min-swap a b ∙ sym (lower-min b a k h)))
 
--- none, or 3 and above
-abbrev pub Late : ℕ → Type 0
-Late r = (r ≡ 0) ⊎ (3 ≤ r)
+-- ## Refusals from 3 on: 3 wins wherever it stands
 
-pub late-lower : (a b : ℕ) → Late a → Late b → Late (lower a b)
-unfolding lower
-late-lower a b h k =
-    by (eqb a 0) (λ t. rw t k) (λ t. by (eqb b 0) (λ u. rw (t, u) h) (λ u. by (ltb a b) (λ w. rw (t, u, w) h) (λ w. rw (t, u, w) k)))
+module _ (r : ℕ) (h : Bounded 3 7 r) where
+  pub three-right : lower r 3 ≡ 3
+  unfolding lower
+  three-right = by (eqb r 0) (λ t. rw t) (λ t. rw (t, le-ltb r 3 (bounded-low 3 7 r h (eqb-false r 0 t))))
 
-pub late-lowest : (rs : List ℕ) → All Late rs → Late (lowest rs)
-unfolding lowest
-late-lowest [] h = inl refl
-late-lowest (r ∷ rs) h = late-lower r (lowest rs) (h .0) (late-lowest rs (h .1))
-
-pub late-unless : (n : ℕ) (t : Bool) → 3 ≤ n → Late (n unless t)
-late-unless n true h = inl refl
-late-unless n false h = inr h
-
-late-name : (n : List ℕ) → Late (nameRefusal n)
-unfolding nameRefusal
-late-name n =
-    late-lower (3 unless (leb 1 (length n) && every isVisible n)) (7 unless leb (length n) 32)
-    (late-unless 3 (leb 1 (length n) && every isVisible n) (omega arith)) (late-unless 7 (leb (length n) 32) (omega arith))
-
-late-names : (ns : List (List ℕ)) → All Late (map nameRefusal ns)
-late-names [] = tt
-late-names (n ∷ ns) = (late-name n, late-names ns)
-
-pub late-tokens : (ts : List Token) → Late (tokensRefusal ts)
-unfolding tokensRefusal namesRefusal
-late-tokens [] = inl refl
-late-tokens (t ∷ ts) =
-    let whole = not (eqb (t .kind) broken || (eqb (t .kind) quote && eqb (length (t .names)) 0)) in
-    late-lowest ((3 unless whole) ∷ namesRefusal (t .names) ∷ tokensRefusal ts ∷ [])
-    (late-unless 3 whole (omega arith), (late-lowest (map nameRefusal (t .names)) (late-names (t .names)), (late-tokens ts, tt)))
-
--- so 3 wins wherever it stands
-pub three-left : (r : ℕ) → Late r → lower 3 r ≡ 3
-unfolding lower
-three-left r (inl e) = rw e
-three-left r (inr h) = simp (ne-eqb r 0 (λ e. omega arith)) (by (ltb 3 r) (λ t. rw t) (λ t. rw t (let l = ltb-false 3 r t in omega arith)))
-
-pub three-right : (r : ℕ) → Late r → lower r 3 ≡ 3
-unfolding lower
-three-right r (inl e) = rw e
-three-right r (inr h) = simp (ne-eqb r 0 (λ e. omega arith)) (by (ltb r 3) (λ t. let l = ltb-true r 3 t in absurd (omega arith)) (λ t. rw t))
+  pub three-left : lower 3 r ≡ 3
+  three-left = lower-swap 3 r ∙ three-right
 
 -- ## Refusals of tokens
 
@@ -111,20 +82,18 @@ tokensRefusal-cons t ts =
 
 -- a malformed token
 pub refusal-broken : (t : Token) (ts : List Token) → t .kind ≡ broken → tokensRefusal (t ∷ ts) ≡ 3
-unfolding tokensRefusal namesRefusal lowest
+unfolding tokensRefusal lowest
 refusal-broken t ts e =
-    rw e
-    (three-left (lower (namesRefusal (t .names)) (lower (tokensRefusal ts) 0))
-    (late-lower (namesRefusal (t .names)) (lower (tokensRefusal ts) 0) (late-lowest (map nameRefusal (t .names)) (late-names (t .names)))
-    (late-lower (tokensRefusal ts) 0 (late-tokens ts) (inl refl))))
+    let rs = namesRefusal (t .names) ∷ tokensRefusal ts ∷ [] in
+    rw e (three-left (lowest rs) (bounded-lowest 3 7 rs (bounded-names (t .names), (bounded-tokens ts, tt))))
 
 -- 3 is the lowest that tokens give
 pub three-first : (ts : List Token) → lower 3 (tokensRefusal ts) ≡ 3
-three-first ts = three-left (tokensRefusal ts) (late-tokens ts)
+three-first ts = three-left (tokensRefusal ts) (bounded-tokens ts)
 
 -- a malformed token further on
 pub refusal-later : (t : Token) (ts : List Token) → tokensRefusal ts ≡ 3 → tokensRefusal (t ∷ ts) ≡ 3
-refusal-later t ts e = tokensRefusal-cons t ts ∙ rw e (three-right (tokensRefusal (t ∷ [])) (late-tokens (t ∷ [])))
+refusal-later t ts e = tokensRefusal-cons t ts ∙ rw e (three-right (tokensRefusal (t ∷ [])) (bounded-tokens (t ∷ [])))
 
 pub refusal-name : (n : List ℕ) → tokensRefusal (token name [] (n ∷ []) ∷ []) ≡ nameRefusal n
 unfolding tokensRefusal namesRefusal lowest

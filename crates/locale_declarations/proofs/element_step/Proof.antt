@@ -1,5 +1,6 @@
 -- `locale_declarations::element_step` meets its contract: a law for each answer.
-use Rattle.locale_declarations.proofs.ElementLaws.{element-low, element-high, element-misplaced-step, element-foul, element-refused-step, element-done}
+use Rattle.locale_declarations.proofs.DeclaringLaws.{foul-step, refused-low, refused-high, misplaced-step, refused-step}
+use Rattle.locale_declarations.proofs.ElementLaws.{element-declaring, element-done}
 use borrow.Author.Needs.{needs}
 use Rattle.locale_declarations.proofs.element_step.Statement.{statement}
 use Rattle.locale_declarations.proofs.element_step.Tie as tie
@@ -23,22 +24,22 @@ enum-known-s : tie.Need-enum-known-s
 enum-known-s c = search needs
 
 refusal-of-requires : tie.Need-refusal-of-requires
-refusal-of-requires c κs = (search element-low, search element-high)
+refusal-of-requires c κs = (search (refused-low element-declaring), search (refused-high element-declaring))
 
 same-length-2 : tie.Need-same-length-2
 same-length-2 c = search needs
 
 returns-2 : tie.Need-returns-2
-returns-2 c = search element-refused-step
+returns-2 c = search (refused-step element-declaring)
 
 returns-3 : tie.Need-returns-3
-returns-3 c = search element-foul
+returns-3 c = search foul-step
 
 malformed-requires : tie.Need-malformed-requires
 malformed-requires c κs = search needs
 
 returns-4 : tie.Need-returns-4
-returns-4 c = search element-misplaced-step
+returns-4 c = search (misplaced-step element-declaring)
 
 pub element-step-spec : {M : Type 1} → statement M
 element-step-spec =

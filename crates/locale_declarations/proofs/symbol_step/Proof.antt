@@ -1,5 +1,6 @@
 -- `locale_declarations::symbol_step` meets its contract: a law for each answer.
-use Rattle.locale_declarations.proofs.SymbolLaws.{symbol-low, symbol-high, symbol-misplaced-step, symbol-foul, symbol-refused-step, symbol-done}
+use Rattle.locale_declarations.proofs.DeclaringLaws.{foul-step, refused-low, refused-high, misplaced-step, refused-step}
+use Rattle.locale_declarations.proofs.SymbolLaws.{symbol-declaring, symbol-done}
 use borrow.Author.Needs.{needs}
 use Rattle.locale_declarations.proofs.symbol_step.Statement.{statement}
 use Rattle.locale_declarations.proofs.symbol_step.Tie as tie
@@ -23,22 +24,22 @@ enum-known-s : tie.Need-enum-known-s
 enum-known-s c = search needs
 
 refusal-of-requires : tie.Need-refusal-of-requires
-refusal-of-requires c κs = (search symbol-low, search symbol-high)
+refusal-of-requires c κs = (search (refused-low symbol-declaring), search (refused-high symbol-declaring))
 
 same-length-2 : tie.Need-same-length-2
 same-length-2 c = search needs
 
 returns-2 : tie.Need-returns-2
-returns-2 c = search symbol-refused-step
+returns-2 c = search (refused-step symbol-declaring)
 
 returns-3 : tie.Need-returns-3
-returns-3 c = search symbol-foul
+returns-3 c = search foul-step
 
 malformed-requires : tie.Need-malformed-requires
 malformed-requires c κs = search needs
 
 returns-4 : tie.Need-returns-4
-returns-4 c = search symbol-misplaced-step
+returns-4 c = search (misplaced-step symbol-declaring)
 
 pub symbol-step-spec : {M : Type 1} → statement M
 symbol-step-spec =

@@ -1,8 +1,8 @@
--- `locale_order_lines::line_refusal` meets its contract: a law for each way.
-use Rattle.locale_order_lines.proofs.RangeLaws.{with-text, with-foul}
+-- `locale_opening::line_refusal` meets its contract: a law for each way.
+use Rattle.locale_opening.proofs.OpenLaws.{with-text, with-foul}
 use borrow.Author.Needs.{needs}
-use Rattle.locale_order_lines.proofs.line_refusal.Statement.{statement}
-use Rattle.locale_order_lines.proofs.line_refusal.Tie as tie
+use Rattle.locale_opening.proofs.line_refusal.Statement.{statement}
+use Rattle.locale_opening.proofs.line_refusal.Tie as tie
 
 returns : tie.Need-returns
 returns c = search with-text
