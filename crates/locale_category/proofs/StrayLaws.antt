@@ -16,7 +16,8 @@ use Rattle.rules.specs.State.{Chain, State, inCollate, Outcome}
 use Rattle.rules.specs.Conditionals.{noChain, toggleRefusal, elifLine}
 use Rattle.rules.specs.Source.{collateLine, tokenLine, wholeLine}
 use Rattle.rules.proofs.TextLaws.{same-true}
-use Rattle.text_operands.proofs.LateLaws.{Late, late-tokens, three-lowest}
+use Rattle.text_tokens.proofs.RefusalLaws.{three-last}
+use Rattle.text_operands.proofs.LateLaws.{three-lowest}
 use Rattle.locale_opening.proofs.CollateLaws.{late-toggle, line-word, whole-tokens}
 use Rattle.locale_opening.proofs.KeywordLaws.{at-elif, at-else, at-endif}
 use Rattle.locale_sheet.specs.Words.{isTurn, turnsFirst, Malformed}
@@ -58,13 +59,12 @@ module _ (s : State) (number : ℕ) (none : s .blocks .chains ≡ []) where
 
   module _ (inside : inCollate s ≡ true) where
     stray-tokens : (ts : List Token) → turnsFirst ts ≡ true → tokenLine s number ts .refusal ≡ 3
-    unfolding Late
     stray-tokens [] h = absurd (false≢true h)
     stray-tokens (t ∷ ts) h =
         let k = eqb-true (t .kind) word (and-left (eqb (t .kind) word) (isTurn (t .text)) h) in
         ap refusalOf (line-word s number inside t ts k)
         ∙ ap (lower (tokensRefusal (t ∷ operands ts))) (stray-word (t .text) (operands ts) (and-right (eqb (t .kind) word) (isTurn (t .text)) h))
-        ∙ late-tokens (t ∷ operands ts)
+        ∙ three-last (t ∷ operands ts)
 
     pub stray-line : (marks : List ℕ) → (turnsFirst (tokensOf marks) ≡ true) ⊎ Malformed marks → wholeLine s number marks .refusal ≡ lower (2 unless every isText marks) 3
     stray-line marks (inl h) = ap refusalOf (whole-tokens s number inside marks refl refl) ∙ ap (lower (2 unless every isText marks)) (stray-tokens (tokensOf marks) h)

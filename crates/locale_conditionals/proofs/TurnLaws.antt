@@ -16,7 +16,8 @@ use Rattle.text_lines.specs.declared.Signs.{Signs}
 use Rattle.text_lines.specs.declared.Spot.{Spot}
 use Rattle.text_lines.specs.declared.LineEnd.{LineEnd}
 use Rattle.text_tokens.specs.Left.{tokensLeft}
-use Rattle.text_operands.proofs.LateLaws.{Late, late-lower, late-tokens, two-first, three-lowest}
+use Rattle.text_tokens.proofs.RefusalLaws.{three-last}
+use Rattle.text_operands.proofs.LateLaws.{late-lower, late-tokens, two-first, three-lowest}
 use Rattle.locale_opening.proofs.CollateLaws.{late-collate, late-toggle}
 use Rattle.locale_opening.proofs.KeywordLaws.{at-elif, at-else, at-endif}
 use Rattle.work_toggles.specs.Kept.{togglesIn}
@@ -35,11 +36,6 @@ use Rattle.locale_conditionals.specs.Turns.{EveryChain, GoesIs, EndsIs, 
 use Rattle.locale_conditionals.proofs.StepLaws.{withRefusals, with-none, line-moves}
 
 -- ## Refusals
-
--- malformed, beside whatever the tokens give
-three-tokens : (ts : List Token) → lower (tokensRefusal ts) 3 ≡ 3
-unfolding Late
-three-tokens ts = late-tokens ts
 
 -- no token gives none
 none-tokens : (ts : List Token) → eqb (length ts) 0 ≡ true → tokensRefusal ts ≡ 0
@@ -62,7 +58,7 @@ elif-closed s ts taken used cs e c =
     ap (λ (z : List Chain). lower r (lower (3 unless not (getD z 0 noChain .closed)) x)) e
     ∙ ap (λ (b : Bool). lower r (lower (3 unless not b) x)) c
     ∙ ap (lower r) (three-lowest x (late-toggle s ts))
-    ∙ three-tokens ts
+    ∙ three-last ts
 
 module _ {g : Signs} {src : List ℕ} {at : ℕ} {p : Spot} {e : LineEnd} {w : List ℕ} (l : WordLine g src at p e w) (work : List ℕ) (sh : Sheet) (number : ℕ) (taken closed : Bool) where
   -- a byte of the line is no text
@@ -166,7 +162,7 @@ module _ {g : Signs} {src : List ℕ} {at : ℕ} {p : Spot} {e : LineEnd} (l : W
       (λ used cs s o.
       ap (λ (x : Outcome). lower (tokensRefusal os) (x .refusal)) (at-else s number (bytes "else") os refl)
       ∙ ap (λ (z : List Chain). lower (tokensRefusal os) (3 unless (eqb (length os) 0 && not (getD z 0 noChain .closed)))) (o .chains)
-      ∙ rw n (three-tokens os))
+      ∙ rw n (three-last os))
       y
 
   pub else-late : (work : List ℕ) {x : ℕ} → closed ≡ true → x ≡ lower (2 unless e .text) 3 → TurnRefused g src work sh at number taken closed x
@@ -210,7 +206,7 @@ module _ {g : Signs} {src : List ℕ} {at : ℕ} {p : Spot} {e : LineEnd} (l : W
       let os = operands (tokensLeft g src p) in
       let some : eqb (length os) 0 ≡ false = sym a ∙ n in
       turn-refused l work sh number taken closed
-      (λ used cs s o. ap (λ (x : Outcome). lower (tokensRefusal os) (x .refusal)) (at-endif s number (bytes "endif") os refl) ∙ rw some (three-tokens os))
+      (λ used cs s o. ap (λ (x : Outcome). lower (tokensRefusal os) (x .refusal)) (at-endif s number (bytes "endif") os refl) ∙ rw some (three-last os))
       y
 
   pub endif-ends : (work : List ℕ) {b : Bool} → b ≡ eqb (length (operands (tokensLeft g src p))) 0 → b ≡ true → e .text ≡ true

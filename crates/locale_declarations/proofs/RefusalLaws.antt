@@ -12,7 +12,7 @@ use Rattle.rules.specs.Tokens.{name, Token, tokenAt, theName, single, tokensRef
 use Rattle.rules.specs.Declarations.{elementFormed}
 use Rattle.rules.specs.OrderLines.{ruleCodes, rulesFormed}
 use Rattle.rules.proofs.RefusalLaws.{Bounded, bounded-lower, bounded-lowest, bounded-unless, bounded-tokens}
-use Rattle.text_tokens.proofs.RefusalLaws.{lower-none-left, three-right}
+use Rattle.text_tokens.proofs.RefusalLaws.{lower-none-left, three-last}
 use Rattle.locale_levels.specs.Levels.{startRefusal}
 use Rattle.work_subjects.specs.Keys.{chars}
 use Rattle.work_store.specs.Store.{Decl, knownIn}
@@ -23,7 +23,7 @@ use Rattle.locale_elements.specs.Element.{elementRefusal}
 
 -- operands that do not pass it
 pub tokens-three : (os : List Token) (t : Bool) → t ≡ false → lower (tokensRefusal os) (3 unless t) ≡ 3
-tokens-three os t e = rw e (three-right (tokensRefusal os) (bounded-tokens os))
+tokens-three os t e = rw e (three-last os)
 
 -- operands that do, of which none is refused
 pub tokens-none : {r : ℕ} (t : Bool) → r ≡ 0 → t ≡ true → lower r (3 unless t) ≡ 0

@@ -15,7 +15,7 @@ use Rattle.text_lines.specs.declared.LineEnd.{LineEnd}
 use Rattle.text_lines.specs.Stream.{marksLeft, lineStart, LineIs}
 use Rattle.text_tokens.specs.declared.Tok.{Tok}
 use Rattle.text_tokens.specs.Left.{wordIn, tokensLeft}
-use Rattle.text_operands.proofs.LateLaws.{Late, late-tokens}
+use Rattle.text_tokens.proofs.RefusalLaws.{three-last}
 use Rattle.work_subjects.specs.Keys.{keyAt}
 use Rattle.work_store.specs.Store.{Sound}
 use Rattle.locale_opening.specs.Begun as begun
@@ -55,11 +55,6 @@ turn-else = refl
 turn-endif : isTurn (bytes "endif") ≡ true
 unfolding is same bytes
 turn-endif = refl
-
--- a refusal that is no lower than 3 gives way to it
-late-three : (r : ℕ) → Late r → lower r 3 ≡ 3
-unfolding Late
-late-three r l = l
 
 module _ {g : Signs} {src w : List ℕ} {sh : Sheet} {at number depth : ℕ} (v : LineAt g src w sh at number depth) where
   pub step-blank : (o : Opening) (e : LineEnd) → begun.OpeningIs g src at o → o ≡ opens.Blank e → NextIs g src w sh at number depth w sh (e .next) (e .feeds)
@@ -187,5 +182,5 @@ module _ {g : Signs} {src w : List ℕ} {sh : Sheet} {at number depth : ℕ} {q 
         refusal = λ cs s o d u.
             ap (λ (x : Outcome). x .refusal) (read-whole g src w sh cs at s o u number (marksLeft g src (lineStart at)) ∙ v .word .outcome s number (o .inside))
             ∙ ap (λ (x : Outcome). lower (2 unless e .text) (lower (tokensRefusal os) (x .refusal))) (at-other s number (wordIn (marksLeft g src q)) os n)
-            ∙ ap (lower (2 unless e .text)) (late-three (tokensRefusal os) (late-tokens os)) ∙ sym z;
+            ∙ ap (lower (2 unless e .text)) (three-last os) ∙ sym z;
       }

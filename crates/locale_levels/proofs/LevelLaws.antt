@@ -13,11 +13,10 @@ use Rattle.rules.specs.Tokens.{broken, Token, token, operands, tokensRefusal}
 use Rattle.rules.specs.State.{beforeOrder, inOrder, State, withOrdered, inPhase, toPhase}
 use Rattle.rules.specs.OrderLines.{splitAt, ruleCode, ruleOf, ruleCodes, rulesFormed, orderStartLine}
 use Rattle.rules.proofs.TextLaws.{lower-none, unless-none}
-use Rattle.rules.proofs.RefusalLaws.{bounded-tokens}
 use Rattle.text_lines.specs.declared.Signs.{Signs}
 use Rattle.text_lines.specs.declared.Spot.{Spot}
 use Rattle.text_tokens.specs.Left.{tokensLeft}
-use Rattle.text_tokens.proofs.RefusalLaws.{lower-none-left, lower-none-right, lower-assoc, three-right, refusal-broken}
+use Rattle.text_tokens.proofs.RefusalLaws.{lower-none-left, lower-none-right, lower-assoc, three-last, refusal-broken}
 use Rattle.text_operands.specs.declared.After.{After}
 use Rattle.text_operands.specs.declared.After.the-variants as after
 use Rattle.text_operands.specs.Operand.{operandsLeft, OperandsFrom, AfterIs}
@@ -133,7 +132,7 @@ unfolding orderStartLine lowest
 start-elsewhere s os h =
     let a = every (leb 1) (ruleCodes os) in
     let b = leb (length (ruleCodes os)) 8 in
-    rw (h, three-all a b) (three-right (tokensRefusal os) (bounded-tokens os))
+    rw (h, three-all a b) (three-last os)
 
 -- the state that it gives
 pub start-state : (s : State) (os : List Token)

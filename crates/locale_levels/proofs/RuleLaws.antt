@@ -12,12 +12,11 @@ use Rattle.rules.specs.Text.{lower}
 use Rattle.rules.specs.Lines.{inPlain}
 use Rattle.rules.specs.Tokens.{semi, broken, quote, Token, isSolid, tokensRefusal}
 use Rattle.rules.specs.OrderLines.{splitAt, ruleCode, rulesFormed}
-use Rattle.rules.proofs.RefusalLaws.{bounded-tokens}
 use Rattle.text_lines.specs.declared.Signs.{Signs}
 use Rattle.text_lines.specs.declared.Spot.{Spot}
 use Rattle.text_tokens.specs.declared.Tok.{Tok}
 use Rattle.text_tokens.specs.Left.{tokenThere, TokenIs}
-use Rattle.text_tokens.proofs.RefusalLaws.{three-right, refusal-later}
+use Rattle.text_tokens.proofs.RefusalLaws.{three-last, refusal-later}
 use Rattle.text_operands.specs.declared.Operand.{Operand}
 use Rattle.text_operands.specs.declared.Operand.the-variants as operand
 use Rattle.text_operands.specs.Operand.{operandsLeft, OperandAt, OperandIs}
@@ -63,7 +62,7 @@ malformed-tokens ts e = rw e (by (rulesFormed false ts) (λ h. rw h) (λ h. rw h
 
 pub malformed-formed : (ts : List Token) → rulesFormed false ts ≡ false → malformed ts ≡ 3
 unfolding malformed
-malformed-formed ts e = rw e (three-right (tokensRefusal ts) (bounded-tokens ts))
+malformed-formed ts e = rw e (three-last ts)
 
 -- ## The turns
 

@@ -17,6 +17,7 @@ use Rattle.rules.specs.Conditionals.{isToggleByte, isToggle, toggleRefusal, def
 use Rattle.rules.specs.Declarations.{isNew, declaresChars, mayDeclare, symbolLine, elementFormed, elementLine}
 use Rattle.rules.specs.OrderLines.{operandList, ruleCodes, rulesFormed, orderStartLine, subjectOf, stands, isSymbol, isNames, weightRefusal, weightsRefusal, rankOf, takenOut, again, orderLine, reorderAfterLine, reorderEndLine}
 use Rattle.rules.specs.Source.{endLine, collateLine, tokenLine, wholeLine}
+use Rattle.text_tokens.proofs.RefusalLaws.{three-last}
 use Rattle.text_operands.proofs.LateLaws.{Late, late-lower, late-none, late-lowest, late-by, late-unless, late-tokens, two-first, three-lowest}
 
 -- ## The lines by their first word
@@ -157,8 +158,8 @@ module _ (s : State) (number : ℕ) (c : inCollate s ≡ true) where
 
     -- neither
     pub line-other : eqb (t .kind) word ≡ false → eqb (t .kind) name ≡ false → tokenLine s number (t ∷ ts) .refusal ≡ 3
-    unfolding tokenLine Late
-    line-other h k = rw (h, k) (late-tokens (t ∷ operands ts))
+    unfolding tokenLine
+    line-other h k = rw (h, k) (three-last (t ∷ operands ts))
 
     -- its first token or one of its operands is malformed
     pub line-malformed : tokensRefusal (t ∷ operands ts) ≡ 3 → tokenLine s number (t ∷ ts) .refusal ≡ 3

@@ -17,6 +17,7 @@ use Rattle.rules.specs.Conditionals.{isUnused}
 use Rattle.rules.specs.Source.{isCapital, categoryLine, signLine, outsideLine, tokenLine, wholeLine, lineOutcome}
 use Rattle.rules.proofs.TextLaws.{same-true}
 use Rattle.text_operands.proofs.FirstLaws.{starts}
+use Rattle.text_tokens.proofs.RefusalLaws.{three-last}
 use Rattle.text_operands.proofs.LateLaws.{Late, late-lower, late-unless, late-tokens, two-first}
 use Rattle.text_specials.specs.Signed.{keyword}
 use Rattle.locale_outside.specs.Outside.{isCategory, openedBy}
@@ -128,10 +129,10 @@ module _ (s : State) (o : isOutside s ≡ true) where
   line-none number = refl
 
   pub line-no-word : (number : ℕ) (ts : List Token) → starts isNoWord ts ≡ true → tokenLine s number ts .refusal ≡ 3
-  unfolding tokenLine starts Late
+  unfolding tokenLine starts
   line-no-word number [] h = absurd (false≢true h)
   line-no-word number (t ∷ ts) h =
-      rw (not-true (eqb (t .kind) word) h, in-no-collate, and-false (eqb (t .kind) name)) (late-tokens (t ∷ operands ts))
+      rw (not-true (eqb (t .kind) word) h, in-no-collate, and-false (eqb (t .kind) name)) (three-last (t ∷ operands ts))
 
   -- ### A word and its operands
 
@@ -142,8 +143,7 @@ module _ (s : State) (o : isOutside s ≡ true) where
     line-word = rw in-no-collate
 
     pub word-refused : outsideLine s w (operands ts) .refusal ≡ 3 → tokenLine s number (token word w [] ∷ ts) .refusal ≡ 3
-    unfolding Late
-    word-refused e = ap (λ (x : Outcome). x .refusal) line-word ∙ rw e (late-tokens (token word w [] ∷ operands ts))
+    word-refused e = ap (λ (x : Outcome). x .refusal) line-word ∙ rw e (three-last (token word w [] ∷ operands ts))
 
     pub word-accepted : {t : State} → tokensRefusal (token word w [] ∷ operands ts) ≡ 0 → outsideLine s w (operands ts) ≡ gives 0 t
         → tokenLine s number (token word w [] ∷ ts) ≡ gives 0 t

@@ -11,12 +11,11 @@ use Rattle.rules.specs.Text.{every, lower, lowest}
 use Rattle.rules.specs.Tokens.{Token, tokenAt, operands, tokensRefusal}
 use Rattle.rules.specs.State.{State, Toggle}
 use Rattle.rules.specs.Conditionals.{isToggleByte, isOn, turned, toggleRefusal}
-use Rattle.rules.proofs.RefusalLaws.{bounded-tokens}
 use Rattle.text_lines.specs.declared.Signs.{Signs}
 use Rattle.text_lines.specs.declared.Spot.{Spot}
 use Rattle.text_lines.specs.Stream.{lineStart}
 use Rattle.text_tokens.specs.Left.{tokensLeft}
-use Rattle.text_tokens.proofs.RefusalLaws.{lower-none-left, three-right}
+use Rattle.text_tokens.proofs.RefusalLaws.{lower-none-left, three-last}
 use Rattle.text_operands.specs.declared.One.{One}
 use Rattle.text_operands.specs.declared.One.the-variants as one
 use Rattle.text_operands.specs.Operand.{WordAlone, OneIs}
@@ -41,7 +40,7 @@ module _ (g : Signs) (src : List ℕ) (os : List Token) {o : One} (v : OneIs g s
   pub no-word : {work : List ℕ} {base n : ℕ} → o ≡ one.Other → RefusedIs g src work work base n os 3
   no-word e =
       record {
-        refusal = λ s h. ap (λ (x : ℕ). lower (tokensRefusal os) x) (paper-foul s os (subst (OneIs g src os) e v)) ∙ three-right (tokensRefusal os) (bounded-tokens os);
+        refusal = λ s h. ap (λ (x : ℕ). lower (tokensRefusal os) x) (paper-foul s os (subst (OneIs g src os) e v)) ∙ three-last os;
         which = inl refl;
         area = refl;
       }

@@ -10,8 +10,7 @@ use Rattle.rules.specs.Text.{lower}
 use Rattle.rules.specs.Tokens.{semi, Token, tokensRefusal}
 use Rattle.rules.specs.State.{Subject}
 use Rattle.rules.specs.OrderLines.{splitAt}
-use Rattle.rules.proofs.RefusalLaws.{bounded-tokens}
-use Rattle.text_tokens.proofs.RefusalLaws.{three-left, three-right}
+use Rattle.text_tokens.proofs.RefusalLaws.{three-left, three-last}
 use Rattle.locale_weights.specs.Weights.{weightsRefusalBy, BadWeights}
 use Rattle.locale_weights.proofs.LateLaws.{bounded-weights, weight-two, weights-three}
 
@@ -66,5 +65,5 @@ bad-two t u ts h k =
       by = λ (f : Subject → Bool).
           ap (λ (ws : List (List Token)). lower (tokensRefusal (t ∷ u ∷ ts)) (weightsRefusalBy f ws)) e
           ∙ ap (λ (r : ℕ). lower (tokensRefusal (t ∷ u ∷ ts)) r) (weights-three f (t ∷ u ∷ b .more) (b .rest) (weight-two f t u (b .more)))
-          ∙ three-right (tokensRefusal (t ∷ u ∷ ts)) (bounded-tokens (t ∷ u ∷ ts));
+          ∙ three-last (t ∷ u ∷ ts);
     }

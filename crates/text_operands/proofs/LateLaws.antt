@@ -8,8 +8,8 @@ use borrow.Author.Tests.{ne-eqb, le-ltb}
 use Rattle.base_lists.proofs.Lists.{All}
 use Rattle.rules.specs.Text.{_unless_, lower, lowest}
 use Rattle.rules.specs.Tokens.{Token, tokensRefusal}
-use Rattle.rules.proofs.RefusalLaws.{lower-keeps, lowest-keeps, unless-keeps, bounded-tokens}
-use Rattle.text_tokens.proofs.RefusalLaws.{lower-assoc, lower-swap, three-right}
+use Rattle.rules.proofs.RefusalLaws.{lower-keeps, lowest-keeps, unless-keeps}
+use Rattle.text_tokens.proofs.RefusalLaws.{lower-assoc, lower-swap, three-last}
 
 -- none, or not below 3
 unfoldable pub Late : ℕ → Type 0
@@ -38,7 +38,7 @@ late-unless t = late-by 3 t (omega arith)
 
 pub late-tokens : (ts : List Token) → Late (tokensRefusal ts)
 unfolding Late
-late-tokens ts = three-right (tokensRefusal ts) (bounded-tokens ts)
+late-tokens ts = three-last ts
 
 -- 3 is the lowest of them
 pub three-lowest : (r : ℕ) → Late r → lower 3 r ≡ 3

@@ -91,9 +91,12 @@ refusal-broken t ts e =
 pub three-first : (ts : List Token) → lower 3 (tokensRefusal ts) ≡ 3
 three-first ts = three-left (tokensRefusal ts) (bounded-tokens ts)
 
+pub three-last : (ts : List Token) → lower (tokensRefusal ts) 3 ≡ 3
+three-last ts = three-right (tokensRefusal ts) (bounded-tokens ts)
+
 -- a malformed token further on
 pub refusal-later : (t : Token) (ts : List Token) → tokensRefusal ts ≡ 3 → tokensRefusal (t ∷ ts) ≡ 3
-refusal-later t ts e = tokensRefusal-cons t ts ∙ rw e (three-right (tokensRefusal (t ∷ [])) (bounded-tokens (t ∷ [])))
+refusal-later t ts e = tokensRefusal-cons t ts ∙ rw e (three-last (t ∷ []))
 
 pub refusal-name : (n : List ℕ) → tokensRefusal (token name [] (n ∷ []) ∷ []) ≡ nameRefusal n
 unfolding tokensRefusal namesRefusal lowest
