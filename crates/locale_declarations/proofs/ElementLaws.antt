@@ -11,15 +11,13 @@ use Rattle.base_lists.proofs.Bools.{by, clash, and-left, and-right}
 use Rattle.rules.specs.Text.{bytes, within, every, _unless_, lowest}
 use Rattle.rules.specs.Names.{codeOf, isCharName}
 use Rattle.rules.specs.Meaning.{Rule}
-use Rattle.rules.specs.Tokens.{Token, tokenAt, theName, operands, tokensRefusal}
-use Rattle.rules.specs.State.{Declaration, element, named, OrderLine, State, withDeclared, Outcome}
+use Rattle.rules.specs.Tokens.{Token, tokenAt, theName, tokensRefusal}
+use Rattle.rules.specs.State.{Declaration, element, named, OrderLine}
 use Rattle.rules.specs.Declarations.{elementFormed, elementLine}
-use Rattle.rules.specs.Source.{collateLine}
 use Rattle.rules.proofs.TextLaws.{lower-none, lowest-unless}
 use Rattle.text_lines.specs.declared.Signs.{Signs}
 use Rattle.text_lines.specs.declared.Spot.{Spot}
 use Rattle.text_lines.specs.declared.LineEnd.{LineEnd}
-use Rattle.text_tokens.specs.Left.{tokensLeft}
 use Rattle.work_subjects.specs.Keys.{Key, item, chars, keyAt, sameKey}
 use Rattle.work_subjects.specs.Numbers.{isDeclarable, kindOf}
 use Rattle.work_subjects.proofs.NumberLaws.{chars-declarable}
@@ -33,7 +31,7 @@ use Rattle.locale_sheet.specs.Known.{declaredAt, Says, elements, isRow, Known}
 use Rattle.locale_sheet.proofs.MarkLaws.{row-by}
 use Rattle.locale_sheet.proofs.GrownLaws.{Grown, known-grown}
 use Rattle.locale_sheet.proofs.NewLaws.{says-on, kind-name}
-use Rattle.locale_symbols.specs.Symbols.{isNewIn}
+use Rattle.locale_symbols.specs.Symbols.{isNewIn, operandsAfter}
 use Rattle.locale_elements.specs.declared.Element.{Element}
 use Rattle.locale_elements.specs.declared.Element.the-variants as answer
 use Rattle.locale_elements.specs.Element.{elementRefusal, charsIn, DeclaresBoth, ElementAt, ElementIs}
@@ -41,11 +39,9 @@ use Rattle.locale_elements.proofs.PaperLaws.{element-paper, element-misplaced}
 use Rattle.locale_opening.proofs.KeywordLaws.{at-element}
 use Rattle.locale_sheet.specs.declared.Sheet.{Sheet}
 use Rattle.locale_sheet.specs.declared.Step.the-variants.{Next}
-use Rattle.locale_sheet.proofs.OrderLaws.{open-declared}
 use Rattle.locale_declarations.specs.Worded.{Opened, Writes}
 use Rattle.locale_declarations.proofs.RefusalLaws.{bounded-element}
-use Rattle.locale_declarations.proofs.OpenedLaws.{line-moves, line-accepted}
-use Rattle.locale_declarations.proofs.DeclaringLaws.{first-none, new-unknown, first-declarable, line-reaches, may, Declaring, line-fault}
+use Rattle.locale_declarations.proofs.DeclaringLaws.{first-none, new-unknown, first-declarable, may, Declaring, accepted-step}
 
 -- ## What is known after it
 
@@ -146,55 +142,31 @@ element-new ds os h =
 
 -- ## collating-element
 
-pub element-declaring : Declaring "collating-element" elementLine elementRefusal ElementIs answer.Refused
+pub element-declaring : Declaring "collating-element" elementLine (λ os. element (theName (tokenAt os 0)) (charsIn os)) elementRefusal ElementIs answer.Refused
+unfolding bytes elementLine
 element-declaring = record {
   collate = λ s number os. at-element s number (bytes "collating-element") os refl;
+  long = omega arith;
+  state = λ s os. refl;
   paper = element-paper;
   misplaced = element-misplaced;
   bounded = bounded-element;
-  told = λ a. record { refusal = a .0 .refusal; some = a .0 .some };
+  told = λ a. (a .0 .refusal, a .0 .some);
 }
 
-module _ (g : Signs) (src : List ℕ) (at : ℕ) (p : Spot) (e : LineEnd) (l : Opened g src at p e "collating-element") where
-  abbrev left : List Token
-  left = operands (tokensLeft g src p)
-
-  element-state : (s : State) (number : ℕ)
-      → collateLine s number (bytes "collating-element") left .state ≡ withDeclared s (element (theName (tokenAt left 0)) (charsIn left) ∷ s .declared)
-  unfolding elementLine
-  element-state s number = ap (λ (o : Outcome). o .state) (element-declaring .collate s number left)
-
-  -- its name stands behind the keyword
-  element-behind : (v : ℕ) → p .at < v / 2 → at + 18 ≤ v / 2
-  unfolding bytes
-  element-behind v h = let a : 17 + at ≤ p .at = l .first .long in omega (arith, a, h)
-
-  module _ (w w′ : List ℕ) (sh : Sheet) {t : Bool} (j : t ≡ may sh) (f : t ≡ true) (x : e .text ≡ true) {y : Element} (a : ElementIs g src p w w′ y) where
-    pub element-done : {v q : ℕ} → y ≡ answer.Declared v q → Writes g src w sh at w′ (Next sh (e .next) (e .feeds))
-    element-done {v} {q} z =
-        let b : ElementAt g src p w v q = subst (ElementIs g src p w w′) z a .0 in
-        let c : DeclaresBoth (keyAt g src) (length src) w v q w′ = subst (ElementIs g src p w w′) z a .1 in
-        let m = theName (tokenAt left 0) in
-        let declares : may sh ≡ true = sym j ∙ f in
-        let xs = charsIn left in
-        let far = element-behind v (b .mark .behind) in
-        record {
-          is = λ number depth. record {
-            moves = line-moves l;
-            leaves = λ cs s o d u.
-                let k = o .known in
-                let n = element-new (k .ds) left (b .refusal .is (o .n) (k .ds) (k .holds)) in
-                let rows : o .n ≤ (at + 5) / 8 = rw declares at (o .rows (l .first .inside)) in
-                record {
-                  after = withDeclared s (element m xs ∷ s .declared);
-                  outcome = line-accepted l w sh number o u x (line-fault element-declaring g src at p e l w sh declares (b .refusal) number o) (element-state s number);
-                  held = open-declared g src w sh cs at s o (l .first .inside) (e .next) w′ (q / 16 + 1) (element m xs ∷ s .declared) declares (let i = line-moves l .on in omega (arith, i))
-                      (known-element-new g src w (sh .order) (s .ordered .rules) (o .n) (s .declared) (s .ordered .lines) k v q w′ c
-                      (omega (arith, rows, far)) (b .quotes .later) (b .quotes .within) (let y = b .mark .behind in omega (arith, y)) m xs (b .mark .key) (b .quotes .key) (b .quotes .odd)
-                      (n .fit) (n .fits) (first-none (item (named m)) (k .ds) (n .name)) (first-none (chars xs) (k .ds) (n .quotes)))
-                      (c .long)
-                      (element-older g src w (sh .order) (s .ordered .rules) (o .n) (s .declared) (s .ordered .lines) k v q w′ c
-                      (omega (arith, rows, far)) (b .quotes .later) (b .quotes .within)) (c .beyond) (λ h. let r = line-reaches l (b .quotes .room) h in omega (arith, r));
-                };
-          };
-        }
+module _ (g : Signs) (src : List ℕ) (at : ℕ) (p : Spot) (e : LineEnd) (l : Opened g src at p e "collating-element")
+    (w w′ : List ℕ) (sh : Sheet) {t : Bool} (j : t ≡ may sh) (f : t ≡ true) (x : e .text ≡ true) {y : Element} (a : ElementIs g src p w w′ y) where
+  pub element-done : {v q : ℕ} → y ≡ answer.Declared v q → Writes g src w sh at w′ (Next sh (e .next) (e .feeds))
+  element-done {v} {q} z =
+      let b : ElementAt g src p w v q = subst (ElementIs g src p w w′) z a .0 in
+      let c : DeclaresBoth (keyAt g src) (length src) w v q w′ = subst (ElementIs g src p w w′) z a .1 in
+      accepted-step element-declaring g src at p e l w sh w′ j f x v q (b .refusal) (b .mark .behind) (b .quotes .room) (c .long) (c .beyond) (λ cs s o room i.
+      let k = o .known in
+      let m = theName (tokenAt (operandsAfter g src p) 0) in
+      let xs = charsIn (operandsAfter g src p) in
+      let n = element-new (k .ds) (operandsAfter g src p) i in
+      let some : 1 ≤ v = let y = b .mark .behind in omega (arith, y) in (
+        known-element-new g src w (sh .order) (s .ordered .rules) (o .n) (s .declared) (s .ordered .lines) k v q w′ c room (b .quotes .later) (b .quotes .within)
+            some m xs (b .mark .key) (b .quotes .key) (b .quotes .odd) (n .fit) (n .fits) (first-none (item (named m)) (k .ds) (n .name)) (first-none (chars xs) (k .ds) (n .quotes)),
+        element-older g src w (sh .order) (s .ordered .rules) (o .n) (s .declared) (s .ordered .lines) k v q w′ c room (b .quotes .later) (b .quotes .within),
+      ))
