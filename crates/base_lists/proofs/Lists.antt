@@ -4,7 +4,7 @@ use mathlib.Core.List.{List, [], _∷_, _++_, map, reverse, reverseAux}
 use Prim.Native.Nat.{ℕ, zero, suc, pred, _+_, _≤_, _<_}
 use native.Mathlib.Omega.{arith}
 use lib.ListN.{length, getD, set, drop}
-use lib.Seq.{sets}
+use lib.Seq.{sets, set-comm}
 
 -- P holds of each
 abbrev pub All : {A : Type 0} → (A → Type 0) → List A → Type 0
@@ -50,3 +50,16 @@ sets-append area at [] b = let e : at + 0 ≡ at = omega arith in rw e
 sets-append area at (x ∷ a) b =
     let e : suc at + length a ≡ at + suc (length a) = omega arith in
     sets-append (set area at x) (suc at) a b ∙ ap (λ (k : ℕ). sets (sets (set area at x) (suc at) a) k b) e
+
+-- a number before them, first or last
+sets-set : (area : List ℕ) (i x at : ℕ) (xs : List ℕ) → i < at → set (sets area at xs) i x ≡ sets (set area i x) at xs
+sets-set area i x at [] h = refl
+sets-set area i x at (y ∷ ys) h =
+    sets-set (set area at y) i x (suc at) ys (omega arith) ∙ ap (λ (a : List ℕ). sets a (suc at) ys) (set-comm area at i y x (λ e. omega arith))
+
+-- numbers before them, first or last
+pub sets-swap : (area : List ℕ) (i : ℕ) (xs : List ℕ) (at : ℕ) (ys : List ℕ) → i + length xs ≤ at
+    → sets (sets area at ys) i xs ≡ sets (sets area i xs) at ys
+sets-swap area i [] at ys h = refl
+sets-swap area i (x ∷ xs) at ys h =
+    ap (λ (a : List ℕ). sets a (suc i) xs) (sets-set area i x at ys (omega arith)) ∙ sets-swap (set area i x) (suc i) xs at ys (omega arith)

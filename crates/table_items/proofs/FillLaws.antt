@@ -9,7 +9,7 @@ use lib.Seq.{sets, length-sets}
 use lib.Dec.{eqb, leb}
 use borrow.Author.Tests.{leb-true}
 use Rattle.base_lists.proofs.Bools.{by}
-use Rattle.base_lists.proofs.Lists.{All, sets-append}
+use Rattle.base_lists.proofs.Lists.{All, sets-append, sets-swap}
 use Rattle.rules.specs.Text.{every, is, _unless_}
 use Rattle.rules.specs.Tokens.{Token}
 use Rattle.rules.specs.Meaning.{Item, countAll, weightCount}
@@ -30,7 +30,6 @@ use Rattle.locale_weights.proofs.LateLaws.{weights-cons}
 use Rattle.table_weights.specs.Ranks.{rankIn, ranksBy, levelRanks}
 use Rattle.table_weights.specs.Reading.{lineOperands, ranksAt, itemRanks, Readable, RowReady}
 use Rattle.table_records.specs.Writing.{itemChars, CharsReady, ItemRoom, ItemPut}
-use Rattle.table_records.proofs.StoreLaws.{sets-swap}
 use Rattle.table_records.proofs.LineLaws.{countAll-any, levelRanks-length}
 use Rattle.table_items.specs.Items.{isItem, itemOf, itemsOf, LineReady}
 use Rattle.table_items.specs.Filling.{Fillable, Filled}

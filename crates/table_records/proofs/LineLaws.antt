@@ -6,7 +6,7 @@ use native.Mathlib.Numerals.{add-one}
 use native.Mathlib.Omega.{arith}
 use lib.ListN.{length, set, length-set, length-map}
 use lib.Seq.{sets, length-sets}
-use Rattle.base_lists.proofs.Lists.{sets-append}
+use Rattle.base_lists.proofs.Lists.{sets-append, sets-swap}
 use Rattle.rules.specs.State.{Subject}
 use Rattle.rules.proofs.SizeLaws.{counts-length}
 use Rattle.rules.specs.Meaning.{countAll}
@@ -22,7 +22,6 @@ use Rattle.table_weights.specs.declared.Turn.{Turn}
 use Rattle.table_weights.specs.Ranks.{rankIn, ranksBy, levelRanks}
 use Rattle.table_weights.specs.Reading.{partRanks, weightsLeft, Ahead, TurnIs, Starts, ranksAt}
 use Rattle.table_records.specs.Writing.{RanksPut, partSize, LevelPut, LineRoom, LinePut}
-use Rattle.table_records.proofs.StoreLaws.{sets-swap}
 use Rattle.table_records.proofs.PartLaws.{partRanks-length}
 
 -- ## One level

@@ -1,27 +1,12 @@
--- Numbers stored in an area from a place on: part by part, and in another order.
+-- Numbers stored in an area from a place on, part by part.
 use mathlib.Core.Path.{_≡_, refl, sym, ap, _∙_}
-use mathlib.Core.List.{List, [], _∷_, _++_}
-use Prim.Native.Nat.{ℕ, suc, _+_, _≤_, _<_}
+use mathlib.Core.List.{List, [], _++_}
+use Prim.Native.Nat.{ℕ, _+_}
 use native.Mathlib.Omega.{arith}
-use lib.ListN.{length, set, length-append}
-use lib.Seq.{sets, set-comm}
+use lib.ListN.{length, length-append}
+use lib.Seq.{sets}
 use Rattle.base_lists.proofs.Lists.{sets-append}
 use Rattle.table_records.specs.Writing.{Puts}
-
--- a number before them, first or last
-pub sets-set : (area : List ℕ) (i x at : ℕ) (xs : List ℕ) → i < at → set (sets area at xs) i x ≡ sets (set area i x) at xs
-sets-set area i x at [] h = refl
-sets-set area i x at (y ∷ ys) h =
-    sets-set (set area at y) i x (suc at) ys (omega arith) ∙ ap (λ (a : List ℕ). sets a (suc at) ys) (set-comm area at i y x (λ e. omega arith))
-
--- numbers before them, first or last
-pub sets-swap : (area : List ℕ) (i : ℕ) (xs : List ℕ) (at : ℕ) (ys : List ℕ) → i + length xs ≤ at
-    → sets (sets area at ys) i xs ≡ sets (sets area i xs) at ys
-sets-swap area i [] at ys h = refl
-sets-swap area i (x ∷ xs) at ys h =
-    ap (λ (a : List ℕ). sets a (suc i) xs) (sets-set area i x at ys (omega arith)) ∙ sets-swap (set area i x) (suc i) xs at ys (omega arith)
-
--- ## Part by part
 
 pub puts-none : (area : List ℕ) (at : ℕ) → Puts area at [] area at
 puts-none area at = record { is = refl; to = omega arith }

@@ -6,7 +6,7 @@ use native.Mathlib.Nat.{zero-mul, suc-mul, add-mul}
 use native.Mathlib.Omega.{arith}
 use lib.ListN.{length, take, drop, length-append, length-map, length-drop, take-append-drop}
 use lib.Seq.{sets, sets-eq, length-take-le, drop-drop}
-use Rattle.base_lists.proofs.Lists.{All, sets-append}
+use Rattle.base_lists.proofs.Lists.{All, sets-append, sets-swap}
 use Rattle.rules.specs.Meaning.{Rule, Item, countAll, weightCount}
 use Rattle.rules.specs.Table.{padded, sums, counts, weightLists, ends, charNumbers, ruleNumber, weightNumbers}
 use Rattle.rules.proofs.StorableLaws.{weights-append}
@@ -15,7 +15,6 @@ use Rattle.rules.proofs.TableLaws.{chars-append}
 use Rattle.rules.proofs.WidthLaws.{lists-count}
 use Rattle.table_layout.specs.Parts.{endsAt, charsPart, listingPart, rulesPart, weightsPart}
 use Rattle.table_layout.proofs.LayoutLaws.{endsAt-is}
-use Rattle.table_records.proofs.StoreLaws.{sets-swap}
 use Rattle.table_listing.specs.Permuted.{storedWith}
 use Rattle.table_items.proofs.FillLaws.{sums-append, three-rows}
 use Rattle.table_whole.specs.Building.{frontNumbers, unlisted}
