@@ -643,21 +643,22 @@ static void key_rows(const struct source *source, int size, const char *second)
 {
     take_order(source);
     int count = table_lines(lines, size, RISING);
-    for (int n = 0; n < LENGTHS; n++) {
-        int pairs = make_pairs(LAST, lengths[n], lines, count, 0);
-        printf("|");
-        whole_cell(size);
-        printf(" %s |", second);
-        whole_cell(lengths[n]);
-        string_cells(key_times(pairs));
-    }
+    for (int whole = 0; whole < 2; whole++)
+        for (int n = 0; n < LENGTHS; n++) {
+            int pairs = make_pairs(LAST, lengths[n], lines, count, whole);
+            printf("|");
+            whole_cell(size);
+            printf(" %s | %s |", second, whole ? "all" : "ASCII");
+            whole_cell(lengths[n]);
+            string_cells(key_times(pairs));
+        }
 }
 
 static void key_table(void)
 {
-    printf("## Key\n\nASCII letters, nanoseconds for one key.\n\n");
-    printf("| lines | second level | length | wcsxfrm | strxfrm | ICU | ours | check | left | left / wcsxfrm | left / ICU |\n"
-           "|--:|---|--:|%s", beside_line);
+    printf("## Key\n\nNanoseconds for one key, of letters of ASCII or from all over the table.\n\n");
+    printf("| lines | second level | letters | length | wcsxfrm | strxfrm | ICU | ours | check | left | left / wcsxfrm | left / ICU |\n"
+           "|--:|---|---|--:|%s", beside_line);
     for (int s = 0; s < SIZES; s++)
         key_rows(&forward_tables[s], sizes[s], "forward");
     key_rows(&backward_table, sizes[0], "backward");

@@ -160,6 +160,22 @@ fn limits() {
     show::keyed(b"4,097 characters:", &s, &more, &mut []);
 }
 
+// Keys with levels that are walked backward: of elements with none, one and eight weights, with an ignored one at both ends.
+fn turned_keys(t: &[u32], s: &[u32]) {
+    let mut short = [0xEEu8; 86];
+    show::keyed(b"-ah.a-- one byte short:", t, s, &mut short);
+    let mut enough = [0xEEu8; 87];
+    show::keyed(b"-ah.a--:", t, s, &mut enough);
+    show::keyed(b"---:", t, &[0x2D, 0x2D, 0x2D], &mut enough);
+    show::keyed(b"nothing:", t, &[], &mut enough);
+}
+
+fn turned() {
+    let t = tables::turned();
+    show::checked(b"two levels backward:", &t);
+    turned_keys(&t, &[0x2D, 0x61, 0x68, 0x2E, 0x61, 0x2D, 0x2D]);
+}
+
 // The longest key that there is, and a room one byte too short for it.
 fn longest_in(room: &mut [u8]) {
     let t = tables::widest();
@@ -183,5 +199,6 @@ fn main() {
     checks();
     steps();
     limits();
+    turned();
     longest();
 }

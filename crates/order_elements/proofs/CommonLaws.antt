@@ -33,7 +33,7 @@ use Rattle.order_elements.specs.Cuts.{Ready, CutOne}
 use Rattle.order_elements.specs.Firsts.{entriesOn, Sound}
 use Rattle.order_elements.specs.Commons.{Shared, Certain, Level, Further, Both, Together}
 use Rattle.order_elements.proofs.AlikeLaws.{step-front, seen-element, entries-element}
-use Rattle.order_elements.proofs.CutLaws.{ready-kept, found-within, found-fits, found-first, cut-more}
+use Rattle.order_elements.proofs.CutLaws.{ready-kept, first-within, place-fits, first-left, cut-more}
 use Rattle.order_elements.proofs.FirstLaws.{left-none}
 
 -- ## Characters in common
@@ -155,7 +155,7 @@ module _ {t a b as′ bs : List ℕ} {i j n k skipped agreed : ℕ} {f : Found} 
   unfolding entriesOn
   on-length position =
       let is : List Item = meaningIn t .items in
-      rw (found-first (v .first-ready) h e, w .is)
+      rw (first-left (v .first-ready) h e, w .is)
       (entries-element position skipped (skippedAfter skipped (length (weightsAt is 0 (f .place)))) (weightsAt is 0 (f .place))
       (map (weightsAt is 0) (elements is 0 (drop (i + f .size) a))))
 
@@ -164,7 +164,7 @@ module _ {t a b as′ bs : List ℕ} {i j n k skipped agreed : ℕ} {f : Found} 
   unfolding entriesOn
   on-seen position =
       let is : List Item = meaningIn t .items in
-      rw (found-first (v .first-ready) h e, found-first (v .second-ready) l d, w .is)
+      rw (first-left (v .first-ready) h e, first-left (v .second-ready) l d, w .is)
       (seen-element position skipped (weightsAt is 0 (f .place)) (map (weightsAt is 0) (elements is 0 (drop (i + f .size) a)))
       (map (weightsAt is 0) (elements is 0 (drop (j + f .size) b))) agreed)
 
@@ -244,10 +244,10 @@ module _ {t a b as₀ bs₀ as′ bs : List ℕ} {i j n k skipped agreed end siz
         omega arith
 
     pub going-within : Within t (f .place) 0
-    going-within = found-within (v .level .first-ready) first-inside first-found
+    going-within = first-within (v .level .first-ready) first-inside first-found
 
     pub going-fits : Fits w32 (f .place)
-    going-fits = found-fits (v .level .first-ready) first-inside first-found
+    going-fits = place-fits (v .level .first-ready) first-inside first-found
 
     pub going-size : Fits w64 (size + f .size)
     going-size = omega (arith, taken-size, v .shared .first, v .level .first-ready .short)

@@ -1,27 +1,27 @@
 -- Cutting a string: an element more each time, and all of them where the string ends.
-use mathlib.Core.Path.{_≡_, refl, sym, ap, _∙_}
+use mathlib.Core.Path.{_≡_, refl, sym, _∙_}
 use mathlib.Core.Bool.{true}
 use mathlib.Core.List.{List, _∷_, append-nil}
-use Prim.Native.Nat.{ℕ, _+_, _-_, _≤_, _<_}
+use Prim.Native.Nat.{ℕ, _+_, _≤_, _<_}
 use native.Mathlib.Numerals.{add-one}
 use native.Mathlib.Omega.{arith}
 use mir.Syntax.{w32}
 use mir.Val.{Fits}
-use lib.ListN.{length, take, drop, set, length-drop, drop-of-length-le}
-use lib.Seq.{drop-drop, take-suc-set, append-snoc}
+use lib.ListN.{length, take, drop, set, drop-of-length-le}
+use lib.Seq.{take-suc-set, append-snoc}
 use lib.Dec.{leb}
 use Rattle.base_lists.proofs.Bools.{and-right}
 use Rattle.rules.specs.Meaning.{Item}
 use Rattle.rules.specs.Text.{every}
 use Rattle.rules.specs.Names.{isCharacter}
 use Rattle.rules.specs.Table.{accepted, meaningIn}
-use Rattle.rules.specs.Order.{goodString, Step, stepOf, elements}
+use Rattle.rules.specs.Order.{goodString, stepOf, elements}
 use Rattle.rules.proofs.KeyLaws.{goodString-length}
-use Rattle.rules.proofs.ElementLaws.{UpTo, step-size, step-place, elements-step}
 use Rattle.table_layout.specs.Parts.{Within}
 use Rattle.table_layout.proofs.PartLaws.{table-good}
 use Rattle.order_find.specs.Answer.{foundAs}
 use Rattle.order_find.specs.declared.Found.{Found}
+use Rattle.order_find.proofs.FoundLaws.{found-place, found-within, found-size, found-first}
 use Rattle.order_elements.specs.Cuts.{Ready, Cut, CutOne, Split}
 
 -- ## What is ready
@@ -42,52 +42,30 @@ ready-kept after r e = record { checked = r .checked; characters = r .characters
 
 module _ {t s places : List ℕ} {at : ℕ} {f : Found} (r : Ready t s places) (h : at < length s)
     (e : foundAs f ≡ stepOf (meaningIn t .items) (drop at s)) where
-  some-left : 0 < length (drop at s)
-  some-left = rw (length-drop at s) (omega arith)
+  pub first-within : Within t (f .place) 0
+  first-within = found-within t s (r .checked) h e 0 (omega (arith, table-good t (r .checked) .some-level))
 
-  -- its place is that of an item
-  found-place : UpTo (length (meaningIn t .items)) (f .place)
-  found-place =
-      let p : f .place ≡ stepOf (meaningIn t .items) (drop at s) .place = ap (λ (x : Step). x .place) e in
-      rw p (step-place (meaningIn t .items) (drop at s) some-left (table-good t (r .checked) .undefined))
-
-  pub found-within : Within t (f .place) 0
-  found-within = record {
-    checked = r .checked;
-    from-one = found-place .least;
-    in-items = found-place .most;
-    in-levels = omega (arith, table-good t (r .checked) .some-level);
-  }
-
-  pub found-fits : Fits w32 (f .place)
-  found-fits = record { fits = omega (arith, found-place .most, table-good t (r .checked) .few-items) }
-
-  -- it takes some of the characters that are left
-  found-size : UpTo (length s - at) (f .size)
-  found-size =
-      let p : f .size ≡ stepOf (meaningIn t .items) (drop at s) .size = ap (λ (x : Step). x .size) e in
-      rw (p, ← length-drop at s) (step-size (meaningIn t .items) (drop at s) some-left)
+  pub place-fits : Fits w32 (f .place)
+  place-fits = record { fits = omega (arith, found-place t s (r .checked) h e .most, table-good t (r .checked) .few-items) }
 
   -- it is the first of the elements that are left
-  pub found-first : elements (meaningIn t .items) 0 (drop at s) ≡ f .place ∷ elements (meaningIn t .items) 0 (drop (at + f .size) s)
-  found-first =
-      let p : f .place ≡ stepOf (meaningIn t .items) (drop at s) .place = ap (λ (x : Step). x .place) e in
-      let q : f .size ≡ stepOf (meaningIn t .items) (drop at s) .size = ap (λ (x : Step). x .size) e in
-      elements-step (meaningIn t .items) (drop at s) some-left ∙ rw (← p, ← q, drop-drop (f .size) at s)
+  pub first-left : elements (meaningIn t .items) 0 (drop at s) ≡ f .place ∷ elements (meaningIn t .items) 0 (drop (at + f .size) s)
+  first-left = found-first t s (r .checked) h e
 
   pub cut-more : {many : ℕ} → Cut t s places at many → CutOne t s (set places many (f .place)) at many f
   cut-more {many} v =
       let is : List Item = meaningIn t .items in
       let rest : List ℕ = elements is 0 (drop (at + f .size) s) in
       let k : many < length places = omega (arith, v .fewer, r .room) in
+      let size = found-size t s (r .checked) h e in
       record {
         is = e;
-        some = found-size .least;
+        some = size .least;
         cut = record {
-          to = omega (arith, found-size .most);
-          fewer = omega (arith, v .fewer, found-size .least);
+          to = omega (arith, size .most);
+          fewer = omega (arith, v .fewer, size .least);
           same =
-              rw (add-one many, take-suc-set places many (f .place) k, append-snoc (take many places) (f .place) rest, ← found-first) (v .same);
+              rw (add-one many, take-suc-set places many (f .place) k, append-snoc (take many places) (f .place) rest, ← first-left) (v .same);
         };
       }
 

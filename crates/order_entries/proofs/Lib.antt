@@ -1,4 +1,3 @@
 pub mod WalkLaws
 pub mod BothLaws
 pub mod CompareLaws
-pub mod CountLaws

@@ -2,12 +2,12 @@
 use mathlib.Core.Path.{_≡_}
 use mathlib.Core.Bool.{Bool, true, _&&_}
 use mathlib.Core.List.{List, [], _∷_, map, reverse}
-use Prim.Native.Nat.{ℕ, _+_, _*_, _≤_, _<_}
+use Prim.Native.Nat.{ℕ, _+_, _≤_, _<_}
 use lib.ListN.{length, take, drop}
 use lib.Dec.{eqb}
 use Rattle.base_lists.proofs.Lists.{All}
 use Rattle.rules.specs.Text.{if_then_else_}
-use Rattle.rules.specs.Meaning.{Rule, countAll}
+use Rattle.rules.specs.Meaning.{Rule}
 use Rattle.rules.specs.Table.{accepted, meaningIn}
 use Rattle.rules.specs.Order as order
 use Rattle.rules.specs.Order.{weightsAt, more, entriesFrom, walked, levelEntries}
@@ -104,8 +104,3 @@ seenAs s = record { sign = signOf (s .sign); agreed = s .agreed }
 pub record Compared (t a b : List ℕ) (level : ℕ) (rule : Rule) (s : Seen) : Type 0 where
   pub is : seenAs s ≡ seen (levelEntries (meaningIn t .items) rule level a) (levelEntries (meaningIn t .items) rule level b) 0
   pub small : s .agreed ≤ 32768
-
--- How many entries a level has.
-pub record Counts (t places : List ℕ) (level n : ℕ) : Type 0 where
-  pub is : n ≡ countAll (map (weightsAt (meaningIn t .items) level) places)
-  pub few : n ≤ 8 * length places

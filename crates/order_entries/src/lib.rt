@@ -6,7 +6,7 @@ ghost use lib.ListN.{length, getD};
 ghost use Rattle.rules.specs.Order.{signEntry};
 ghost use Rattle.base_units.specs.Numbers.{signOf};
 ghost use Rattle.table_layout.specs.Parts.{ruleAs};
-ghost use Rattle.order_entries.specs.Walk.{directed, Level, Sound, fresh, entryAs, entriesOn, entriesLeft, Gives, levelWith, atElements, skippedAfter, Walking, Onward, Compared, Counts};
+ghost use Rattle.order_entries.specs.Walk.{directed, Level, Sound, fresh, entryAs, entriesOn, entriesLeft, Gives, levelWith, atElements, skippedAfter, Walking, Onward, Compared};
 use base_units::Rank;
 use base_units::Sign;
 use table_layout::Rule;
@@ -58,7 +58,7 @@ fn start() -> Cursor
 }
 
 // The place of the element that is i-th in the direction walked, from 0.
-pub fn place_at(places: &[u32], backward: bool, i: usize) -> usize
+fn place_at(places: &[u32], backward: bool, i: usize) -> usize
     requires { ⌜ i < length (now places) ⌝ }
     ensures { λ r. ⌜ r ≡ getD (directed backward (now (places .entry))) i 0 ⌝ }
 {
@@ -338,19 +338,4 @@ pub fn compare_level(t: &[u32], a: &[u32], b: &[u32], level: usize, rule: Rule) 
             },
         }
     }
-}
-
-// How many entries a level has, whatever its rule.
-pub fn count_level(t: &[u32], places: &[u32], level: usize) -> usize
-    requires { ⌜ Level (now t) (now places) level ⌝ }
-    ensures { λ r. ⌜ Counts (now (t .entry)) (now (places .entry)) level r ⌝ }
-{
-    let mut n: usize = 0;
-    let mut i: usize = 0;
-    while i < places.len() {
-        let place = places[i] as usize;
-        n += table_layout::count_at(t, place, level);
-        i += 1;
-    }
-    n
 }

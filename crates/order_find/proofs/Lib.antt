@@ -4,3 +4,4 @@ pub mod KeyLaws
 pub mod SearchLaws
 pub mod LookLaws
 pub mod QuickLaws
+pub mod FoundLaws

@@ -21,7 +21,8 @@ use Rattle.rules.proofs.MeaningLaws.{Good, item-parts}
 use Rattle.rules.proofs.SortLaws.{before-cases}
 use Rattle.rules.proofs.ElementLaws.{charsAt, step-is}
 use Rattle.table_layout.specs.declared.Listed.{Listed}
-use Rattle.table_layout.specs.Parts.{Indexed, startFor, listedChars, Lists}
+use Rattle.table_layout.specs.declared.Shape.{Shape}
+use Rattle.table_layout.specs.Parts.{Shaped, Indexed, startFor, listedChars, Lists}
 use Rattle.table_layout.proofs.IndexLaws.{indexed-good, listed-place}
 use Rattle.order_find.specs.Answer.{Quick}
 use Rattle.order_find.specs.Search.{listedKey}
@@ -99,6 +100,10 @@ module _ (m : Meaning) (g : Good m) (c k : ℕ) (start : k ≡ startFor (m .item
       (λ q b t. omega (arith, one, short q b (charsAt (m .items) q) rest refl t)))
 
 -- ## quick
+
+-- a table's shape says where its index stands
+pub shaped-indexed : {t : List ℕ} {s : Shape} → Shaped t s → Indexed t (s .chars) (s .items)
+shaped-indexed v = record { checked = v .checked; chars-are = v .chars-are; items-are = v .items-are }
 
 module _ {t : List ℕ} {chars items : ℕ} (w : Indexed t chars items) (c : ℕ) {b k : ℕ} (be : b ≡ bucket (length (meaningIn t .items)) (c ∷ []))
     (ke : k ≡ startFor (meaningIn t .items) b) where

@@ -14,9 +14,10 @@ ghost use Rattle.rules.specs.Text.{every};
 ghost use Rattle.rules.specs.Names.{isCharacter};
 ghost use Rattle.rules.specs.Table.{pad, padded, before, accepted, meaningIn};
 ghost use Rattle.rules.specs.Order.{stepOf};
-ghost use Rattle.table_layout.specs.Parts.{Indexed};
+ghost use Rattle.table_layout.specs.Parts.{Shaped, Indexed};
 ghost use Rattle.order_find.specs.Answer.{foundAs, Quick};
 ghost use Rattle.order_find.specs.Search.{numbersOf, keyIn, Least, Shares, Window, Ahead, Looked};
+use table_layout::Shape;
 use table_layout::bucket_in;
 use table_layout::characters;
 use table_layout::item_at;
@@ -203,16 +204,14 @@ pub fn search(t: &[u32], s: &[u32], at: usize) -> Found
     }
 }
 
-// The place of the item that a character is whatever follows it, or 0 where that is not known.
-pub fn quick(t: &[u32], c: u32) -> usize
-    requires { ⌜ accepted (now t) ≡ true ⌝ }
+// The place of the item that a character is whatever follows it, or 0 where that is not known, in a table of so many items whose characters begin at a place.
+fn quick_in(t: &[u32], chars: usize, items: usize, c: u32) -> usize
+    requires { ⌜ Indexed (now t) chars items ⌝ }
     requires { ⌜ isCharacter c ≡ true ⌝ }
     ensures { λ r. ⌜ Quick (meaningIn (now (t .entry)) .items) c r ⌝ }
 {
-    let chars = characters(t);
-    let n = items(t);
-    let k = start_in(t, chars, n, bucket_in(t, c));
-    let item = item_at(t, chars, n, k);
+    let k = start_in(t, chars, items, bucket_in(t, c));
+    let item = item_at(t, chars, items, k);
     let from = item.from;
     if t[from] == c {
         if t[from + 1] == 0x110000 {
@@ -222,14 +221,25 @@ pub fn quick(t: &[u32], c: u32) -> usize
     0
 }
 
-// The element that begins at a place of a string of characters.
-pub fn longest(t: &[u32], s: &[u32], at: usize) -> Found
+// The same in any table.
+pub fn quick(t: &[u32], c: u32) -> usize
     requires { ⌜ accepted (now t) ≡ true ⌝ }
+    requires { ⌜ isCharacter c ≡ true ⌝ }
+    ensures { λ r. ⌜ Quick (meaningIn (now (t .entry)) .items) c r ⌝ }
+{
+    let chars = characters(t);
+    let n = items(t);
+    quick_in(t, chars, n, c)
+}
+
+// The element that begins at a place of a string of characters, in a table of this shape.
+pub fn longest_in(t: &[u32], shape: Shape, s: &[u32], at: usize) -> Found
+    requires { ⌜ Shaped (now t) shape ⌝ }
     requires { ⌜ at < length (now s) ⌝ }
     requires { ⌜ every isCharacter (now s) ≡ true ⌝ }
     ensures { λ r. ⌜ foundAs r ≡ stepOf (meaningIn (now (t .entry)) .items) (drop at (now (s .entry))) ⌝ }
 {
-    let place = quick(t, s[at]);
+    let place = quick_in(t, shape.chars, shape.items, s[at]);
     if 0 < place {
         return Found {
             place: place,
@@ -237,4 +247,15 @@ pub fn longest(t: &[u32], s: &[u32], at: usize) -> Found
         };
     }
     search(t, s, at)
+}
+
+// The same in any table.
+pub fn longest(t: &[u32], s: &[u32], at: usize) -> Found
+    requires { ⌜ accepted (now t) ≡ true ⌝ }
+    requires { ⌜ at < length (now s) ⌝ }
+    requires { ⌜ every isCharacter (now s) ≡ true ⌝ }
+    ensures { λ r. ⌜ foundAs r ≡ stepOf (meaningIn (now (t .entry)) .items) (drop at (now (s .entry))) ⌝ }
+{
+    let shape = table_layout::shape_of(t);
+    longest_in(t, shape, s, at)
 }

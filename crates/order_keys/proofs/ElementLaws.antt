@@ -1,17 +1,20 @@
--- The bytes of an entry and of an element, as put_entry, put_later and put_element write them.
-use mathlib.Core.Path.{_≡_, ap, _∙_}
+-- The bytes of an entry and of an element, as put_entry, put_later, put_element and put_before write them, and how many they are.
+use mathlib.Core.Path.{_≡_, refl, ap, _∙_}
 use mathlib.Core.Bool.{Bool, true, false}
-use mathlib.Core.List.{List, [], _++_, append-nil}
-use Prim.Native.Nat.{ℕ, _+_, _≤_, _<_}
+use mathlib.Core.List.{List, [], _∷_, _++_, append-nil}
+use Prim.Native.Nat.{ℕ, _+_, _-_, _*_, _≤_, _<_}
 use native.Mathlib.Numerals.{add-one}
 use native.Mathlib.Omega.{arith}
-use lib.ListN.{length, getD, take, drop, length-append}
-use lib.Seq.{length-sets}
+use mir.Syntax.{w64}
+use mir.Val.{Fits}
+use lib.ListN.{length, getD, drop, length-append, length-drop}
+use lib.Seq.{length-sets, length-take-le}
 use Rattle.base_lists.proofs.Runs.{run, run-whole, run-none, run-cons}
 use Rattle.rules.specs.Order.{two}
+use Rattle.rules.proofs.KeyLaws.{entryWidth}
 use Rattle.table_layout.specs.declared.Run.{Run}
 use Rattle.base_units.specs.declared.Rank.{Rank}
-use Rattle.order_keys.specs.Writing.{entryBytes, laterBytes, elementBytes, TwoFit, EntryFits, LaterFit, ElementFits, Puts}
+use Rattle.order_keys.specs.Writing.{numbersIn, Weighs, entryBytes, laterBytes, elementBytes, TwoFit, EntryFits, LaterFit, ElementFits, BeforeFits, Puts, PutsBefore}
 use Rattle.order_keys.proofs.PutLaws.{puts-then, Putting, putting-none, putting-room, putting-more, putting-all}
 
 -- ## An entry
@@ -102,14 +105,14 @@ module _ {t : List ℕ} {w : Run} {room : List ℕ} {at : ℕ} {p : Bool} {n : �
 
   module _ {r : Rank} (e : r .0 ≡ getD t (w .from) 0) where
     -- the first, and the others
-    element-parts : elementBytes p n (take (w .count) (drop (w .from) t))
+    element-parts : elementBytes p n (numbersIn t w)
         ≡ entryBytes p n (r .0) ++ laterBytes p (run t (w .from + 1) (w .from + w .count))
     unfolding elementBytes
     element-parts =
         let h : w .from < w .from + w .count = omega (arith, f .some) in
         rw (e, run-whole t (w .from) (w .count), run-cons t (w .from) (w .from + w .count) h (f .narrow .within))
 
-    element-long : length (elementBytes p n (take (w .count) (drop (w .from) t)))
+    element-long : length (elementBytes p n (numbersIn t w))
         ≡ length (entryBytes p n (r .0)) + length (laterBytes p (run t (w .from + 1) (w .from + w .count)))
     element-long =
         ap length element-parts ∙ length-append (entryBytes p n (r .0)) (laterBytes p (run t (w .from + 1) (w .from + w .count)))
@@ -122,7 +125,7 @@ module _ {t : List ℕ} {w : Run} {room : List ℕ} {at : ℕ} {p : Bool} {n : �
     }
 
     module _ {first : List ℕ} {next : ℕ} (q : Puts room at (entryBytes p n (r .0)) first next) where
-      pub element-one : w .count ≡ 1 → Puts room at (elementBytes p n (take (w .count) (drop (w .from) t))) first next
+      pub element-one : w .count ≡ 1 → Puts room at (elementBytes p n (numbersIn t w)) first next
       element-one h =
           let z : laterBytes p (run t (w .from + 1) (w .from + w .count)) ≡ [] =
           later-nil t (w .from + 1) (w .from + w .count) p (omega arith) in
@@ -138,5 +141,65 @@ module _ {t : List ℕ} {w : Run} {room : List ℕ} {at : ℕ} {p : Bool} {n : �
 
       pub element-all : {second : List ℕ} {behind : ℕ}
           → Puts first next (laterBytes p (run t (w .from + 1) (w .from + w .count))) second behind
-          → Puts room at (elementBytes p n (take (w .count) (drop (w .from) t))) second behind
+          → Puts room at (elementBytes p n (numbersIn t w)) second behind
       element-all s = rw element-parts (puts-then q s)
+
+-- ## How many bytes
+
+later-width : (p : Bool) (ws : List ℕ) → length (laterBytes p ws) ≡ entryWidth p * length ws
+unfolding laterBytes entryBytes
+later-width true [] = omega arith
+later-width false [] = omega arith
+later-width true (w ∷ ws) = let h = later-width true ws in omega arith
+later-width false (w ∷ ws) = let h = later-width false ws in omega arith
+
+-- an entry for each weight
+pub element-width : (p : Bool) (n : ℕ) (ws : List ℕ) → length (elementBytes p n ws) ≡ entryWidth p * length ws
+unfolding elementBytes entryBytes
+element-width true n [] = omega arith
+element-width false n [] = omega arith
+element-width true n (w ∷ ws) = let h = later-width true ws in omega arith
+element-width false n (w ∷ ws) = let h = later-width false ws in omega arith
+
+-- ## In front of a place
+
+-- a run has as many numbers as it says
+numbers-many : (t : List ℕ) (w : Run) → w .from + w .count ≤ length t → length (numbersIn t w) ≡ w .count
+numbers-many t w h = length-take-le (w .count) (drop (w .from) t) (rw (length-drop (w .from) t) (omega arith))
+
+pub numbers-some : {t : List ℕ} {w : Run} → Weighs t w → ¬ (w .count ≡ 0) → 0 < length (numbersIn t w)
+numbers-some {t} {w} v z =
+    let some : 0 < w .count = omega arith in
+    omega (arith, numbers-many t w (v .narrow some .within))
+
+module _ {t : List ℕ} {w : Run} {p : Bool} {n : ℕ} {room : List ℕ} {end : ℕ} (f : BeforeFits t w p n room end) where
+  -- no weight, no byte
+  pub before-none : w .count ≡ 0 → PutsBefore room end (elementBytes p n (numbersIn t w)) room end
+  unfolding elementBytes
+  before-none z = rw z (record { is = refl; to = omega arith })
+
+  module _ (h : ¬ (w .count ≡ 0)) {wide : ℕ} (e : wide ≡ entryWidth p) where
+    some : 0 < w .count
+    some = omega arith
+
+    before-width : length (elementBytes p n (numbersIn t w)) ≡ wide * w .count
+    before-width =
+        element-width p n (numbersIn t w) ∙ rw (e, numbers-many t w (f .weighs .narrow some .within))
+
+    pub before-wide : wide * w .count ≤ end
+    before-wide = omega (arith, before-width, f .wide)
+
+    pub before-long : Fits w64 end → Fits w64 (wide * w .count)
+    before-long k = omega (arith, before-wide, k)
+
+    pub before-fits : ElementFits t w room (end - wide * w .count) p n
+    before-fits = record {
+      some = some;
+      counted = f .counted;
+      narrow = f .weighs .narrow some;
+      inside = omega (arith, before-width, f .wide, f .inside);
+    }
+
+    pub before-put : {after : List ℕ} {behind : ℕ} → Puts room (end - wide * w .count) (elementBytes p n (numbersIn t w)) after behind
+        → PutsBefore room end (elementBytes p n (numbersIn t w)) after (end - wide * w .count)
+    before-put q = record { is = q .is; to = omega (arith, before-width, f .wide) }

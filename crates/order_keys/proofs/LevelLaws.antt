@@ -1,31 +1,40 @@
--- The bytes of a level, element by element, as write_level writes them.
+-- The bytes of a level, element by element: walked forward, and from its end while the string is cut from its beginning. How many they are.
 use mathlib.Core.Path.{_≡_, refl, sym, ap, _∙_}
 use mathlib.Core.Bool.{Bool, true, false, cond}
-use mathlib.Core.List.{List, [], _∷_, _++_}
-use Prim.Native.Nat.{ℕ, suc, _+_, _-_, _≤_, _<_}
+use mathlib.Core.List.{List, [], _∷_, _++_, map, reverse, reverseAux}
+use Prim.Native.Nat.{ℕ, zero, suc, _+_, _*_, _≤_, _<_}
+use native.Mathlib.Nat.{add-zero}
 use native.Mathlib.Omega.{arith}
-use mir.Syntax.{w32}
-use mir.Val.{Fits}
-use lib.ListN.{length, getD, take, drop}
-use lib.Seq.{getD-take, getD-drop}
-use lib.Dec.{leb}
-use Rattle.base_lists.proofs.Bools.{and-right}
-use Rattle.base_lists.proofs.Runs.{run-first}
-use Rattle.rules.specs.Text.{every, within}
-use Rattle.rules.specs.Meaning.{Rule, goodWeights}
+use lib.ListN.{length, length-append}
+use Rattle.rules.specs.Meaning.{Rule, countAll}
 use Rattle.rules.specs.Table.{meaningIn}
-use Rattle.rules.specs.Order.{Entry, two, weightsAt, more, levelKey, levelEntries}
-use Rattle.rules.proofs.TextLaws.{every-at, within-high}
-use Rattle.rules.proofs.EntryLaws.{weightsAt-good}
-use Rattle.table_layout.specs.Parts.{Holds}
-use Rattle.table_layout.specs.declared.Run.{Run}
-use Rattle.table_layout.proofs.PartLaws.{table-good}
-use Rattle.order_entries.specs.Walk.{directed, Level, entriesOn}
-use Rattle.order_entries.proofs.WalkLaws.{weightsOn, on-none, on-skip, on-take, on-all}
-use Rattle.order_keys.specs.Writing.{entryBytes, laterBytes, elementBytes, levelBytes, TwoFit, Narrow, ElementFits, Puts}
-use Rattle.order_keys.proofs.PutLaws.{Putting, putting-none, putting-room, putting-more, putting-all}
+use Rattle.rules.specs.Order.{Entry, two, elements, weightsAt, more, entriesFrom, walked, levelEntries, levelKey}
+use Rattle.rules.proofs.EntryLaws.{level-count}
+use Rattle.rules.proofs.KeyLaws.{entryWidth, level-width}
+use Rattle.order_keys.specs.Writing.{weightsFrom, entryBytes, laterBytes, elementBytes, forward, backward, levelBytes}
+use Rattle.order_keys.proofs.ElementLaws.{element-width}
 
--- ## The bytes of an element begin those of its entries
+-- ## Forward
+
+-- the bytes of these elements, n elements without a weight having stood before them, and what follows them
+unfoldable pub onwardBytes : Bool → ℕ → List (List ℕ) → List ℕ → List ℕ
+onwardBytes p n [] rest = rest
+onwardBytes p n ([] ∷ es) rest = onwardBytes p (suc n) es rest
+onwardBytes p n ((w ∷ ws) ∷ es) rest = elementBytes p n (w ∷ ws) ++ onwardBytes p 0 es rest
+
+pub onward-none : (p : Bool) (n : ℕ) (rest : List ℕ) → onwardBytes p n [] rest ≡ rest
+unfolding onwardBytes
+onward-none p n rest = refl
+
+pub onward-skip : (p : Bool) (n : ℕ) (es : List (List ℕ)) (rest : List ℕ) → onwardBytes p n ([] ∷ es) rest ≡ onwardBytes p (suc n) es rest
+unfolding onwardBytes
+onward-skip p n es rest = refl
+
+pub onward-take : (p : Bool) (n : ℕ) (ws : List ℕ) (es : List (List ℕ)) (rest : List ℕ) → 0 < length ws
+    → onwardBytes p n (ws ∷ es) rest ≡ elementBytes p n ws ++ onwardBytes p 0 es rest
+unfolding onwardBytes
+onward-take p n [] es rest h = absurd (omega arith)
+onward-take p n (w ∷ ws) es rest h = refl
 
 levelKey-later : (p : Bool) (ws : List ℕ) (es : List Entry) → levelKey p (more ws es) [] ≡ laterBytes p ws ++ levelKey p es []
 unfolding levelKey more laterBytes entryBytes
@@ -39,106 +48,120 @@ unfolding levelKey elementBytes entryBytes
 levelKey-element true n w ws es = ap (λ (k : List ℕ). two (suc n) (two w k)) (levelKey-later true ws es)
 levelKey-element false n w ws es = ap (λ (k : List ℕ). two w k) (levelKey-later false ws es)
 
-levelKey-nil : (p : Bool) → levelKey p [] [] ≡ two 0 [] ++ []
-unfolding levelKey
-levelKey-nil p = refl
+-- the paper's bytes, with 00 00 behind them
+onward-paper : (p : Bool) (n : ℕ) (es : List (List ℕ)) → levelKey p (entriesFrom p n es) [] ≡ onwardBytes p n es (two 0 [])
+unfolding entriesFrom levelKey onwardBytes
+onward-paper p n [] = refl
+onward-paper p n ([] ∷ es) = onward-paper p (suc n) es
+onward-paper p n ((w ∷ ws) ∷ es) =
+    levelKey-element p n w ws (entriesFrom p 0 es) ∙ ap (λ (k : List ℕ). elementBytes p n (w ∷ ws) ++ k) (onward-paper p 0 es)
 
--- ## The weights of an element have two bytes each
+pub forward-bytes : (t s : List ℕ) (level : ℕ) (p : Bool) → levelBytes t s level (forward p) ≡ onwardBytes p 0 (weightsFrom t s level 0) (two 0 [])
+unfolding levelBytes levelEntries walked weightsFrom
+forward-bytes t s level p = onward-paper p 0 (map (weightsAt (meaningIn t .items) level) (elements (meaningIn t .items) 0 s))
 
-weights-narrow : {t ws : List ℕ} (r : Run) → Holds t r ws → goodWeights ws ≡ true → 0 < r .count → Narrow t (r .from) (r .from + r .count)
-unfolding goodWeights
-weights-narrow {t} {ws} r w g h = record { within = w .inside h; small = small }
-  where
-    small : (i : ℕ) → r .from ≤ i → i < r .from + r .count → getD t i 0 < 65536
-    small i a b =
-        let k : ℕ = i - r .from in
-        let n : r .from + k ≡ i = omega arith in
-        let e : getD ws k 0 ≡ getD t i 0 =
-        ap (λ (x : List ℕ). getD x k 0) (sym (w .is)) ∙ getD-take (r .count) (drop (r .from) t) k 0 (omega arith) ∙ getD-drop (r .from) t k 0
-        ∙ ap (λ (j : ℕ). getD t j 0) n in
-        let f = every-at (within 1 32768) ws k 0 (and-right (leb (length ws) 8) (every (within 1 32768) ws) g) (omega (arith, w .many)) in
-        omega (arith, e, within-high 1 32768 (getD ws k 0) f)
+-- ## Backward
 
--- ## Element by element
+-- The bytes of a level of which these elements are still to be cut. `done` stands behind those of the last element that has a weight, `last`, behind which n
+-- elements without one have been cut; where there is no such element yet, `last` has no weight.
+unfoldable pub turnedBytes : Bool → List ℕ → ℕ → List (List ℕ) → List ℕ → List ℕ
+turnedBytes p last n [] done = elementBytes p n last ++ done
+turnedBytes p last n ([] ∷ es) done = turnedBytes p last (suc n) es done
+turnedBytes p last n ((w ∷ ws) ∷ es) done = turnedBytes p (w ∷ ws) 0 es (elementBytes p n last ++ done)
 
--- the bytes of the i-th element walked and of those after it, and 00 00, are still to be written, the `skipped` before it having no weight
-pub record Levelling (t places : List ℕ) (level : ℕ) (rule : Rule) (room : List ℕ) (at : ℕ) (now : List ℕ) (i skipped next : ℕ) : Type 0 where
-  pub to : i ≤ length places
-  pub less : skipped ≤ i
-  pub putting : Putting room at (levelBytes t places level rule) now next (levelKey (rule .position) (entriesOn t places level rule i skipped) [])
+pub turned-none : (p : Bool) (last : List ℕ) (n : ℕ) (done : List ℕ) → turnedBytes p last n [] done ≡ elementBytes p n last ++ done
+unfolding turnedBytes
+turned-none p last n done = refl
 
-pub levelling-none : (t places : List ℕ) (level : ℕ) (rule : Rule) (room : List ℕ) (at : ℕ) → Levelling t places level rule room at room 0 0 at
-unfolding levelBytes
-levelling-none t places level rule room at = record {
-  to = omega arith;
-  less = omega arith;
-  putting =
-      rw (on-all t places level rule)
-      (putting-none room at (levelKey (rule .position) (levelEntries (meaningIn t .items) rule level places) []));
-}
+pub turned-skip : (p : Bool) (last : List ℕ) (n : ℕ) (es : List (List ℕ)) (done : List ℕ)
+    → turnedBytes p last n ([] ∷ es) done ≡ turnedBytes p last (suc n) es done
+unfolding turnedBytes
+turned-skip p last n es done = refl
 
-module _ {t places room now : List ℕ} {level at i skipped next : ℕ} {rule : Rule} (v : Levelling t places level rule room at now i skipped next) where
-  module _ (h : length places ≤ i) where
-    end-left : levelKey (rule .position) (entriesOn t places level rule i skipped) [] ≡ two 0 [] ++ []
-    end-left = rw (on-none t places level rule i skipped h) (levelKey-nil (rule .position))
+pub turned-take : (p : Bool) (last : List ℕ) (n : ℕ) (ws : List ℕ) (es : List (List ℕ)) (done : List ℕ) → 0 < length ws
+    → turnedBytes p last n (ws ∷ es) done ≡ turnedBytes p ws 0 es (elementBytes p n last ++ done)
+unfolding turnedBytes
+turned-take p last n [] es done h = absurd (omega arith)
+turned-take p last n (w ∷ ws) es done h = refl
 
-    pub end-fits : at + length (levelBytes t places level rule) ≤ length room → TwoFit now next 0
-    end-fits l = record { small = omega arith; inside = putting-room (v .putting) (two 0 []) [] end-left l }
+-- what is written and what is kept are part of the level
+pub turned-long : (p : Bool) (last : List ℕ) (n : ℕ) (es : List (List ℕ)) (done : List ℕ)
+    → length (elementBytes p n last) + length done ≤ length (turnedBytes p last n es done)
+unfolding turnedBytes
+turned-long p last n [] done = omega (arith, length-append (elementBytes p n last) done)
+turned-long p last n ([] ∷ es) done =
+    omega (arith, turned-long p last (suc n) es done, element-width p n last, element-width p (suc n) last)
+turned-long p last n ((w ∷ ws) ∷ es) done =
+    omega (arith, turned-long p (w ∷ ws) 0 es (elementBytes p n last ++ done), length-append (elementBytes p n last) done)
 
-    pub end-put : {after : List ℕ} {behind : ℕ} → Puts now next (two 0 []) after behind → Puts room at (levelBytes t places level rule) after behind
-    end-put p = putting-all (putting-more (v .putting) (two 0 []) [] end-left p) refl
+-- n elements without a weight, and others
+unfoldable blanks : ℕ → List (List ℕ) → List (List ℕ)
+blanks zero es = es
+blanks (suc n) es = [] ∷ blanks n es
 
-  module _ {place : ℕ} {run : Run} (h : i < length places) (e : place ≡ getD (directed (rule .backward) places) i 0)
-      (w : Holds t run (weightsAt (meaningIn t .items) level place)) where
-    held : take (run .count) (drop (run .from) t) ≡ weightsOn t places level rule i
-    held = rw (← e) (w .is)
+-- The same, turned round, is walked forward: first with elements in front of one that has a weight,
+onward-split : (p : Bool) (n : ℕ) (xs : List (List ℕ)) (w : ℕ) (ws : List ℕ) (bs : List (List ℕ)) (rest : List ℕ)
+    → onwardBytes p n (xs ++ (w ∷ ws) ∷ bs) rest ≡ onwardBytes p n (xs ++ (w ∷ ws) ∷ []) (onwardBytes p 0 bs rest)
+unfolding onwardBytes
+onward-split p n [] w ws bs rest = refl
+onward-split p n ([] ∷ xs) w ws bs rest = onward-split p (suc n) xs w ws bs rest
+onward-split p n ((v ∷ vs) ∷ xs) w ws bs rest = ap (λ (k : List ℕ). elementBytes p n (v ∷ vs) ++ k) (onward-split p 0 xs w ws bs rest)
 
-    pub skipped-fits : Level t places level → Fits w32 (skipped + 1)
-    skipped-fits l = omega (arith, v .less, l .few)
+-- then the last element alone,
+onward-blanks : (p : Bool) (n k : ℕ) (last rest : List ℕ) → onwardBytes p n (blanks k (last ∷ [])) rest ≡ elementBytes p (k + n) last ++ rest
+unfolding onwardBytes blanks elementBytes
+onward-blanks p n zero [] rest = refl
+onward-blanks p n zero (w ∷ ws) rest = let e : n ≡ 0 + n = omega arith in ap (λ (m : ℕ). elementBytes p m (w ∷ ws) ++ rest) e
+onward-blanks p n (suc k) last rest =
+    let e : k + suc n ≡ suc k + n = omega arith in
+    onward-blanks p (suc n) k last rest ∙ ap (λ (m : ℕ). elementBytes p m last ++ rest) e
 
-    -- an element without a weight
-    pub levelling-skip : run .count ≡ 0 → Levelling t places level rule room at now (i + 1) (skipped + 1) next
-    levelling-skip z = record {
-      to = omega arith;
-      less = omega (arith, v .less);
-      putting = rw (← on-skip t places level rule i skipped h (sym (rw z at held))) (v .putting);
-    }
+turn : {A : Type 0} (es xs ys : List A) → reverseAux es (xs ++ ys) ≡ reverseAux es xs ++ ys
+turn [] xs ys = refl
+turn (e ∷ es) xs ys = turn es (e ∷ xs) ys
 
-    -- an element that has one
-    module _ (n : ¬ (run .count ≡ 0)) where
-      some : 0 < run .count
-      some = omega arith
+-- and so all of them
+turned-onward : (p : Bool) (last : List ℕ) (n : ℕ) (es : List (List ℕ)) (done : List ℕ)
+    → turnedBytes p last n es done ≡ onwardBytes p 0 (reverseAux es (blanks n (last ∷ []))) done
+unfolding turnedBytes blanks
+turned-onward p last n [] done =
+    sym (onward-blanks p 0 n last done ∙ ap (λ (m : ℕ). elementBytes p m last ++ done) (add-zero n))
+turned-onward p last n ([] ∷ es) done = turned-onward p last (suc n) es done
+turned-onward p last n ((w ∷ ws) ∷ es) done =
+    let kept : List (List ℕ) = blanks n (last ∷ []) in
+    let rest : List ℕ = onwardBytes p 0 kept done in
+    let e : rest ≡ elementBytes p n last ++ done = onward-blanks p 0 n last done ∙ ap (λ (m : ℕ). elementBytes p m last ++ done) (add-zero n) in
+    turned-onward p (w ∷ ws) 0 es (elementBytes p n last ++ done)
+    ∙ ap (λ (k : List ℕ). onwardBytes p 0 (reverseAux es ((w ∷ ws) ∷ [])) k) (sym e)
+    ∙ ap (λ (k : List (List ℕ)). onwardBytes p 0 k rest) (turn es [] ((w ∷ ws) ∷ []))
+    ∙ sym (onward-split p 0 (reverseAux es []) w ws kept done)
+    ∙ ap (λ (k : List (List ℕ)). onwardBytes p 0 k done) (sym (turn es [] ((w ∷ ws) ∷ kept)))
 
-      element-left : levelKey (rule .position) (entriesOn t places level rule i skipped) []
-          ≡ elementBytes (rule .position) skipped (take (run .count) (drop (run .from) t))
-          ++ levelKey (rule .position) (entriesOn t places level rule (i + 1) 0) []
-      element-left =
-          let first : ℕ = getD t (run .from) 0 in
-          let others : List ℕ = take (run .count - 1) (drop (run .from + 1) t) in
-          let f : take (run .count) (drop (run .from) t) ≡ first ∷ others = run-first t (run .from) (run .count) some (w .inside some) in
-          rw (on-take t places level rule i skipped first others h (sym held ∙ f), f)
-          (levelKey-element (rule .position) skipped first others (entriesOn t places level rule (i + 1) 0))
+-- an element without a weight at the end adds nothing
+onward-last : (p : Bool) (n : ℕ) (xs : List (List ℕ)) (rest : List ℕ) → onwardBytes p n (xs ++ [] ∷ []) rest ≡ onwardBytes p n xs rest
+unfolding onwardBytes
+onward-last p n [] rest = refl
+onward-last p n ([] ∷ xs) rest = onward-last p (suc n) xs rest
+onward-last p n ((w ∷ ws) ∷ xs) rest = ap (λ (k : List ℕ). elementBytes p n (w ∷ ws) ++ k) (onward-last p 0 xs rest)
 
-      pub element-fits : Level t places level → at + length (levelBytes t places level rule) ≤ length room
-          → ElementFits t run now next (rule .position) skipped
-      element-fits l b = record {
-        some = some;
-        counted = omega (arith, v .less, l .few);
-        narrow =
-            weights-narrow run w
-            (weightsAt-good (length (meaningIn t .rules)) (meaningIn t .items) (table-good t (l .checked) .items) level place) some;
-        inside =
-            putting-room (v .putting) (elementBytes (rule .position) skipped (take (run .count) (drop (run .from) t)))
-            (levelKey (rule .position) (entriesOn t places level rule (i + 1) 0) []) element-left b;
-      }
+turned-paper : (p : Bool) (es : List (List ℕ)) → levelKey p (entriesFrom p 0 (reverse es)) [] ≡ turnedBytes p [] 0 es (two 0 [])
+unfolding blanks
+turned-paper p es =
+    onward-paper p 0 (reverse es)
+    ∙ sym (onward-last p 0 (reverse es) (two 0 []))
+    ∙ ap (λ (k : List (List ℕ)). onwardBytes p 0 k (two 0 [])) (sym (turn es [] ([] ∷ [])))
+    ∙ sym (turned-onward p [] 0 es (two 0 []))
 
-      pub levelling-element : {after : List ℕ} {behind : ℕ}
-          → Puts now next (elementBytes (rule .position) skipped (take (run .count) (drop (run .from) t))) after behind
-          → Levelling t places level rule room at after (i + 1) 0 behind
-      levelling-element p = record {
-        to = omega arith;
-        less = omega arith;
-        putting =
-            putting-more (v .putting) (elementBytes (rule .position) skipped (take (run .count) (drop (run .from) t)))
-            (levelKey (rule .position) (entriesOn t places level rule (i + 1) 0) []) element-left p;
-      }
+pub backward-bytes : (t s : List ℕ) (level : ℕ) (p : Bool) → levelBytes t s level (backward p) ≡ turnedBytes p [] 0 (weightsFrom t s level 0) (two 0 [])
+unfolding levelBytes levelEntries walked weightsFrom
+backward-bytes t s level p = turned-paper p (map (weightsAt (meaningIn t .items) level) (elements (meaningIn t .items) 0 s))
+
+-- ## How many
+
+pub level-long : (t s : List ℕ) (level : ℕ) (rule : Rule) → length (levelBytes t s level rule) ≡ entryWidth (rule .position) * countAll (weightsFrom t s level 0) + 2
+unfolding levelBytes weightsFrom
+level-long t s level rule =
+    let places : List ℕ = elements (meaningIn t .items) 0 s in
+    let w = level-width (rule .position) (levelEntries (meaningIn t .items) rule level places) [] in
+    let e = ap (λ (n : ℕ). entryWidth (rule .position) * n) (level-count (meaningIn t .items) rule level places) in
+    omega (arith, w, e)

@@ -1,8 +1,11 @@
 pub mod PutLaws
 pub mod ElementLaws
+pub mod PieceLaws
 pub mod LevelLaws
+pub mod ForwardLaws
+pub mod BackwardLaws
 pub mod LevelsLaws
 pub mod CodesLaws
-pub mod WidthLaws
+pub mod CountLaws
 pub mod WholeLaws
 pub mod AnswerLaws

@@ -1,4 +1,4 @@
--- Bytes stored in a room from a place on: the stores of put_two and put_three, and a list of bytes written part by part.
+-- Bytes stored in a room from a place on: the stores of put_two and put_three, and a list of bytes written part by part, each behind the last or in front of it.
 use mathlib.Core.Path.{_≡_, refl, sym, ap, _∙_}
 use mathlib.Core.List.{List, [], _++_}
 use Prim.Native.Nat.{ℕ, _+_, _/_, _%_, _≤_}
@@ -6,9 +6,9 @@ use native.Mathlib.Numerals.{add-one, add-two}
 use native.Mathlib.Omega.{arith}
 use lib.ListN.{length, set, length-append}
 use lib.Seq.{sets, length-sets}
-use Rattle.base_lists.proofs.Lists.{sets-append}
+use Rattle.base_lists.proofs.Lists.{sets-append, sets-swap}
 use Rattle.rules.specs.Order.{two, three}
-use Rattle.order_keys.specs.Writing.{Puts}
+use Rattle.order_keys.specs.Writing.{Puts, PutsBefore}
 
 -- ## The stores
 
@@ -52,3 +52,19 @@ module _ {room bytes now left : List ℕ} {at next : ℕ} (v : Putting room at b
 
   pub putting-all : left ≡ [] → Puts room at bytes now next
   putting-all e = record { is = ap (sets now next) (sym e) ∙ v .same; to = omega (arith, v .to, ap length e) }
+
+-- ## From the end
+
+-- one part in front of the other
+pub puts-in-front : {room a b first second : List ℕ} {from next end : ℕ} → PutsBefore room end b first next → PutsBefore first next a second from
+    → PutsBefore room end (a ++ b) second from
+puts-in-front {room} {a} {b} {from = from} p q = record {
+  is = q .is ∙ rw (p .is, ← q .to) (sets-swap room from a (from + length a) b (omega arith) ∙ sym (sets-append room from a b));
+  to = omega (arith, p .to, q .to, length-append a b);
+}
+
+-- written there or behind a place, they are the same
+pub puts-from : {room bytes now : List ℕ} {at end from : ℕ} → PutsBefore room end bytes now from → end ≡ at + length bytes → Puts room at bytes now end
+puts-from {room} {bytes} {at = at} {from = from} p e =
+    let z : from ≡ at = omega (arith, p .to, e) in
+    record { is = rw (← z) (p .is); to = e }

@@ -1,28 +1,37 @@
-// The key builder: it counts the bytes of a string's key, and writes them where the room lent has place for them all.
+// The key builder: it counts the bytes of a string's key, and writes them where the room lent has place for them all. No list of the string's
+// elements is kept: the string is cut again for each level. A level that is walked backward is written from its end towards its beginning, while the
+// string is cut from its beginning on.
 ghost use mathlib.Core.Path.{_≡_};
 ghost use mathlib.Core.Bool.{true};
 ghost use mathlib.Core.List.{[]};
-ghost use Prim.Native.Nat.{_+_, _*_, _≤_};
-ghost use lib.ListN.{length, take, drop};
+ghost use Prim.Native.Nat.{_+_, _*_, _≤_, _<_};
+ghost use lib.ListN.{length};
 ghost use Rattle.base_lists.proofs.Runs.{run};
-ghost use Rattle.rules.specs.Table.{accepted, meaningIn};
+ghost use Rattle.rules.specs.Meaning.{countAll};
+ghost use Rattle.rules.specs.Table.{meaningIn};
 ghost use Rattle.rules.specs.Order.{two, three, codesKey, goodString, keyOf};
 ghost use Rattle.rules.specs.Calls.{keyCall};
-ghost use Rattle.order_entries.specs.Walk.{Level};
-ghost use Rattle.order_elements.specs.Cuts.{Ready};
-ghost use Rattle.table_layout.specs.Parts.{ruleAs};
+ghost use Rattle.rules.proofs.KeyLaws.{entryWidth};
+ghost use Rattle.table_layout.specs.Parts.{ruleAs, Within, Shaped};
 ghost use Rattle.order_keys.specs.Answers.{keyedAs};
-ghost use Rattle.order_keys.specs.Writing.{Listed, Spelled, entryBytes, laterBytes, elementBytes, levelBytes, levelsBytes, Weights, CountsAt, Counts, levelsWide, TwoFit, ThreeFit, EntryFits, LaterFit, ElementFits, Puts};
+ghost use Rattle.order_keys.specs.Writing.{Keyable, AtLevel, weightsFrom, Cuts, Blank, Countable, Added, Counted, numbersIn, forward, backward, entryBytes, laterBytes, elementBytes, levelBytes, levelsBytes, TwoFit, ThreeFit, EntryFits, LaterFit, ElementFits, BeforeFits, Puts, PutsBefore};
 use base_units::CodePoint;
 use base_units::Rank;
 use base_units::Refusal;
 use table_layout::Rule;
 use table_layout::Run;
+use table_layout::Shape;
 
 // How many bytes were written, or why none was.
 pub enum Keyed {
     Written(usize),
     Refused(Refusal),
+}
+
+// An element of the string: where its weights at a level stand in the table, and how many characters it takes.
+struct Piece {
+    pub weights: Run,
+    pub size: usize,
 }
 
 // A number as two bytes, high first; the place behind them.
@@ -92,7 +101,7 @@ fn put_element(
     at: usize,
 ) -> usize
     requires { ⌜ ElementFits (now t) run (now room) at position skipped ⌝ }
-    ensures { λ r. ⌜ Puts (now (room .entry)) at (elementBytes position skipped (take (run .count) (drop (run .from) (now (t .entry))))) (now (room .exit)) r ⌝ }
+    ensures { λ r. ⌜ Puts (now (room .entry)) at (elementBytes position skipped (numbersIn (now (t .entry)) run)) (now (room .exit)) r ⌝ }
 {
     let from = run.from;
     let many = run.count;
@@ -104,49 +113,164 @@ fn put_element(
     put_later(t, from + 1, from + many, position, room, next)
 }
 
-// The entries of a level, and 00 00 behind them; the place behind those.
-fn write_level(
+// How many bytes an entry takes.
+fn entry_width(position: bool) -> usize
+    ensures { λ r. ⌜ r ≡ entryWidth position ⌝ }
+{
+    if position {
+        return 4;
+    }
+    2
+}
+
+// How many bytes a level takes that has so many entries: with the 00 00 behind them.
+fn level_width(position: bool, entries: usize) -> usize
+    requires { ⌜ entries ≤ 32768 ⌝ }
+    ensures { λ r. ⌜ r ≡ entryWidth position * entries + 2 ⌝ }
+{
+    entry_width(position) * entries + 2
+}
+
+// The weights of an element, in front of a place; where they begin. One without a weight takes no byte.
+fn put_before(
     t: &[u32],
-    places: &[u32],
+    run: Run,
+    position: bool,
+    skipped: u32,
+    room: &mut [u8],
+    end: usize,
+) -> usize
+    requires { ⌜ BeforeFits (now t) run position skipped (now room) end ⌝ }
+    ensures { λ r. ⌜ PutsBefore (now (room .entry)) end (elementBytes position skipped (numbersIn (now (t .entry)) run)) (now (room .exit)) r ⌝ }
+{
+    let many = run.count;
+    if many == 0 {
+        return end;
+    }
+    let at = end - entry_width(position) * many;
+    put_element(t, run, position, skipped, room, at);
+    at
+}
+
+// The element that begins at a place of the string, in a table of this shape.
+fn next_piece(t: &[u32], shape: Shape, s: &[u32], level: usize, at: usize) -> Piece
+    requires { ⌜ Shaped (now t) shape ⌝ }
+    requires { ⌜ AtLevel (now t) (now s) level ⌝ }
+    requires { ⌜ at < length (now s) ⌝ }
+    ensures { λ r. ⌜ Cuts (now (t .entry)) (now (s .entry)) level at r ⌝ }
+{
+    let found = order_find::longest_in(t, shape, s, at);
+    Piece {
+        weights: table_layout::weights_in(t, shape, found.place, level),
+        size: found.size,
+    }
+}
+
+// The entries of a level that is walked forward, and 00 00 behind them; the place behind those.
+fn write_forward(
+    t: &[u32],
+    s: &[u32],
     level: usize,
-    rule: Rule,
+    position: bool,
     room: &mut [u8],
     at: usize,
 ) -> usize
-    requires { ⌜ Level (now t) (now places) level ⌝ }
-    requires { ⌜ at + length (levelBytes (now t) (now places) level (ruleAs rule)) ≤ length (now room) ⌝ }
-    ensures { λ r. ⌜ Puts (now (room .entry)) at (levelBytes (now (t .entry)) (now (places .entry)) level (ruleAs rule)) (now (room .exit)) r ⌝ }
+    requires { ⌜ AtLevel (now t) (now s) level ⌝ }
+    requires { ⌜ at + length (levelBytes (now t) (now s) level (forward position)) ≤ length (now room) ⌝ }
+    ensures { λ r. ⌜ Puts (now (room .entry)) at (levelBytes (now (t .entry)) (now (s .entry)) level (forward position)) (now (room .exit)) r ⌝ }
 {
+    let shape = table_layout::shape_of(t);
     let mut i: usize = 0;
     let mut skipped: u32 = 0;
     let mut next = at;
-    while i < places.len() {
-        let place = order_entries::place_at(places, rule.backward, i);
-        let run = table_layout::weights(t, place, level);
+    while i < s.len() {
+        let piece = next_piece(t, shape, s, level, i);
+        let run = piece.weights;
         if run.count == 0 {
             skipped += 1;
-            i += 1;
+            i += piece.size;
         } else {
-            next = put_element(t, run, rule.position, skipped, room, next);
+            next = put_element(t, run, position, skipped, room, next);
             skipped = 0;
-            i += 1;
+            i += piece.size;
         }
     }
     put_two(room, next, 0)
 }
 
+// The entries of a level that is walked backward, and 00 00 behind them, in front of a place; where they begin. The count of an element is known when
+// the next one with a weight is cut, or the string ends: until then it is kept as `last`.
+fn write_backward(
+    t: &[u32],
+    s: &[u32],
+    level: usize,
+    position: bool,
+    room: &mut [u8],
+    end: usize,
+) -> usize
+    requires { ⌜ AtLevel (now t) (now s) level ⌝ }
+    requires { ⌜ (length (levelBytes (now t) (now s) level (backward position)) ≤ end) × (end ≤ length (now room)) ⌝ }
+    ensures { λ r. ⌜ PutsBefore (now (room .entry)) end (levelBytes (now (t .entry)) (now (s .entry)) level (backward position)) (now (room .exit)) r ⌝ }
+{
+    let shape = table_layout::shape_of(t);
+    let mut from = end - 2;
+    put_two(room, from, 0);
+    let mut last = Run { from: 0, count: 0 };
+    let mut skipped: u32 = 0;
+    let mut i: usize = 0;
+    while i < s.len() {
+        let piece = next_piece(t, shape, s, level, i);
+        let run = piece.weights;
+        if run.count == 0 {
+            skipped += 1;
+            i += piece.size;
+        } else {
+            from = put_before(t, last, position, skipped, room, from);
+            last = run;
+            skipped = 0;
+            i += piece.size;
+        }
+    }
+    put_before(t, last, position, skipped, room, from)
+}
+
+// A level that has so many entries; the place behind it.
+fn write_level(
+    t: &[u32],
+    s: &[u32],
+    level: usize,
+    rule: Rule,
+    entries: usize,
+    room: &mut [u8],
+    at: usize,
+) -> usize
+    requires { ⌜ AtLevel (now t) (now s) level ⌝ }
+    requires { ⌜ entries ≡ countAll (weightsFrom (now t) (now s) level 0) ⌝ }
+    requires { ⌜ at + length (levelBytes (now t) (now s) level (ruleAs rule)) ≤ length (now room) ⌝ }
+    ensures { λ r. ⌜ Puts (now (room .entry)) at (levelBytes (now (t .entry)) (now (s .entry)) level (ruleAs rule)) (now (room .exit)) r ⌝ }
+{
+    let position = rule.position;
+    if rule.backward {
+        let end = at + level_width(position, entries);
+        write_backward(t, s, level, position, room, end);
+        return end;
+    }
+    write_forward(t, s, level, position, room, at)
+}
+
 // The bytes of all levels, written to the front of the room; the place behind them.
-fn write_levels(t: &[u32], places: &[u32], room: &mut [u8]) -> usize
-    requires { ⌜ Listed (now t) (now places) ⌝ }
-    requires { ⌜ length (levelsBytes (now t) (now places) 0) ≤ length (now room) ⌝ }
-    ensures { λ r. ⌜ Puts (now (room .entry)) 0 (levelsBytes (now (t .entry)) (now (places .entry)) 0) (now (room .exit)) r ⌝ }
+fn write_levels(t: &[u32], s: &[u32], counts: &[usize], room: &mut [u8]) -> usize
+    requires { ⌜ Keyable (now t) (now s) ⌝ }
+    requires { ⌜ Counted (now t) (now s) (now counts) ⌝ }
+    requires { ⌜ length (levelsBytes (now t) (now s) 0) ≤ length (now room) ⌝ }
+    ensures { λ r. ⌜ Puts (now (room .entry)) 0 (levelsBytes (now (t .entry)) (now (s .entry)) 0) (now (room .exit)) r ⌝ }
 {
     let many = table_layout::levels(t);
     let mut level: usize = 0;
     let mut next: usize = 0;
     while level < many {
         let rule = table_layout::rule_of(t, level);
-        next = write_level(t, places, level, rule, room, next);
+        next = write_level(t, s, level, rule, counts[level], room, next);
         level += 1;
     }
     next
@@ -168,120 +292,77 @@ fn write_codes(s: &[u32], room: &mut [u8], at: usize) -> usize
     next
 }
 
-// How many weights the items at these places have, at all levels together.
-fn weights_of(t: &[u32], places: &[u32]) -> usize
-    requires { ⌜ Listed (now t) (now places) ⌝ }
-    ensures { λ r. ⌜ Weights (now (t .entry)) (now (places .entry)) r ⌝ }
+// Adds how many weights the item at a place has, at each level, in a table of this shape.
+fn add_counts(t: &[u32], shape: Shape, place: usize, counts: &mut [usize])
+    requires { ⌜ Shaped (now t) shape ⌝ }
+    requires { ⌜ Within (now t) place 0 ⌝ }
+    requires { ⌜ Countable (now t) (now counts) ⌝ }
+    ensures { λ r. ⌜ Added (now (t .entry)) place (now (counts .entry)) (now (counts .exit)) ⌝ }
 {
-    let mut n: usize = 0;
-    let mut i: usize = 0;
-    while i < places.len() {
-        let place = places[i] as usize;
-        n += table_layout::count_all(t, place);
-        i += 1;
-    }
-    n
-}
-
-// How many weights are preceded by a count at a level.
-fn counts_at(t: &[u32], places: &[u32], level: usize, rule: Rule) -> usize
-    requires { ⌜ Level (now t) (now places) level ⌝ }
-    ensures { λ r. ⌜ CountsAt (now (t .entry)) (now (places .entry)) level (ruleAs rule) r ⌝ }
-{
-    if rule.position {
-        return order_entries::count_level(t, places, level);
-    }
-    0
-}
-
-// How many weights are preceded by a count at all levels together.
-fn counts_of(t: &[u32], places: &[u32]) -> usize
-    requires { ⌜ Listed (now t) (now places) ⌝ }
-    ensures { λ r. ⌜ Counts (now (t .entry)) (now (places .entry)) r ⌝ }
-{
-    let many = table_layout::levels(t);
-    let mut n: usize = 0;
-    let mut level = 0;
-    while level < many {
-        let rule = table_layout::rule_of(t, level);
-        n += counts_at(t, places, level, rule);
+    let mut level: usize = 0;
+    while level < shape.levels {
+        let run = table_layout::weights_in(t, shape, place, level);
+        counts[level] += run.count;
         level += 1;
     }
-    n
 }
 
-// How many bytes the key takes of a string with n characters.
-fn key_width(t: &[u32], places: &[u32], n: usize) -> usize
-    requires { ⌜ Listed (now t) (now places) ⌝ }
-    requires { ⌜ n ≤ 4096 ⌝ }
-    ensures { λ r. ⌜ r ≡ levelsWide (now (t .entry)) (now (places .entry)) 0 + 3 * n ⌝ }
+// Adds how many entries the string has at each level, to counts that are 0.
+fn count_entries(t: &[u32], s: &[u32], counts: &mut [usize])
+    requires { ⌜ Keyable (now t) (now s) ⌝ }
+    requires { ⌜ Blank (now t) (now counts) ⌝ }
+    ensures { λ r. ⌜ Counted (now (t .entry)) (now (s .entry)) (now (counts .exit)) ⌝ }
 {
-    let weights = weights_of(t, places);
-    let counts = counts_of(t, places);
+    let shape = table_layout::shape_of(t);
+    let mut at: usize = 0;
+    while at < s.len() {
+        let found = order_find::longest_in(t, shape, s, at);
+        add_counts(t, shape, found.place, counts);
+        at += found.size;
+    }
+}
+
+// How many bytes the key takes.
+fn key_width(t: &[u32], s: &[u32], counts: &[usize]) -> usize
+    requires { ⌜ Keyable (now t) (now s) ⌝ }
+    requires { ⌜ Counted (now t) (now s) (now counts) ⌝ }
+    ensures { λ r. ⌜ r ≡ length (keyOf (meaningIn (now (t .entry))) (now (s .entry))) ⌝ }
+{
     let many = table_layout::levels(t);
-    2 * (weights + counts + many) + 3 * n
+    let mut wide = 3 * s.len();
+    let mut level: usize = 0;
+    while level < many {
+        let rule = table_layout::rule_of(t, level);
+        wide += level_width(rule.position, counts[level]);
+        level += 1;
+    }
+    wide
 }
 
 // The key of a string, written to the front of the room, which has place for it; how many bytes it takes.
-fn write_key(t: &[u32], s: &[u32], places: &[u32], room: &mut [u8]) -> usize
-    requires { ⌜ Spelled (now t) (now s) (now places) ⌝ }
+fn write_key(t: &[u32], s: &[u32], counts: &[usize], room: &mut [u8]) -> usize
+    requires { ⌜ Keyable (now t) (now s) ⌝ }
+    requires { ⌜ Counted (now t) (now s) (now counts) ⌝ }
     requires { ⌜ length (keyOf (meaningIn (now t)) (now s)) ≤ length (now room) ⌝ }
     ensures { λ r. ⌜ Puts (now (room .entry)) 0 (keyOf (meaningIn (now (t .entry))) (now (s .entry))) (now (room .exit)) r ⌝ }
 {
-    let next = write_levels(t, places, room);
+    let next = write_levels(t, s, counts, room);
     write_codes(s, room, next)
 }
 
-// The key of a string whose elements are cut: counted first, and written where the room has place for it.
-fn key_cut(t: &[u32], s: &[u32], places: &[u32], room: &mut [u8]) -> Keyed
-    requires { ⌜ Spelled (now t) (now s) (now places) ⌝ }
+// The key of a good string under an accepted table: counted first, and written where the room has place for it.
+fn key_checked(t: &[u32], s: &[u32], room: &mut [u8]) -> Keyed
+    requires { ⌜ Keyable (now t) (now s) ⌝ }
     ensures { λ r. ⌜ keyedAs r (now (room .exit)) ≡ keyCall (now (t .entry)) (now (s .entry)) (now (room .entry)) ⌝ }
 {
-    let width = key_width(t, places, s.len());
+    let mut counts = [0usize; 8];
+    count_entries(t, s, &mut counts);
+    let width = key_width(t, s, &counts);
     if room.len() < width {
         return Keyed::Refused(Refusal::NoRoom);
     }
-    let n = write_key(t, s, places, room);
+    let n = write_key(t, s, &counts, room);
     Keyed::Written(n)
-}
-
-// The same of a string that is still to be cut, with an area for its elements' places.
-fn key_uncut(t: &[u32], s: &[u32], places: &mut [u32], room: &mut [u8]) -> Keyed
-    requires { ⌜ Ready (now t) (now s) (now places) ⌝ }
-    ensures { λ r. ⌜ keyedAs r (now (room .exit)) ≡ keyCall (now (t .entry)) (now (s .entry)) (now (room .entry)) ⌝ }
-{
-    let n = order_elements::split(t, s, places);
-    key_cut(t, s, &places[..n], room)
-}
-
-// The same of a short string, with a small area of its own.
-fn key_short(t: &[u32], s: &[u32], room: &mut [u8]) -> Keyed
-    requires { ⌜ (accepted (now t) ≡ true) × (goodString (now s) ≡ true) ⌝ }
-    requires { ⌜ length (now s) ≤ 128 ⌝ }
-    ensures { λ r. ⌜ keyedAs r (now (room .exit)) ≡ keyCall (now (t .entry)) (now (s .entry)) (now (room .entry)) ⌝ }
-{
-    let mut places = [0u32; 128];
-    key_uncut(t, s, &mut places, room)
-}
-
-// The same with an area for the longest string.
-fn key_long(t: &[u32], s: &[u32], room: &mut [u8]) -> Keyed
-    requires { ⌜ (accepted (now t) ≡ true) × (goodString (now s) ≡ true) ⌝ }
-    ensures { λ r. ⌜ keyedAs r (now (room .exit)) ≡ keyCall (now (t .entry)) (now (s .entry)) (now (room .entry)) ⌝ }
-{
-    let mut places = [0u32; 4096];
-    key_uncut(t, s, &mut places, room)
-}
-
-// The key of a good string under an accepted table.
-fn key_checked(t: &[u32], s: &[u32], room: &mut [u8]) -> Keyed
-    requires { ⌜ (accepted (now t) ≡ true) × (goodString (now s) ≡ true) ⌝ }
-    ensures { λ r. ⌜ keyedAs r (now (room .exit)) ≡ keyCall (now (t .entry)) (now (s .entry)) (now (room .entry)) ⌝ }
-{
-    if s.len() <= 128 {
-        return key_short(t, s, room);
-    }
-    key_long(t, s, room)
 }
 
 // The key of a string under a table, written to the front of the room lent: how many bytes it takes, or why there is none; then

@@ -1,7 +1,7 @@
 -- The entries of a level: what each of them is where the weights are good, and how many there are.
 use mathlib.Core.Path.{_≡_, refl, _∙_}
 use mathlib.Core.Bool.{Bool, true, false}
-use mathlib.Core.List.{List, [], _∷_, map}
+use mathlib.Core.List.{List, [], _∷_, map, reverseAux}
 use Prim.Native.Nat.{ℕ, zero, suc, pred, _+_, _*_, _≤_}
 use native.Mathlib.Omega.{arith}
 use lib.ListN.{length, getD, length-map, length-reverse}
@@ -93,6 +93,23 @@ entries-length p n ((w ∷ ws) ∷ ls) =
     let e = more-length ws (entriesFrom p 0 ls) in
     let r = entries-length p 0 ls in
     omega arith
+
+countAll-reverseAux : (ls ms : List (List ℕ)) → countAll (reverseAux ls ms) ≡ countAll ls + countAll ms
+unfolding countAll
+countAll-reverseAux [] ms = omega arith
+countAll-reverseAux (l ∷ ls) ms = let e = countAll-reverseAux ls (l ∷ ms) in omega arith
+
+countAll-walked : (r : Rule) (ls : List (List ℕ)) → countAll (walked r ls) ≡ countAll ls
+unfolding walked countAll
+countAll-walked r ls =
+    cond-both (λ (ms : List (List ℕ)). countAll ms ≡ countAll ls) (r .backward) (let e = countAll-reverseAux ls [] in omega arith) refl
+
+-- in either direction
+pub level-count : (is : List Item) (r : Rule) (level : ℕ) (ps : List ℕ)
+    → length (levelEntries is r level ps) ≡ countAll (map (weightsAt is level) ps)
+unfolding levelEntries
+level-count is r level ps =
+    entries-length (r .position) 0 (walked r (map (weightsAt is level) ps)) ∙ countAll-walked r (map (weightsAt is level) ps)
 
 countAll-le : (ls : List (List ℕ)) → every goodWeights ls ≡ true → countAll ls ≤ 8 * length ls
 unfolding countAll goodWeights

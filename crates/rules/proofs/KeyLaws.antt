@@ -187,7 +187,8 @@ levelsWidth [] ls = 0
 levelsWidth (r ∷ rs) [] = 0
 levelsWidth (r ∷ rs) (l ∷ ls) = entryWidth (r .position) * length l + 2 + levelsWidth rs ls
 
-level-width : (p : Bool) (es : List Entry) (r : List ℕ) → length (levelKey p es r) ≡ entryWidth p * length es + 2 + length r
+-- the bytes of a level, and what follows them
+pub level-width : (p : Bool) (es : List Entry) (r : List ℕ) → length (levelKey p es r) ≡ entryWidth p * length es + 2 + length r
 unfolding levelKey
 level-width true [] r = omega arith
 level-width false [] r = omega arith

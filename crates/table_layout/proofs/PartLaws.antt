@@ -19,8 +19,9 @@ use Rattle.rules.proofs.MeaningLaws.{item-parts, Good, good-parts}
 use Rattle.rules.proofs.StorableLaws.{AllStored, meaning-stored, rule-back, rules-drop}
 use Rattle.rules.proofs.SizeLaws.{lists-length, ends-length, stored-size}
 use Rattle.rules.proofs.TableLaws.{accepted-stored, lists-flat, parts-drop}
-use Rattle.table_layout.specs.Parts.{endsAt, rulesPart, weightsPart, ruleAt, Within, Before, Holds, Many, ManyAll}
-use Rattle.table_layout.proofs.LayoutLaws.{endsAt-is, endsAt-bound, endsAt-least}
+use Rattle.table_layout.specs.declared.Shape.{Shape}
+use Rattle.table_layout.specs.Parts.{endsAt, rulesPart, weightsPart, ruleAt, Within, Before, Shaped, Holds, Many}
+use Rattle.table_layout.proofs.LayoutLaws.{endsAt-is, endsAt-bound, endsAt-least, weightsPart-bound}
 
 -- ## Running sums
 
@@ -260,6 +261,12 @@ table-sizes t h le ne =
       near = endsAt-bound (length (meaningIn t .rules)) (length (meaningIn t .items)) a b;
     })
 
+-- the weights of a table begin near
+pub shaped-near : {t : List ℕ} {s : Shape} → Shaped t s → s .weights ≤ 458776
+shaped-near {t} {s} w =
+    let g = table-good t (w .checked) in
+    omega (arith, w .weights-are, weightsPart-bound (length (meaningIn t .rules)) (length (meaningIn t .items)) (g .few-levels) (g .few-items))
+
 -- the number of a level's rule, as the code reads it
 pub rule-read : (t : List ℕ) (level l n r : ℕ) → accepted t ≡ true → level < length (meaningIn t .rules) → l ≡ length (meaningIn t .rules)
     → n ≡ length (meaningIn t .items) → r ≡ rulesPart l n → getD t (r + level) 0 ≡ ruleNumber (ruleAt t level)
@@ -301,28 +308,6 @@ module _ (t : List ℕ) (place : ℕ) (w : Within t place 0) where
   pub read-at : (level l r : ℕ) → level ≤ length (meaningIn t .rules) → l ≡ length (meaningIn t .rules) → r ≡ endsAt l (place - 1)
       → r + level ≡ endsAt (length (meaningIn t .rules)) (pred place) + level
   read-at level l r h le e = rw (e, le, sub-one place)
-
-  -- behind all of its levels: its own weights more
-  before-all : (b r : ℕ) → Before t place 0 b → Before t place (length (meaningIn t .rules)) r
-      → r ≡ b + countAll (getD (meaningIn t .items) (pred place) noItem .weights)
-  unfolding ends
-  before-all b r h k =
-      let l : ℕ = length (meaningIn t .rules) in
-      let is : List Item = meaningIn t .items in
-      let s = meaning-stored (meaningIn t) (good-in t (w .checked)) in
-      let inside : pred place < length is = omega (arith, w .from-one, w .in-items) in
-      let z : pred place * l + 0 ≡ pred place * l = omega arith in
-      let y : pred place * l + l ≡ suc (pred place) * l = sym (suc-mul (pred place) l ∙ omega arith) in
-      let one : b ≡ 0 + weightCount (take (pred place) is) = (rw z at (h .is)) ∙ sums-before l 0 is (pred place) s (omega arith) in
-      let two : r ≡ 0 + weightCount (take (suc (pred place)) is) = (rw y at (k .is)) ∙ sums-before l 0 is (suc (pred place)) s inside in
-      omega (arith, one, two, count-next is (pred place) inside)
-
-  pub many-all : (b r : ℕ) → Before t place 0 b → Before t place (length (meaningIn t .rules)) r → (b ≤ r) × ManyAll t place (r - b)
-  many-all b r h k =
-      let e = before-all b r h k in
-      let inside : pred place < length (meaningIn t .items) = omega (arith, w .from-one, w .in-items) in
-      let c = stored-count (length (meaningIn t .rules)) (meaningIn t .items) (pred place) inside (few .items) in
-      (omega arith, record { is = omega (arith, e); few = omega (arith, e, c, few .few-levels) })
 
 module _ (t : List ℕ) (place level : ℕ) (w : Within t place level) where
   pub within-first : Within t place 0

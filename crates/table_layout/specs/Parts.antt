@@ -5,11 +5,12 @@ use mathlib.Core.List.{List, _∷_}
 use Prim.Native.Nat.{ℕ, pred, _+_, _*_, _≤_, _<_}
 use lib.ListN.{length, getD, take, drop}
 use Rattle.rules.specs.Meaning as meaning
-use Rattle.rules.specs.Meaning.{Item, countAll}
+use Rattle.rules.specs.Meaning.{Item}
 use Rattle.rules.specs.Table.{pad, ends, listing, itemBuckets, below, accepted, meaningIn}
 use Rattle.rules.specs.Order.{weightsAt, noItem}
 use Rattle.table_layout.specs.declared.Rule.{Rule}
 use Rattle.table_layout.specs.declared.Run.{Run}
+use Rattle.table_layout.specs.declared.Shape.{Shape}
 use Rattle.table_layout.specs.declared.Listed.{Listed}
 
 -- where the ends of item k begin, both counted from 0, in a table of l levels
@@ -57,6 +58,14 @@ pub record Before (t : List ℕ) (place level r : ℕ) : Type 0 where
   pub is : r ≡ getD (0 ∷ ends (meaningIn t .items)) (pred place * length (meaningIn t .rules) + level) 0
   pub small : r ≤ 4294967295
 
+-- The shape of an accepted table.
+pub record Shaped (t : List ℕ) (r : Shape) : Type 0 where
+  pub checked : accepted t ≡ true
+  pub levels-are : r .levels ≡ length (meaningIn t .rules)
+  pub items-are : r .items ≡ length (meaningIn t .items)
+  pub chars-are : r .chars ≡ charsPart (length (meaningIn t .rules)) (length (meaningIn t .items))
+  pub weights-are : r .weights ≡ weightsPart (length (meaningIn t .rules)) (length (meaningIn t .items))
+
 -- A run of numbers in the table that are these weights.
 pub record Holds (t : List ℕ) (r : Run) (weights : List ℕ) : Type 0 where
   pub is : take (r .count) (drop (r .from) t) ≡ weights
@@ -68,11 +77,6 @@ pub record Holds (t : List ℕ) (r : Run) (weights : List ℕ) : Type 0 where
 pub record Many (t : List ℕ) (place level r : ℕ) : Type 0 where
   pub is : r ≡ length (weightsAt (meaningIn t .items) level place)
   pub few : r ≤ 8
-
--- So many it has at all levels.
-pub record ManyAll (t : List ℕ) (place r : ℕ) : Type 0 where
-  pub is : r ≡ countAll (getD (meaningIn t .items) (pred place) noItem .weights)
-  pub few : r ≤ 64
 
 -- ## The listing and its index
 

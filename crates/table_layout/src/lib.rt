@@ -7,7 +7,7 @@ ghost use lib.ListN.{length, getD, drop};
 ghost use Rattle.rules.specs.Table.{mask, bucket, accepted, meaningIn};
 ghost use Rattle.rules.specs.Order.{weightsAt};
 ghost use Rattle.table_layout.specs.Starts.{bucketFor, bucketFrom, Place, startAt};
-ghost use Rattle.table_layout.specs.Parts.{endsAt, rulesPart, weightsPart, Before, ruleAs, ruleAt, Within, Holds, Many, ManyAll};
+ghost use Rattle.table_layout.specs.Parts.{endsAt, rulesPart, weightsPart, Before, ruleAs, ruleAt, Within, Holds, Many, Shaped};
 ghost use Rattle.table_layout.specs.Parts.{charsPart, startFor, Indexed, Lists};
 use base_units::Rank;
 
@@ -21,6 +21,14 @@ pub struct Rule {
 pub struct Run {
     pub from: usize,
     pub count: usize,
+}
+
+// What every walk over a string asks of a table: how many levels and items it has, and where their characters and their weights begin.
+pub struct Shape {
+    pub levels: usize,
+    pub items: usize,
+    pub chars: usize,
+    pub weights: usize,
 }
 
 // Where the ends of item k begin, from 0; for the number of items, where the characters begin.
@@ -147,31 +155,52 @@ pub fn rule_of(t: &[u32], level: usize) -> Rule
     }
 }
 
-// How many weights stand before those of the item at a place, from 1, at a level, from 0, or at the number of levels, behind all of its own.
-fn weights_before(t: &[u32], place: usize, level: usize) -> usize
-    requires { ⌜ Within (now t) place 0 ⌝ }
-    requires { ⌜ level ≤ length (meaningIn (now t) .rules) ⌝ }
-    ensures { λ r. ⌜ Before (now (t .entry)) place level r ⌝ }
+// The shape of an accepted table.
+pub fn shape_of(t: &[u32]) -> Shape
+    requires { ⌜ accepted (now t) ≡ true ⌝ }
+    ensures { λ r. ⌜ Shaped (now (t .entry)) r ⌝ }
 {
     let l = levels(t);
-    let at = ends_at(l, place - 1) + level;
+    let n = items(t);
+    Shape {
+        levels: l,
+        items: n,
+        chars: ends_at(l, n),
+        weights: weights_part(l, n),
+    }
+}
+
+// How many weights stand before those of the item at a place, from 1, at a level, from 0, or at the number of levels, behind all of its own.
+fn weights_before(t: &[u32], levels: usize, place: usize, level: usize) -> usize
+    requires { ⌜ Within (now t) place 0 ⌝ }
+    requires { ⌜ (levels ≡ length (meaningIn (now t) .rules)) × (level ≤ length (meaningIn (now t) .rules)) ⌝ }
+    ensures { λ r. ⌜ Before (now (t .entry)) place level r ⌝ }
+{
+    let at = ends_at(levels, place - 1) + level;
     t[at - 1] as usize
 }
 
-// Where the weights stand of the item at a place, from 1, at a level, from 0.
+// Where the weights stand of the item at a place, from 1, at a level, from 0, in a table of this shape.
+pub fn weights_in(t: &[u32], shape: Shape, place: usize, level: usize) -> Run
+    requires { ⌜ Shaped (now t) shape ⌝ }
+    requires { ⌜ Within (now t) place level ⌝ }
+    ensures { λ r. ⌜ Holds (now (t .entry)) r (weightsAt (meaningIn (now (t .entry)) .items) level place) ⌝ }
+{
+    let before = weights_before(t, shape.levels, place, level);
+    let to = weights_before(t, shape.levels, place, level + 1);
+    Run {
+        from: shape.weights + before,
+        count: to - before,
+    }
+}
+
+// The same in any.
 pub fn weights(t: &[u32], place: usize, level: usize) -> Run
     requires { ⌜ Within (now t) place level ⌝ }
     ensures { λ r. ⌜ Holds (now (t .entry)) r (weightsAt (meaningIn (now (t .entry)) .items) level place) ⌝ }
 {
-    let l = levels(t);
-    let n = items(t);
-    let base = weights_part(l, n);
-    let before = weights_before(t, place, level);
-    let to = weights_before(t, place, level + 1);
-    Run {
-        from: base + before,
-        count: to - before,
-    }
+    let shape = shape_of(t);
+    weights_in(t, shape, place, level)
 }
 
 // How many weights the item at a place, from 1, has at a level, from 0.
@@ -179,19 +208,9 @@ pub fn count_at(t: &[u32], place: usize, level: usize) -> usize
     requires { ⌜ Within (now t) place level ⌝ }
     ensures { λ r. ⌜ Many (now (t .entry)) place level r ⌝ }
 {
-    let before = weights_before(t, place, level);
-    let to = weights_before(t, place, level + 1);
-    to - before
-}
-
-// How many weights the item at a place, from 1, has at all levels together.
-pub fn count_all(t: &[u32], place: usize) -> usize
-    requires { ⌜ Within (now t) place 0 ⌝ }
-    ensures { λ r. ⌜ ManyAll (now (t .entry)) place r ⌝ }
-{
     let l = levels(t);
-    let before = weights_before(t, place, 0);
-    let to = weights_before(t, place, l);
+    let before = weights_before(t, l, place, level);
+    let to = weights_before(t, l, place, level + 1);
     to - before
 }
 

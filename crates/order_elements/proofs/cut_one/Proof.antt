@@ -1,5 +1,5 @@
 -- `order_elements::cut_one` meets its contract: the element found is the string's next, and its place is small enough to keep.
-use Rattle.order_elements.proofs.CutLaws.{cut-more, found-fits}
+use Rattle.order_elements.proofs.CutLaws.{cut-more, place-fits}
 use borrow.Author.Needs.{needs}
 use Rattle.order_elements.proofs.cut_one.Statement.{statement}
 use Rattle.order_elements.proofs.cut_one.Tie as tie
@@ -8,7 +8,7 @@ longest-requires : tie.Need-longest-requires
 longest-requires c κs = search needs
 
 cast-places : tie.Need-cast-places
-cast-places c = search found-fits
+cast-places c = search place-fits
 
 mul-places : tie.Need-mul-places
 mul-places c = search needs

@@ -1,5 +1,5 @@
 -- `order_elements::next_element` meets its contract. The loop's invariant: what was to come is what the string from i on gives, with the n elements before it counted, and the string is cut up to i. The measure is how many characters are left.
-use Rattle.order_elements.proofs.CutLaws.{found-within}
+use Rattle.order_elements.proofs.CutLaws.{first-within}
 use Rattle.order_elements.proofs.FirstLaws.{Passing, passing-none, passing-more, passing-found, passing-end, held-first}
 use Prim.Native.Nat.{_-_}
 use lib.ListN.{length}
@@ -21,7 +21,7 @@ cut-one-requires : tie.Need-cut-one-requires Inv-loop μ-loop
 cut-one-requires c κs = search needs
 
 weights-requires : tie.Need-weights-requires Inv-loop μ-loop
-weights-requires c κs = search found-within
+weights-requires c κs = search first-within
 
 add-i : tie.Need-add-i Inv-loop μ-loop
 add-i c = search needs

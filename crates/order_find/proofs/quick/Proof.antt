@@ -1,8 +1,6 @@
--- `order_find::quick` meets its contract: the item that is listed first in the character's bucket, if it is that character alone.
-use native.Mathlib.Omega.{arith}
+-- `order_find::quick` meets its contract: where the characters begin, and how many items there are, the table says.
 use borrow.Author.Needs.{needs}
-use Rattle.order_find.proofs.SearchLaws.{table-indexed, next-bucket}
-use Rattle.order_find.proofs.QuickLaws.{quick-inside, quick-found, quick-none}
+use Rattle.order_find.proofs.SearchLaws.{table-indexed}
 use Rattle.order_find.proofs.quick.Statement.{statement}
 use Rattle.order_find.proofs.quick.Tie as tie
 
@@ -12,62 +10,11 @@ characters-requires c κs = search needs
 items-requires : tie.Need-items-requires
 items-requires c κs = search needs
 
-bucket-in-requires : tie.Need-bucket-in-requires
-bucket-in-requires c κs = search needs
-
-start-in-requires : tie.Need-start-in-requires
-start-in-requires c κs =
-    let w = table-indexed _ (c .before .before .before .before .pre .0) (c .before .before .characters .ensures) (c .before .items .ensures) in
-    (w, omega (arith, next-bucket w _ (c .bucket-in .ensures)))
-
-item-at-requires : tie.Need-item-at-requires
-item-at-requires c κs =
-    let b = c .before in
-    let w = table-indexed _ (b .before .before .before .before .pre .0) (b .before .before .characters .ensures) (b .before .items .ensures) in
-    (w, quick-inside w _ (b .bucket-in .ensures) (c .start-in .ensures))
-
-mul-if1 : tie.Need-mul-if1
-mul-if1 c = search needs
-
-shared-slice-read-if1 : tie.Need-shared-slice-read-if1
-shared-slice-read-if1 c = search needs
-
-add-if2 : tie.Need-add-if2
-add-if2 c = search needs
-
-mul-if2 : tie.Need-mul-if2
-mul-if2 c = search needs
-
-shared-slice-read-if2 : tie.Need-shared-slice-read-if2
-shared-slice-read-if2 c = search needs
+quick-in-requires : tie.Need-quick-in-requires
+quick-in-requires c κs = search (needs, table-indexed)
 
 returns : tie.Need-returns
-returns c =
-    let s = c .before .before .before .before .before in
-    let b = s .before in
-    let w = table-indexed _ (b .before .before .before .before .pre .0) (b .before .before .characters .ensures) (b .before .items .ensures) in
-    search (quick-found w _ (b .bucket-in .ensures) (s .start-in .ensures))
-
-returns-2 : tie.Need-returns-2
-returns-2 c = quick-none _ _
-
-returns-3 : tie.Need-returns-3
-returns-3 c = quick-none _ _
+returns c = search needs
 
 pub quick-spec : {M : Type 1} → statement M
-quick-spec =
-    tie.close
-    (tie.spec
-    characters-requires
-    items-requires
-    bucket-in-requires
-    start-in-requires
-    item-at-requires
-    mul-if1
-    shared-slice-read-if1
-    add-if2
-    mul-if2
-    shared-slice-read-if2
-    returns
-    returns-2
-    returns-3)
+quick-spec = tie.close (tie.spec characters-requires items-requires quick-in-requires returns)

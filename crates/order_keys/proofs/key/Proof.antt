@@ -1,6 +1,6 @@
 -- `order_keys::key` meets its contract: a law for each refusal, and the answer for an accepted table and a good string.
 use borrow.Author.Needs.{needs}
-use Rattle.order_keys.proofs.WholeLaws.{key-unaccepted, key-bad, passed}
+use Rattle.order_keys.proofs.WholeLaws.{key-unaccepted, key-bad, keyable}
 use Rattle.order_keys.proofs.key.Statement.{statement}
 use Rattle.order_keys.proofs.key.Tie as tie
 
@@ -11,7 +11,7 @@ good-string-requires : tie.Need-good-string-requires
 good-string-requires c κs = search needs
 
 key-checked-requires : tie.Need-key-checked-requires
-key-checked-requires c κs = search passed
+key-checked-requires c κs = search keyable
 
 same-length : tie.Need-same-length
 same-length c = search needs

@@ -1,11 +1,11 @@
 -- `order_keys::write_key` meets its contract: the levels, and behind them the characters, are the key.
 use borrow.Author.Needs.{needs}
-use Rattle.order_keys.proofs.WholeLaws.{spelled-listed, levels-room, codes-room, key-put}
+use Rattle.order_keys.proofs.WholeLaws.{levels-room, codes-room, key-put}
 use Rattle.order_keys.proofs.write_key.Statement.{statement}
 use Rattle.order_keys.proofs.write_key.Tie as tie
 
 write-levels-requires : tie.Need-write-levels-requires
-write-levels-requires c κs = search (spelled-listed, levels-room)
+write-levels-requires c κs = search (needs, levels-room)
 
 write-codes-requires : tie.Need-write-codes-requires
 write-codes-requires c κs = search (needs, codes-room)
