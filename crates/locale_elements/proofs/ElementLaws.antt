@@ -29,7 +29,7 @@ use Rattle.work_store.specs.Store.{Decl, knownIn, Sound}
 use Rattle.locale_symbols.specs.declared.Head.{Head}
 use Rattle.locale_symbols.specs.declared.Head.the-variants as head
 use Rattle.locale_symbols.specs.Symbols.{isNewIn, operandsAfter, Unfit, Gives, NameFirst, HeadIs}
-use Rattle.locale_symbols.proofs.LateLaws.{unfit-three, unfit-other}
+use Rattle.locale_symbols.proofs.UnfitLaws.{unfit-three, unfit-other}
 use Rattle.locale_symbols.proofs.NewLaws.{new-shape, key-named}
 use Rattle.locale_symbols.proofs.SymbolLaws.{name-some, head-within, head-inside}
 use Rattle.locale_elements.specs.declared.Tail.{Tail}

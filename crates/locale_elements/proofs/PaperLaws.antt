@@ -13,7 +13,7 @@ use Rattle.rules.specs.Declarations.{declaresChars, isNew, mayDeclare, elementL
 use Rattle.rules.proofs.RefusalLaws.{bounded-lowest, bounded-unless}
 use Rattle.work_store.specs.Store.{Decl}
 use Rattle.locale_symbols.specs.Symbols.{Alike}
-use Rattle.locale_symbols.proofs.LateLaws.{unfit-three}
+use Rattle.locale_symbols.proofs.UnfitLaws.{unfit-three}
 use Rattle.locale_symbols.proofs.PaperLaws.{new-paper}
 use Rattle.locale_elements.specs.Element.{elementRefusal}
 

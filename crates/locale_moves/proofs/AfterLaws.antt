@@ -21,7 +21,7 @@ use Rattle.text_lines.specs.declared.LineEnd.{LineEnd}
 use Rattle.text_tokens.specs.Left.{tokensLeft}
 use Rattle.rules.proofs.RefusalLaws.{Bounded, bounded-lowest, bounded-unless, bounded-low, bounded-high}
 use Rattle.locale_opening.proofs.KeywordLaws.{at-reorder-after}
-use Rattle.locale_symbols.proofs.LateLaws.{unfit-three}
+use Rattle.locale_symbols.proofs.UnfitLaws.{unfit-three}
 use Rattle.locale_sheet.specs.declared.Sheet.{Sheet}
 use Rattle.locale_sheet.specs.declared.Step.the-variants.{Next, Refused}
 use Rattle.locale_sheet.specs.Sheets.{Open, SomeOpen}

@@ -39,7 +39,7 @@ use Rattle.locale_sheet.proofs.RankLaws.{isOrdered, rank-none}
 use Rattle.locale_symbols.specs.declared.Head.{Head}
 use Rattle.locale_symbols.specs.declared.Head.the-variants as head
 use Rattle.locale_symbols.specs.Symbols.{operandsAfter, Unfit, HeadIs}
-use Rattle.locale_symbols.proofs.LateLaws.{unfit-three, unfit-other}
+use Rattle.locale_symbols.proofs.UnfitLaws.{unfit-three, unfit-other}
 use Rattle.locale_symbols.proofs.SymbolLaws.{single-kind, named-first, head-text}
 use Rattle.locale_moves.specs.declared.Named.{Named}
 use Rattle.locale_moves.specs.declared.Named.the-variants as answer

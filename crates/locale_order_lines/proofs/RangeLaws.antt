@@ -14,7 +14,7 @@ use Rattle.rules.specs.State.{inOrder, inBlock, Declaration, Subject, State, in
 use Rattle.rules.specs.OrderLines.{stands, isSymbol, takenOut, again, weightsRefusal, operandList, orderLine}
 use Rattle.rules.proofs.TextLaws.{lowest-none, lowest-unless}
 use Rattle.rules.proofs.RefusalLaws.{Bounded, bounded-lower, bounded-lowest, bounded-unless, bounded-wider}
-use Rattle.locale_weights.proofs.LateLaws.{bounded-weights}
+use Rattle.locale_weights.proofs.RefusalLaws.{bounded-weights}
 use Rattle.locale_weights.proofs.ByLaws.{weights-paper}
 
 -- ## The range

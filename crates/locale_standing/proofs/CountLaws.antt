@@ -21,7 +21,7 @@ use Rattle.text_operands.specs.declared.After.{After}
 use Rattle.text_operands.specs.declared.After.the-variants as after
 use Rattle.text_operands.specs.Operand.{operandsLeft, OperandsFrom, AfterIs}
 use Rattle.locale_weights.specs.Weights.{weightsRefusalBy}
-use Rattle.locale_weights.proofs.LateLaws.{bounded-weights, weights-none}
+use Rattle.locale_weights.proofs.RefusalLaws.{bounded-weights, weights-none}
 use Rattle.locale_weights.proofs.ByLaws.{weights-alike, weights-paper}
 use Rattle.work_subjects.specs.Keys.{keyAt}
 use Rattle.work_store.specs.Store.{Decl, Holds}

@@ -19,7 +19,7 @@ use Rattle.text_operands.specs.Operand.{operandsLeft}
 use Rattle.locale_weights.specs.declared.Weight.{Weight}
 use Rattle.locale_weights.specs.declared.Weight.the-variants as weight
 use Rattle.locale_weights.specs.Weights.{weightRefusalBy, weightsRefusalBy, separator, EmptyWeight, OneWeight, BadWeights, WeightIs}
-use Rattle.locale_weights.proofs.LateLaws.{bounded-weight, weights-cons, weights-none}
+use Rattle.locale_weights.proofs.RefusalLaws.{bounded-weight, weights-cons, weights-none}
 use Rattle.locale_weights.proofs.SplitLaws.{split-end}
 use Rattle.locale_weights.proofs.WeightLaws.{lower-four}
 use Rattle.work_subjects.specs.Keys.{keyAt}

@@ -1,4 +1,4 @@
-pub mod LateLaws
+pub mod UnfitLaws
 pub mod HeadLaws
 pub mod NewLaws
 pub mod SymbolLaws

@@ -16,7 +16,7 @@ use Rattle.work_subjects.specs.Keys.{Key, item, chars, sameKey}
 use Rattle.work_store.specs.Store.{Decl, knownIn, fresh}
 use Rattle.work_store.proofs.ListLaws.{first-none, first-fresh-same, first-fresh-other}
 use Rattle.locale_symbols.specs.Symbols.{isNewIn, Alike, symbolRefusal}
-use Rattle.locale_symbols.proofs.LateLaws.{unfit-three}
+use Rattle.locale_symbols.proofs.UnfitLaws.{unfit-three}
 
 -- ## What is declared
 

@@ -31,7 +31,7 @@ use Rattle.locale_symbols.specs.declared.Head.the-variants as head
 use Rattle.locale_symbols.specs.declared.Symbol.{Symbol}
 use Rattle.locale_symbols.specs.declared.Symbol.the-variants as symbol
 use Rattle.locale_symbols.specs.Symbols.{isNewIn, Gives, operandsAfter, symbolRefusal, Unfit, NameFirst, HeadIs, NewIs, SymbolAt, SymbolNot, SymbolChecked}
-use Rattle.locale_symbols.proofs.LateLaws.{unfit-three, unfit-other}
+use Rattle.locale_symbols.proofs.UnfitLaws.{unfit-three, unfit-other}
 use Rattle.locale_symbols.proofs.NewLaws.{new-shape, key-named}
 
 -- ## The refusal

@@ -1,4 +1,4 @@
-pub mod LateLaws
+pub mod RefusalLaws
 pub mod MadeLaws
 pub mod SplitLaws
 pub mod NextLaws

@@ -12,7 +12,7 @@ use Rattle.rules.specs.State.{Subject}
 use Rattle.rules.specs.OrderLines.{splitAt}
 use Rattle.text_tokens.proofs.RefusalLaws.{three-left, three-last}
 use Rattle.locale_weights.specs.Weights.{weightsRefusalBy, BadWeights}
-use Rattle.locale_weights.proofs.LateLaws.{bounded-weights, weight-two, weights-three}
+use Rattle.locale_weights.proofs.RefusalLaws.{bounded-weights, weight-two, weights-three}
 
 pub split-end : (part : List Token) → splitAt part [] ≡ part ∷ []
 unfolding splitAt

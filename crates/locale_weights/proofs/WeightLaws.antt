@@ -13,7 +13,7 @@ use Rattle.rules.specs.State.{Subject}
 use Rattle.rules.specs.OrderLines.{isNames, subjectOf}
 use Rattle.text_tokens.proofs.RefusalLaws.{lower-none-left, lower-none-right, lower-assoc, lower-swap}
 use Rattle.locale_weights.specs.Weights.{weightRefusalBy}
-use Rattle.locale_weights.proofs.LateLaws.{three-others}
+use Rattle.locale_weights.proofs.RefusalLaws.{three-others}
 
 -- ## One token
 

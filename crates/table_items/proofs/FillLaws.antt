@@ -26,7 +26,7 @@ use Rattle.work_order.specs.declared.Order.{Order}
 use Rattle.work_order.specs.Links.{placeNumber, rankNumber, nextNumber, Row, Linked, goes}
 use Rattle.work_order.proofs.RankLaws.{linked-one}
 use Rattle.locale_weights.specs.Weights.{weightRefusalBy, weightsRefusalBy}
-use Rattle.locale_weights.proofs.LateLaws.{weights-cons}
+use Rattle.locale_weights.proofs.RefusalLaws.{weights-cons}
 use Rattle.table_weights.specs.Ranks.{rankIn, ranksBy, levelRanks}
 use Rattle.table_weights.specs.Reading.{lineOperands, ranksAt, itemRanks, Readable, RowReady}
 use Rattle.table_records.specs.Writing.{itemChars, CharsReady, ItemRoom, ItemPut}

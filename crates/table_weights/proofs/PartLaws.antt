@@ -25,7 +25,7 @@ use Rattle.text_operands.specs.Operand.{operandsLeft, OperandsFrom, AfterIs}
 use Rattle.locale_weights.specs.declared.Weight.{Weight}
 use Rattle.locale_weights.specs.declared.Weight.the-variants as weight
 use Rattle.locale_weights.specs.Weights.{weightRefusalBy, weightsRefusalBy, separator, EmptyWeight, OneWeight, BadWeights, WeightIs}
-use Rattle.locale_weights.proofs.LateLaws.{weights-cons}
+use Rattle.locale_weights.proofs.RefusalLaws.{weights-cons}
 use Rattle.locale_weights.proofs.ByLaws.{weights-paper}
 use Rattle.locale_weights.proofs.MadeLaws.{token-made, made-nameless}
 use Rattle.table_weights.specs.declared.Part.{Part}
