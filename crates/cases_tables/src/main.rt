@@ -160,12 +160,14 @@ fn limits() {
     show::keyed(b"4,097 characters:", &s, &more, &mut []);
 }
 
-// Keys with levels that are walked backward: of elements with none, one and eight weights, with an ignored one at both ends.
+// Keys with levels that are walked backward: of elements with none, one and eight weights, with an ignored one at both ends, and of
+// one that begins as another does.
 fn turned_keys(t: &[u32], s: &[u32]) {
     let mut short = [0xEEu8; 86];
     show::keyed(b"-ah.a-- one byte short:", t, s, &mut short);
     let mut enough = [0xEEu8; 87];
     show::keyed(b"-ah.a--:", t, s, &mut enough);
+    show::keyed(b"aaa:", t, &[0x61, 0x61, 0x61], &mut enough);
     show::keyed(b"---:", t, &[0x2D, 0x2D, 0x2D], &mut enough);
     show::keyed(b"nothing:", t, &[], &mut enough);
 }

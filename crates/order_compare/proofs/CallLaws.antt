@@ -18,7 +18,8 @@ use Rattle.table_layout.proofs.PartLaws.{table-good}
 use Rattle.order_find.specs.Answer.{foundAs}
 use Rattle.order_find.specs.declared.Found.{Found}
 use Rattle.order_elements.specs.Cuts.{Ready}
-use Rattle.order_elements.proofs.CutLaws.{good-characters, good-ready}
+use Rattle.order_find.proofs.FoundLaws.{good-characters}
+use Rattle.order_elements.proofs.CutLaws.{good-ready}
 use Rattle.order_compare.specs.Strings.{Forward, Good}
 
 -- ## What is ready

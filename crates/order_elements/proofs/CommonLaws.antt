@@ -33,7 +33,8 @@ use Rattle.order_elements.specs.Cuts.{Ready, CutOne}
 use Rattle.order_elements.specs.Firsts.{entriesOn, Sound}
 use Rattle.order_elements.specs.Commons.{Shared, Certain, Level, Further, Both, Together}
 use Rattle.order_elements.proofs.AlikeLaws.{step-front, seen-element, entries-element}
-use Rattle.order_elements.proofs.CutLaws.{ready-kept, first-within, place-fits, first-left, cut-more}
+use Rattle.order_find.proofs.FoundLaws.{found-first}
+use Rattle.order_elements.proofs.CutLaws.{ready-kept, first-within, place-fits, cut-more}
 use Rattle.order_elements.proofs.FirstLaws.{left-none}
 
 -- ## Characters in common
@@ -155,7 +156,7 @@ module _ {t a b as′ bs : List ℕ} {i j n k skipped agreed : ℕ} {f : Found} 
   unfolding entriesOn
   on-length position =
       let is : List Item = meaningIn t .items in
-      rw (first-left (v .first-ready) h e, w .is)
+      rw (found-first _ _ (v .first-ready .checked) h e, w .is)
       (entries-element position skipped (skippedAfter skipped (length (weightsAt is 0 (f .place)))) (weightsAt is 0 (f .place))
       (map (weightsAt is 0) (elements is 0 (drop (i + f .size) a))))
 
@@ -164,7 +165,7 @@ module _ {t a b as′ bs : List ℕ} {i j n k skipped agreed : ℕ} {f : Found} 
   unfolding entriesOn
   on-seen position =
       let is : List Item = meaningIn t .items in
-      rw (first-left (v .first-ready) h e, first-left (v .second-ready) l d, w .is)
+      rw (found-first _ _ (v .first-ready .checked) h e, found-first _ _ (v .second-ready .checked) l d, w .is)
       (seen-element position skipped (weightsAt is 0 (f .place)) (map (weightsAt is 0) (elements is 0 (drop (i + f .size) a)))
       (map (weightsAt is 0) (elements is 0 (drop (j + f .size) b))) agreed)
 

@@ -1,7 +1,7 @@
 -- Cutting a string: an element more each time, and all of them where the string ends.
 use mathlib.Core.Path.{_≡_, refl, sym, _∙_}
 use mathlib.Core.Bool.{true}
-use mathlib.Core.List.{List, _∷_, append-nil}
+use mathlib.Core.List.{List, append-nil}
 use Prim.Native.Nat.{ℕ, _+_, _≤_, _<_}
 use native.Mathlib.Numerals.{add-one}
 use native.Mathlib.Omega.{arith}
@@ -9,11 +9,7 @@ use mir.Syntax.{w32}
 use mir.Val.{Fits}
 use lib.ListN.{length, take, drop, set, drop-of-length-le}
 use lib.Seq.{take-suc-set, append-snoc}
-use lib.Dec.{leb}
-use Rattle.base_lists.proofs.Bools.{and-right}
 use Rattle.rules.specs.Meaning.{Item}
-use Rattle.rules.specs.Text.{every}
-use Rattle.rules.specs.Names.{isCharacter}
 use Rattle.rules.specs.Table.{accepted, meaningIn}
 use Rattle.rules.specs.Order.{goodString, stepOf, elements}
 use Rattle.rules.proofs.KeyLaws.{goodString-length}
@@ -21,14 +17,10 @@ use Rattle.table_layout.specs.Parts.{Within}
 use Rattle.table_layout.proofs.PartLaws.{table-good}
 use Rattle.order_find.specs.Answer.{foundAs}
 use Rattle.order_find.specs.declared.Found.{Found}
-use Rattle.order_find.proofs.FoundLaws.{found-place, found-within, found-size, found-first}
+use Rattle.order_find.proofs.FoundLaws.{good-characters, found-place, found-item, found-size, found-first}
 use Rattle.order_elements.specs.Cuts.{Ready, Cut, CutOne, Split}
 
 -- ## What is ready
-
-pub good-characters : (s : List ℕ) → goodString s ≡ true → every isCharacter s ≡ true
-unfolding goodString
-good-characters s g = and-right (leb (length s) 4096) (every isCharacter s) g
 
 -- a string that is not refused, and an area with a number for each of its characters
 pub good-ready : {t s : List ℕ} (places : List ℕ) → accepted t ≡ true → goodString s ≡ true → length s ≤ length places → Ready t s places
@@ -43,14 +35,10 @@ ready-kept after r e = record { checked = r .checked; characters = r .characters
 module _ {t s places : List ℕ} {at : ℕ} {f : Found} (r : Ready t s places) (h : at < length s)
     (e : foundAs f ≡ stepOf (meaningIn t .items) (drop at s)) where
   pub first-within : Within t (f .place) 0
-  first-within = found-within t s (r .checked) h e 0 (omega (arith, table-good t (r .checked) .some-level))
+  first-within = found-item t s (r .checked) h e
 
   pub place-fits : Fits w32 (f .place)
   place-fits = record { fits = omega (arith, found-place t s (r .checked) h e .most, table-good t (r .checked) .few-items) }
-
-  -- it is the first of the elements that are left
-  pub first-left : elements (meaningIn t .items) 0 (drop at s) ≡ f .place ∷ elements (meaningIn t .items) 0 (drop (at + f .size) s)
-  first-left = found-first t s (r .checked) h e
 
   pub cut-more : {many : ℕ} → Cut t s places at many → CutOne t s (set places many (f .place)) at many f
   cut-more {many} v =
@@ -65,7 +53,7 @@ module _ {t s places : List ℕ} {at : ℕ} {f : Found} (r : Ready t s places) (
           to = omega (arith, size .most);
           fewer = omega (arith, v .fewer, size .least);
           same =
-              rw (add-one many, take-suc-set places many (f .place) k, append-snoc (take many places) (f .place) rest, ← first-left) (v .same);
+              rw (add-one many, take-suc-set places many (f .place) k, append-snoc (take many places) (f .place) rest, ← found-first t s (r .checked) h e) (v .same);
         };
       }
 

@@ -22,7 +22,8 @@ use Rattle.order_elements.specs.declared.Ahead.{Ahead}
 use Rattle.order_elements.specs.declared.Ahead.the-variants.{One, End}
 use Rattle.order_elements.specs.Cuts.{Ready, Cut, CutOne}
 use Rattle.order_elements.specs.Firsts.{entriesOn, entriesLeft, firstEntries, fresh, Sound, Next, Ended, Gives}
-use Rattle.order_elements.proofs.CutLaws.{first-left, Cutting, cutting-none, cutting-more, cut-all}
+use Rattle.order_find.proofs.FoundLaws.{found-first}
+use Rattle.order_elements.proofs.CutLaws.{Cutting, cutting-none, cutting-more, cut-all}
 
 -- ## Element by element
 
@@ -36,13 +37,13 @@ module _ {t s places : List ℕ} {i : ℕ} {f : Found} (position : Bool) (n : �
   -- an element without a weight is counted
   on-skip : weightsAt (meaningIn t .items) 0 (f .place) ≡ [] → entriesOn t s position i n ≡ entriesOn t s position (i + f .size) (n + 1)
   unfolding entriesOn entriesFrom
-  on-skip z = rw (first-left r h e, z, add-one n)
+  on-skip z = rw (found-first _ _ (r .checked) h e, z, add-one n)
 
   -- an element with weights gives an entry for each
   on-take : (w : ℕ) (ws : List ℕ) → weightsAt (meaningIn t .items) 0 (f .place) ≡ w ∷ ws
       → entriesOn t s position i n ≡ record { count = cond position n 0; weight = w } ∷ more ws (entriesOn t s position (i + f .size) 0)
   unfolding entriesOn entriesFrom
-  on-take w ws z = rw (first-left r h e, z)
+  on-take w ws z = rw (found-first _ _ (r .checked) h e, z)
 
 -- ## Passing elements without a weight
 

@@ -1,4 +1,4 @@
--- What an element that is found is to its string: an item's place, some of the characters that are left, and the first of the elements that are.
+-- Strings and the elements found in them: what they are made of, and what such an element is to its string, an item's place, some of the characters that are left, and the first of the elements that are.
 use mathlib.Core.Path.{_≡_, ap, _∙_}
 use mathlib.Core.Bool.{true}
 use mathlib.Core.List.{List, _∷_}
@@ -6,13 +6,22 @@ use Prim.Native.Nat.{ℕ, _+_, _-_, _<_}
 use native.Mathlib.Omega.{arith}
 use lib.ListN.{length, drop, length-drop}
 use lib.Seq.{drop-drop}
+use lib.Dec.{leb}
+use Rattle.base_lists.proofs.Bools.{and-right}
+use Rattle.rules.specs.Text.{every}
+use Rattle.rules.specs.Names.{isCharacter}
 use Rattle.rules.specs.Table.{accepted, meaningIn}
-use Rattle.rules.specs.Order.{Step, stepOf, elements}
+use Rattle.rules.specs.Order.{goodString, Step, stepOf, elements}
 use Rattle.rules.proofs.ElementLaws.{UpTo, step-size, step-place, elements-step}
 use Rattle.table_layout.specs.Parts.{Within}
 use Rattle.table_layout.proofs.PartLaws.{table-good}
 use Rattle.order_find.specs.declared.Found.{Found}
 use Rattle.order_find.specs.Answer.{foundAs}
+
+-- a string that is not refused
+pub good-characters : (s : List ℕ) → goodString s ≡ true → every isCharacter s ≡ true
+unfolding goodString
+good-characters s g = and-right (leb (length s) 4096) (every isCharacter s) g
 
 module _ (t s : List ℕ) {at : ℕ} {f : Found} (checked : accepted t ≡ true) (h : at < length s)
     (e : foundAs f ≡ stepOf (meaningIn t .items) (drop at s)) where
@@ -28,6 +37,9 @@ module _ (t s : List ℕ) {at : ℕ} {f : Found} (checked : accepted t ≡ true)
   -- which has weights at each level
   pub found-within : (level : ℕ) → level < length (meaningIn t .rules) → Within t (f .place) level
   found-within level l = record { checked = checked; from-one = found-place .least; in-items = found-place .most; in-levels = l }
+
+  pub found-item : Within t (f .place) 0
+  found-item = found-within 0 (omega (arith, table-good t checked .some-level))
 
   -- it takes some of the characters that are left
   pub found-size : UpTo (length s - at) (f .size)

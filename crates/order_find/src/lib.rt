@@ -221,7 +221,7 @@ fn quick_in(t: &[u32], chars: usize, items: usize, c: u32) -> usize
     0
 }
 
-// The same in any table.
+// The same, where the caller does not have the table's shape.
 pub fn quick(t: &[u32], c: u32) -> usize
     requires { ⌜ accepted (now t) ≡ true ⌝ }
     requires { ⌜ isCharacter c ≡ true ⌝ }
@@ -249,7 +249,7 @@ pub fn longest_in(t: &[u32], shape: Shape, s: &[u32], at: usize) -> Found
     search(t, s, at)
 }
 
-// The same in any table.
+// The same, where the caller does not have the table's shape.
 pub fn longest(t: &[u32], s: &[u32], at: usize) -> Found
     requires { ⌜ accepted (now t) ≡ true ⌝ }
     requires { ⌜ at < length (now s) ⌝ }

@@ -49,7 +49,7 @@ module _ (t s : List ℕ) (level : ℕ) (p : Bool) {end : ℕ} (l : length (leve
     backward-none {now} q = record {
       to = omega arith;
       less = omega arith;
-      weighs = record { few = omega arith; narrow = λ z. absurd (omega arith) };
+      weighs = record { narrow = λ z. absurd (omega arith) };
       done = [];
       put = record { is = refl; to = omega arith };
       long = refl;

@@ -25,7 +25,7 @@ use Rattle.table_layout.specs.declared.Run.{Run}
 use Rattle.table_layout.proofs.PartLaws.{good-in, table-good}
 use Rattle.order_find.specs.Answer.{foundAs}
 use Rattle.order_find.specs.declared.Found.{Found}
-use Rattle.order_find.proofs.FoundLaws.{found-within}
+use Rattle.order_find.proofs.FoundLaws.{found-item}
 use Rattle.order_keys.specs.Writing.{Keyable, AtLevel, weightsFrom, Blank, Countable, Added, Counted}
 use Rattle.order_keys.proofs.PieceLaws.{not-long, weights-none, weights-first, found-some, found-to}
 
@@ -93,14 +93,13 @@ entries-counted {level = level} l e = omega (arith, e, count-few level (l .keyab
 
 -- those of the elements from a place on are still to be counted
 pub record Counting (t s before counts : List ℕ) (at : ℕ) : Type 0 where
-  pub to : at ≤ length s
   pub kept : length counts ≡ length before
   pub long : length (meaningIn t .rules) ≤ length counts
   pub same : (level : ℕ) → level < length (meaningIn t .rules)
       → getD counts level 0 + countAll (weightsFrom t s level at) ≡ countAll (weightsFrom t s level 0)
 
 pub counting-none : (t s counts : List ℕ) → Blank t counts → Counting t s counts counts 0
-counting-none t s counts b = record { to = omega arith; kept = refl; long = b .long; same = λ level h. omega (arith, b .is level) }
+counting-none t s counts b = record { kept = refl; long = b .long; same = λ level h. omega (arith, b .is level) }
 
 module _ {t s before counts : List ℕ} {at : ℕ} (v : Counting t s before counts at) (k : Keyable t s) where
   pub counting-countable : Countable t counts
@@ -108,7 +107,7 @@ module _ {t s before counts : List ℕ} {at : ℕ} (v : Counting t s before coun
 
   module _ {f : Found} (h : at < length s) (e : foundAs f ≡ stepOf (meaningIn t .items) (drop at s)) where
     pub counting-within : Within t (f .place) 0
-    counting-within = found-within t s (k .checked) h e 0 (omega (arith, table-good t (k .checked) .some-level))
+    counting-within = found-item t s (k .checked) h e
 
     pub counting-fits : Fits w64 (at + f .size)
     counting-fits = omega (arith, found-to k h e, not-long k)
@@ -119,7 +118,6 @@ module _ {t s before counts : List ℕ} {at : ℕ} (v : Counting t s before coun
     pub counting-more : {after : List ℕ} → length after ≡ length counts → Added t (f .place) counts after → Counting t s before after (at + f .size)
     unfolding countAll
     counting-more l a = record {
-      to = found-to k h e;
       kept = l ∙ v .kept;
       long = omega (arith, v .long);
       same = λ level q. omega (arith, v .same level q, a .is level q, ap countAll (weights-first k h e level));
@@ -174,12 +172,11 @@ codes-fit k = omega (arith, not-long k)
 
 -- the bytes of the levels from this one on are still to be added
 pub record Widening (t s : List ℕ) (wide level : ℕ) : Type 0 where
-  pub to : level ≤ length (meaningIn t .rules)
   pub same : wide + levelsWide t s level ≡ length (keyOf (meaningIn t) s)
 
 pub widening-none : (t s : List ℕ) → Widening t s (3 * length s) 0
 unfolding levelsWide levelsOf
-widening-none t s = record { to = omega arith; same = omega (arith, key-length (meaningIn t) s) }
+widening-none t s = record { same = omega (arith, key-length (meaningIn t) s) }
 
 module _ {t s counts : List ℕ} {level many : ℕ} (k : Keyable t s) (c : Counted t s counts) (m : many ≡ length (meaningIn t .rules)) (h : level < many) where
   pub counted-inside : level < length counts
@@ -198,7 +195,7 @@ module _ {t s counts : List ℕ} {level many : ℕ} (k : Keyable t s) (c : Count
     widening-fits = omega (arith, v .same, wide-left, key-bound (meaningIn t) (good-in t (k .checked)) s (k .good))
 
     pub widening-more : Widening t s (wide + r) (level + 1)
-    widening-more = record { to = omega arith; same = omega (arith, v .same, wide-left) }
+    widening-more = record { same = omega (arith, v .same, wide-left) }
 
 pub widening-all : {t s : List ℕ} {wide level many : ℕ} → Widening t s wide level → many ≡ length (meaningIn t .rules) → many ≤ level
     → wide ≡ length (keyOf (meaningIn t) s)

@@ -1,7 +1,7 @@
 -- The bytes of a level, element by element: walked forward, and from its end while the string is cut from its beginning. How many they are.
 use mathlib.Core.Path.{_≡_, refl, sym, ap, _∙_}
 use mathlib.Core.Bool.{Bool, true, false, cond}
-use mathlib.Core.List.{List, [], _∷_, _++_, map, reverse, reverseAux}
+use mathlib.Core.List.{List, [], _∷_, _++_, map, reverse, reverseAux, reverseAux-eq}
 use Prim.Native.Nat.{ℕ, zero, suc, _+_, _*_, _≤_, _<_}
 use native.Mathlib.Nat.{add-zero}
 use native.Mathlib.Omega.{arith}
@@ -116,10 +116,6 @@ onward-blanks p n (suc k) last rest =
     let e : k + suc n ≡ suc k + n = omega arith in
     onward-blanks p (suc n) k last rest ∙ ap (λ (m : ℕ). elementBytes p m last ++ rest) e
 
-turn : {A : Type 0} (es xs ys : List A) → reverseAux es (xs ++ ys) ≡ reverseAux es xs ++ ys
-turn [] xs ys = refl
-turn (e ∷ es) xs ys = turn es (e ∷ xs) ys
-
 -- and so all of them
 turned-onward : (p : Bool) (last : List ℕ) (n : ℕ) (es : List (List ℕ)) (done : List ℕ)
     → turnedBytes p last n es done ≡ onwardBytes p 0 (reverseAux es (blanks n (last ∷ []))) done
@@ -133,9 +129,9 @@ turned-onward p last n ((w ∷ ws) ∷ es) done =
     let e : rest ≡ elementBytes p n last ++ done = onward-blanks p 0 n last done ∙ ap (λ (m : ℕ). elementBytes p m last ++ done) (add-zero n) in
     turned-onward p (w ∷ ws) 0 es (elementBytes p n last ++ done)
     ∙ ap (λ (k : List ℕ). onwardBytes p 0 (reverseAux es ((w ∷ ws) ∷ [])) k) (sym e)
-    ∙ ap (λ (k : List (List ℕ)). onwardBytes p 0 k rest) (turn es [] ((w ∷ ws) ∷ []))
+    ∙ ap (λ (k : List (List ℕ)). onwardBytes p 0 k rest) (reverseAux-eq es ((w ∷ ws) ∷ []))
     ∙ sym (onward-split p 0 (reverseAux es []) w ws kept done)
-    ∙ ap (λ (k : List (List ℕ)). onwardBytes p 0 k done) (sym (turn es [] ((w ∷ ws) ∷ kept)))
+    ∙ ap (λ (k : List (List ℕ)). onwardBytes p 0 k done) (sym (reverseAux-eq es ((w ∷ ws) ∷ kept)))
 
 -- an element without a weight at the end adds nothing
 onward-last : (p : Bool) (n : ℕ) (xs : List (List ℕ)) (rest : List ℕ) → onwardBytes p n (xs ++ [] ∷ []) rest ≡ onwardBytes p n xs rest
@@ -149,7 +145,7 @@ unfolding blanks
 turned-paper p es =
     onward-paper p 0 (reverse es)
     ∙ sym (onward-last p 0 (reverse es) (two 0 []))
-    ∙ ap (λ (k : List (List ℕ)). onwardBytes p 0 k (two 0 [])) (sym (turn es [] ([] ∷ [])))
+    ∙ ap (λ (k : List (List ℕ)). onwardBytes p 0 k (two 0 [])) (sym (reverseAux-eq es ([] ∷ [])))
     ∙ sym (turned-onward p [] 0 es (two 0 []))
 
 pub backward-bytes : (t s : List ℕ) (level : ℕ) (p : Bool) → levelBytes t s level (backward p) ≡ turnedBytes p [] 0 (weightsFrom t s level 0) (two 0 [])

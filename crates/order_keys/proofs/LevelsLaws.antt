@@ -84,8 +84,8 @@ pub level-at : {t s : List ℕ} {level many : ℕ} → Keyable t s → many ≡ 
 level-at k m h = record { keyable = k; in-levels = omega arith }
 
 -- and its count
-pub level-count : {t s counts : List ℕ} {level : ℕ} → Counted t s counts → AtLevel t s level → getD counts level 0 ≡ countAll (weightsFrom t s level 0)
-level-count {level = level} c l = c .is level (l .in-levels)
+pub counted-at : {t s counts : List ℕ} {level : ℕ} → Counted t s counts → AtLevel t s level → getD counts level 0 ≡ countAll (weightsFrom t s level 0)
+counted-at {level = level} c l = c .is level (l .in-levels)
 
 module _ (t s : List ℕ) (level : ℕ) where
   levels-cons : level < length (meaningIn t .rules)

@@ -14,7 +14,7 @@ use Rattle.rules.specs.Text.{every, within}
 use Rattle.rules.specs.Names.{isCharacter}
 use Rattle.rules.specs.Meaning.{goodWeights}
 use Rattle.rules.specs.Table.{meaningIn}
-use Rattle.rules.specs.Order.{goodString, stepOf, elements, weightsAt}
+use Rattle.rules.specs.Order.{stepOf, elements, weightsAt}
 use Rattle.rules.proofs.TextLaws.{every-at, within-high}
 use Rattle.rules.proofs.EntryLaws.{weightsAt-good}
 use Rattle.rules.proofs.KeyLaws.{goodString-length}
@@ -23,14 +23,13 @@ use Rattle.table_layout.specs.declared.Run.{Run}
 use Rattle.table_layout.proofs.PartLaws.{table-good}
 use Rattle.order_find.specs.Answer.{foundAs}
 use Rattle.order_find.specs.declared.Found.{Found}
-use Rattle.order_find.proofs.FoundLaws.{found-within, found-size, found-first}
+use Rattle.order_find.proofs.FoundLaws.{good-characters, found-within, found-size, found-first}
 use Rattle.order_keys.specs.declared.Piece.{Piece}
 use Rattle.order_keys.specs.Writing.{Keyable, AtLevel, weightsFrom, Narrow, Cuts}
 
 module _ {t s : List ℕ} (k : Keyable t s) where
   pub all-characters : every isCharacter s ≡ true
-  unfolding goodString
-  all-characters = and-right (leb (length s) 4096) (every isCharacter s) (k .good)
+  all-characters = good-characters s (k .good)
 
   pub not-long : length s ≤ 4096
   not-long = goodString-length s (k .good)
@@ -80,7 +79,6 @@ module _ {t s : List ℕ} {at : ℕ} {f : Found} (k : Keyable t s) (h : at < len
   piece-cuts {level} {run} w = record {
     is = rw (w .is) (weights-first level);
     weighs = record {
-      few = w .few;
       narrow =
           weights-narrow run w
           (weightsAt-good (length (meaningIn t .rules)) (meaningIn t .items) (table-good t (k .checked) .items) level (f .place));

@@ -37,12 +37,11 @@ pub record Narrow (t : List ℕ) (from end : ℕ) : Type 0 where
   pub within : end ≤ length t
   pub small : (i : ℕ) → from ≤ i → i < end → getD t i 0 < 65536
 
--- A run of at most eight numbers that have two bytes each.
+-- A run of numbers that have two bytes each.
 pub record Weighs (t : List ℕ) (r : Run) : Type 0 where
-  pub few : r .count ≤ 8
   pub narrow : 0 < r .count → Narrow t (r .from) (r .from + r .count)
 
--- The first of the elements from a place of the string on.
+-- The weights of the first element from a place of the string on, and a place from which the others give theirs.
 pub record Cuts (t s : List ℕ) (level at : ℕ) (r : Piece) : Type 0 where
   pub is : weightsFrom t s level at ≡ numbersIn t (r .weights) ∷ weightsFrom t s level (at + r .size)
   pub weighs : Weighs t (r .weights)

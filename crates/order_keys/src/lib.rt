@@ -1,6 +1,6 @@
 // The key builder: it counts the bytes of a string's key, and writes them where the room lent has place for them all. No list of the string's
-// elements is kept: the string is cut again for each level. A level that is walked backward is written from its end towards its beginning, while the
-// string is cut from its beginning on.
+// elements is kept: the string is cut again for each level. A level that is walked backward is written from its end towards its beginning, since the
+// string is cut from its beginning on, where elements are matched.
 ghost use mathlib.Core.Path.{_≡_};
 ghost use mathlib.Core.Bool.{true};
 ghost use mathlib.Core.List.{[]};
@@ -198,8 +198,8 @@ fn write_forward(
     put_two(room, next, 0)
 }
 
-// The entries of a level that is walked backward, and 00 00 behind them, in front of a place; where they begin. The count of an element is known when
-// the next one with a weight is cut, or the string ends: until then it is kept as `last`.
+// The entries of a level that is walked backward, and 00 00 behind them, in front of a place; where they begin. An element's count is how many without a
+// weight stand behind it, so it is known only when the next one with a weight is cut, or the string ends; until then the element is kept as `last`.
 fn write_backward(
     t: &[u32],
     s: &[u32],
@@ -216,25 +216,25 @@ fn write_backward(
     let mut from = end - 2;
     put_two(room, from, 0);
     let mut last = Run { from: 0, count: 0 };
-    let mut skipped: u32 = 0;
+    let mut behind: u32 = 0;
     let mut i: usize = 0;
     while i < s.len() {
         let piece = next_piece(t, shape, s, level, i);
         let run = piece.weights;
         if run.count == 0 {
-            skipped += 1;
+            behind += 1;
             i += piece.size;
         } else {
-            from = put_before(t, last, position, skipped, room, from);
+            from = put_before(t, last, position, behind, room, from);
             last = run;
-            skipped = 0;
+            behind = 0;
             i += piece.size;
         }
     }
-    put_before(t, last, position, skipped, room, from)
+    put_before(t, last, position, behind, room, from)
 }
 
-// A level that has so many entries; the place behind it.
+// A level; the place behind it. How many entries it has tells where it ends, from which a backward one is written.
 fn write_level(
     t: &[u32],
     s: &[u32],

@@ -8,13 +8,13 @@ use native.Mathlib.Nat.{min-le-right, suc-mul, zero-mul, mul-le-mul-right}
 use native.Mathlib.Omega.{arith}
 use lib.ListN.{length, getD, take, drop, length-map, length-take, length-drop, List·getD-append}
 use lib.Seq.{drop-drop, drop-at, take-append-seam, drop-append-add, getD-drop, getD-append-add}
-use Rattle.rules.specs.Meaning.{Rule, Item, Meaning, goodItem, countAll, weightCount, sizeOf, good}
+use Rattle.rules.specs.Meaning.{Rule, Item, Meaning, goodItem, weightCount, sizeOf, good}
 use Rattle.rules.specs.Table.{counts, sums, weightLists, ends, charNumbers, mask, listing, starts, ruleNumber, ruleOfNumber, weightNumbers, storedForm, meaningIn, accepted}
 use Rattle.rules.specs.Order.{weightsAt, noItem}
 use Rattle.rules.specs.Text.{every}
 use Rattle.rules.proofs.TextLaws.{every-head, every-tail}
 use Rattle.rules.proofs.EntryLaws.{weightsAt-good}
-use Rattle.rules.proofs.WidthLaws.{good-count, countAll-bound}
+use Rattle.rules.proofs.WidthLaws.{good-count}
 use Rattle.rules.proofs.MeaningLaws.{item-parts, Good, good-parts}
 use Rattle.rules.proofs.StorableLaws.{AllStored, meaning-stored, rule-back, rules-drop}
 use Rattle.rules.proofs.SizeLaws.{lists-length, ends-length, stored-size}
@@ -31,19 +31,6 @@ unfolding sums
 sums-step at [] x h = absurd (omega arith)
 sums-step at (w ∷ ws) zero h = refl
 sums-step at (w ∷ ws) (suc x) h = sums-step (at + length w) ws x (omega arith)
-
--- behind some of them, the sums go on from all of these
-sums-past : (at : ℕ) (ws vs : List (List ℕ)) (y : ℕ)
-    → getD (at ∷ sums at (counts (ws ++ vs))) (length ws + y) 0 ≡ getD ((at + countAll ws) ∷ sums (at + countAll ws) (counts vs)) y 0
-unfolding sums countAll
-sums-past at [] vs y =
-    let e : at + 0 ≡ at = omega arith in
-    let z : 0 + y ≡ y = omega arith in
-    rw (e, z)
-sums-past at (w ∷ ws) vs y =
-    let e : at + length w + countAll ws ≡ at + (length w + countAll ws) = omega arith in
-    let s : suc (length ws) + y ≡ suc (length ws + y) = omega arith in
-    rw (s, ← e) (sums-past (at + length w) ws vs y)
 
 -- running sums are not below where they begin
 sums-low : (at : ℕ) (ns : List ℕ) (x : ℕ) → x ≤ length ns → at ≤ getD (at ∷ sums at ns) x 0
@@ -78,37 +65,11 @@ lists-at l (i ∷ is) (suc k) j s h u =
     let e : suc k * l + j ≡ length (i .weights) + (k * l + j) = omega (arith, suc-mul k l, s .0 .2) in
     rw (e, getD-append-add (i .weights) (weightLists is) (k * l + j) []) (lists-at l is k j (s .1) (omega arith) u)
 
--- before the ends of item k: the weights of all items before it
-sums-before : (l at : ℕ) (is : List Item) (k : ℕ) → AllStored l is → k ≤ length is
-    → getD (at ∷ sums at (counts (weightLists is))) (k * l) 0 ≡ at + weightCount (take k is)
-unfolding weightLists weightCount
-sums-before l at is zero s h = let e : 0 * l ≡ 0 = zero-mul l in rw e (omega arith)
-sums-before l at [] (suc k) s h = absurd (omega arith)
-sums-before l at (i ∷ is) (suc k) s h =
-    let e : suc k * l ≡ length (i .weights) + k * l = omega (arith, suc-mul k l, s .0 .2) in
-    rw e (sums-past at (i .weights) (weightLists is) (k * l)
-    ∙ sums-before l (at + countAll (i .weights)) is k (s .1) (omega arith) ∙ omega arith)
-
--- the weights of one item more
-count-next : (is : List Item) (k : ℕ) → k < length is → weightCount (take (suc k) is) ≡ weightCount (take k is) + countAll (getD is k noItem .weights)
-unfolding weightCount
-count-next [] k h = absurd (omega arith)
-count-next (i ∷ is) zero h = omega arith
-count-next (i ∷ is) (suc k) h = omega (arith, count-next is k (omega arith))
-
 -- an item has as many lists of weights as the table has levels
 pub stored-levels : (l : ℕ) (is : List Item) (k : ℕ) → k < length is → every (goodItem l) is ≡ true → length (getD is k noItem .weights) ≡ l
 stored-levels l [] k b h = absurd (omega arith)
 stored-levels l (i ∷ is) zero b h = item-parts l i (every-head (goodItem l) i is h) .levels
 stored-levels l (i ∷ is) (suc k) b h = stored-levels l is k (omega arith) (every-tail (goodItem l) i is h)
-
--- and at most eight weights in each
-stored-count : (l : ℕ) (is : List Item) (k : ℕ) → k < length is → every (goodItem l) is ≡ true → countAll (getD is k noItem .weights) ≤ 8 * l
-stored-count l [] k b h = absurd (omega arith)
-stored-count l (i ∷ is) zero b h =
-    let g = item-parts l i (every-head (goodItem l) i is h) in
-    omega (arith, g .levels, countAll-bound (i .weights) (g .weights))
-stored-count l (i ∷ is) (suc k) b h = stored-count l is k (omega arith) (every-tail (goodItem l) i is h)
 
 -- so many numbers can be taken only where they stand
 run-inside : (n from : ℕ) (t : List ℕ) → length (take n (drop from t)) ≡ n → 0 < n → from + n ≤ length t

@@ -194,7 +194,7 @@ pub fn weights_in(t: &[u32], shape: Shape, place: usize, level: usize) -> Run
     }
 }
 
-// The same in any.
+// The same, where the caller does not have the table's shape.
 pub fn weights(t: &[u32], place: usize, level: usize) -> Run
     requires { ⌜ Within (now t) place level ⌝ }
     ensures { λ r. ⌜ Holds (now (t .entry)) r (weightsAt (meaningIn (now (t .entry)) .items) level place) ⌝ }

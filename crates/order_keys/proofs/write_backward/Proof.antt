@@ -8,10 +8,10 @@ use Rattle.order_keys.proofs.write_backward.Statement.{statement}
 use Rattle.order_keys.proofs.write_backward.Tie as tie
 
 abbrev Inv-loop : tie.InvT-loop
-Inv-loop t s level position room₀ end shape from₀ last₀ skipped₀ i₀ room from last skipped i = Backward t s level position room₀ from₀ room from last skipped i
+Inv-loop t s level position room₀ end shape from₀ last₀ behind₀ i₀ room from last behind i = Backward t s level position room₀ from₀ room from last behind i
 
 abbrev μ-loop : tie.MeasureT-loop
-μ-loop t s level position room₀ end shape from₀ last₀ skipped₀ i₀ room from last skipped i = length s - i
+μ-loop t s level position room₀ end shape from₀ last₀ behind₀ i₀ room from last behind i = length s - i
 
 shape-of-requires : tie.Need-shape-of-requires Inv-loop μ-loop
 shape-of-requires c κs = search needs
@@ -28,8 +28,8 @@ loop-holds c = search backward-none
 next-piece-requires : tie.Need-next-piece-requires Inv-loop μ-loop
 next-piece-requires c κs = search needs
 
-add-skipped : tie.Need-add-skipped Inv-loop μ-loop
-add-skipped c = search kept-skipped
+add-behind : tie.Need-add-behind Inv-loop μ-loop
+add-behind c = search kept-skipped
 
 add-i : tie.Need-add-i Inv-loop μ-loop
 add-i c = search needs
@@ -72,7 +72,7 @@ write-backward-spec =
     put-two-requires
     loop-holds
     next-piece-requires
-    add-skipped
+    add-behind
     add-i
     loop-less
     loop-again

@@ -2,7 +2,7 @@
 use borrow.Author.Needs.{needs}
 use Prim.Native.Nat.{_-_}
 use Rattle.order_keys.proofs.CountLaws.{counted-inside}
-use Rattle.order_keys.proofs.LevelsLaws.{Levels, levels-none, level-at, level-count, level-room, levels-more, levels-all}
+use Rattle.order_keys.proofs.LevelsLaws.{Levels, levels-none, level-at, counted-at, level-room, levels-more, levels-all}
 use Rattle.order_keys.proofs.write_levels.Statement.{statement}
 use Rattle.order_keys.proofs.write_levels.Tie as tie
 
@@ -28,7 +28,7 @@ shared-slice-read-write-level : tie.Need-shared-slice-read-write-level Inv-loop 
 shared-slice-read-write-level c = search counted-inside
 
 write-level-requires : tie.Need-write-level-requires Inv-loop μ-loop
-write-level-requires c κs = search (level-at, level-count, level-room)
+write-level-requires c κs = search (level-at, counted-at, level-room)
 
 add-level : tie.Need-add-level Inv-loop μ-loop
 add-level c = search needs
