@@ -33,13 +33,13 @@ pub record Good (gs : List Given) : Type 0 where
 pub good_none : Good []
 good_none = record { fits = λ g m. absurd (Memᴰ.not-nil m); characters = λ g m. absurd (Memᴰ.not-nil m); apart = tt }
 
-byte-given : {gs : List Given} {g : Given} → Memᴰ g gs → one_of (gives_byte g.byte) gs ≡ true
+byte-given : {g : Given} {gs : List Given} → Memᴰ g gs → one_of (gives_byte g.byte) gs ≡ true
 unfolding one_of gives_byte
 byte-given {g} (Memᴰ.head {x} e) = rw (eq-eqb g.byte x.byte (ap (λ (y : Given). y.byte) e))
 byte-given {g} (Memᴰ.tail {x} {xs} m) = by (eqb g.byte x.byte) (λ t. rw t) (λ t. rw t (byte-given m))
 
 -- the byte of an entry decodes to the entry's code
-pub code-once : {gs : List Given} {g : Given} → Memᴰ g gs → Apart gs → code_given gs g.byte ≡ g.code
+pub code-once : {g : Given} {gs : List Given} → Memᴰ g gs → Apart gs → code_given gs g.byte ≡ g.code
 unfolding code_given is_given
 code-once {g} (Memᴰ.head {x} e) a = rw (eq-eqb g.byte x.byte (ap (λ (y : Given). y.byte) e)) (ap (λ (y : Given). y.code) (sym e))
 code-once {g} (Memᴰ.tail {x} {xs} m) a = by (eqb g.byte x.byte)

@@ -8,7 +8,7 @@ use lib.ListN.{length, length-map, length-append}
 use lib.Dec.{eqb, leb, ltb, lit<, lit≤}
 use borrow.Author.Tests.{leb-true, ltb-true, not-true}
 use Rattle.base_lists.proofs.Bools.{and_left, and_right, and_intro, or-false-intro, not-intro, clash, by, cond-by}
-use Rattle.rules.specs.Text.{within, every, one_of, is}
+use Rattle.rules.specs.Text.{if◌then◌else◌, within, every, one_of, is}
 use Rattle.rules.specs.Names.{code_of, is_character, is_char_name, char_shaped}
 use Rattle.rules.specs.Tokens.{semi, Token, token_at, the_name}
 use Rattle.rules.specs.Meaning.{Rule}
@@ -130,7 +130,7 @@ split_at-some : (part ts : List Token) → 1 ≤ length (split_at part ts)
 unfolding split_at
 split_at-some part [] = omega arith
 split_at-some part (t ∷ ts) =
-    cond-by (λ (r : List (List Token)). 1 ≤ length r) (eqb t.kind semi) (λ h. omega arith) (λ h. split_at-some _ ts)
+    cond-by (λ (r : List (List Token)). 1 ≤ length r) (eqb t.kind semi) (λ h. omega arith) (λ h. split_at-some (if eqb t.kind semi then [] else part ++ t ∷ []) ts)
 
 rule_codes-some : (ts : List Token) → 1 ≤ length (rule_codes ts)
 unfolding rule_codes
