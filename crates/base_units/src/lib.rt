@@ -1,19 +1,21 @@
 // The units of the product: what must not be mixed up, and what answers are made of. A number of the paper for each is in specs/.
+#![tactic(auto)]
+
 ghost use Rattle.std.specs.Prelude.{◌≡◌, cond, ◌<◌, ◌≤◌};
 ghost use Rattle.rules.specs.Names.{is_character};
 ghost use Rattle.rules.specs.Order.{good_string};
 ghost use Rattle.base_units.specs.Numbers.{number_of};
 
 // The place of an order line among the used ones, from 1: what a weight is.
-#[derive(Drop)]
+#[derive(Clone, Copy)]
 pub struct Rank(pub u32);
 
 // A character of a string, a name or a charmap, by its code: `is_character` tells whether it is one. 110000 hex stands for none.
-#[derive(Drop)]
+#[derive(Clone, Copy)]
 pub struct CodePoint(pub u32);
 
 // How the first of two strings stands to the second.
-#[derive(Drop)]
+#[derive(Clone, Copy)]
 pub enum Sign {
     Less,
     Equal,
@@ -21,7 +23,7 @@ pub enum Sign {
 }
 
 // Why an operation gives no answer, in the order of the paper's numbers from 1.
-#[derive(Drop)]
+#[derive(Clone, Copy)]
 pub enum Refusal {
     // a source that is too long, or a work area that is too short
     TooLong,

@@ -1,4 +1,5 @@
 // The run cases of the directory that are starts and lengths, with what must be written in the file stdout.
+#![tactic(auto)]
 mod places;
 
 fn main() {

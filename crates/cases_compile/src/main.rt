@@ -1,4 +1,5 @@
 // The run cases of the compiler, with what must be written in the file stdout. The sources that are text stand in the file stdin.
+#![tactic(auto)]
 mod bytes;
 mod limits;
 mod longest;

@@ -1,5 +1,6 @@
 // The run cases of the directory: pages as texts, which the file stdin has, in Latin-1, and the most headings, topics and characters; with what must be
 // written in the file stdout.
+#![tactic(auto)]
 mod groups;
 mod limits;
 mod texts;

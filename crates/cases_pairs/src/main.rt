@@ -1,5 +1,6 @@
 // Runs of the pairs program, with what must be written in the file stdout. Each line of standard input names a locale, a charmap and an input,
 // files of data/; what a run writes stands behind its line.
+#![tactic(auto)]
 ghost use Rattle.std.specs.Prelude.{◌≤◌, ◌<◌, length};
 
 use cases_words::mark;

@@ -1,4 +1,5 @@
 // The run cases of the operations on tables: what document 01 says is run, with what must be written in the file stdout.
+#![tactic(auto)]
 mod show;
 mod tables;
 

@@ -1,4 +1,5 @@
 // What the run cases of the directory write: a line for each, its name and the answer. Lists are filled with EEEE before each call.
+#![tactic(auto)]
 use base_units::Refusal;
 use cases_words::{end_line, kept, number, refusal};
 use order_directory::Directed;

@@ -1,4 +1,5 @@
 // What the programs of cases share: words of their lines, and marks of their input.
+#![tactic(auto)]
 ghost use Rattle.std.specs.Prelude.{◌≤◌, length};
 
 use base_units::Refusal;

@@ -1,4 +1,5 @@
 // What a line between CHARMAP and END CHARMAP does.
+#![tactic(auto)]
 ghost use Rattle.std.specs.Prelude.{◌≡◌, false, ◌&&◌, ◌≤◌, ◌<◌, length, eqb, ltb};
 ghost use Rattle.rules.specs.Lines.{in_plain};
 ghost use Rattle.rules.specs.Tokens.{without_gaps, tokens_of, is_entry};
@@ -19,21 +20,21 @@ use text_reader::line_at;
 use text_tokens::{Next, end_of_word, lower_of, next_token, skip_gaps, word_is};
 
 // The codes of an entry's two names, where these are characters and no other number lies between them.
-#[derive(Drop)]
+#[derive(Clone, Copy)]
 pub enum Codes {
     Between(CodePoint, CodePoint),
     Other,
 }
 
 // What an entry gives: its first byte, the code of that, and how many bytes and codes in a row; or its refusal's number, as the lowest of several is sought.
-#[derive(Drop)]
+#[derive(Clone, Copy)]
 pub enum Outcome {
     Gives(usize, CodePoint, usize),
     Refused(u8),
 }
 
 // What a line is that is no entry.
-#[derive(Drop)]
+#[derive(Clone, Copy)]
 pub enum Kind {
     Blank,
     End,
@@ -41,7 +42,7 @@ pub enum Kind {
 }
 
 // What a line does that is no entry. Blank and End: the place after it, and its LFs.
-#[derive(Drop)]
+#[derive(Clone, Copy)]
 pub enum PlainLine {
     Blank(usize, usize),
     End(usize, usize),
@@ -49,7 +50,7 @@ pub enum PlainLine {
 }
 
 // What a line does: whether it closes the charmap, the place after it, and its LFs; or its refusal.
-#[derive(Drop)]
+#[derive(Clone, Copy)]
 pub enum BodyLine {
     Line(bool, usize, usize),
     Refused(Refusal),

@@ -1,4 +1,5 @@
 // A charmap area given back: its check, decoding and encoding. Each public operation checks the area itself and has no `requires`.
+#![tactic(auto)]
 ghost use Rattle.std.specs.Prelude.{◌≡◌, true, map, ◌≤◌, length, take, drop, replicate};
 ghost use Rattle.rules.specs.Text.{every, within};
 ghost use Rattle.rules.specs.Names.{is_character};
@@ -11,14 +12,14 @@ ghost use Rattle.charmap_coding.specs.Tables.{Counted, Indexed};
 use base_units::{CodePoint, Refusal, good_string, is_character};
 
 // What the check of an area answers.
-#[derive(Drop)]
+#[derive(Clone, Copy)]
 pub enum AreaVerdict {
     Accepted,
     Refused(Refusal),
 }
 
 // How many numbers were written to the room lent, or why none was.
-#[derive(Drop)]
+#[derive(Clone, Copy)]
 pub enum Coded {
     Written(usize),
     Refused(Refusal),

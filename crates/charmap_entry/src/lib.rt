@@ -1,4 +1,5 @@
 // A line between CHARMAP and END CHARMAP, from its first place on: whether it is an entry, and its parts.
+#![tactic(auto)]
 ghost use Rattle.std.specs.Prelude.{◌≡◌, ◌&&◌, ◌≤◌, length};
 ghost use Rattle.rules.specs.Text.{every};
 ghost use Rattle.rules.specs.Tokens.{is_text};
@@ -12,7 +13,7 @@ use text_tokens::{Closing, NameStep, end_of_name, lower_of, name_byte, skip_gaps
 
 // The parts of an entry: the spots right after the `<` of its first and of its last name, which is the first where it is no range; the
 // lower refusal of the two; its byte; whether all its bytes outside comments are text; the place after the line, and its LFs.
-#[derive(Drop)]
+#[derive(Clone, Copy)]
 pub struct Parts {
     pub first: Spot,
     pub last: Spot,
@@ -23,35 +24,35 @@ pub struct Parts {
     pub feeds: usize,
 }
 
-#[derive(Drop)]
+#[derive(Clone, Copy)]
 pub enum Entry {
     Found(Parts),
     No,
 }
 
 // Behind an entry's digits: the place where its marks end, or another mark.
-#[derive(Drop)]
+#[derive(Clone, Copy)]
 pub enum Tail {
     Ends(usize),
     Glued,
 }
 
 // Two hex digits: the byte that they make, and the spot after them.
-#[derive(Drop)]
+#[derive(Clone, Copy)]
 pub enum Two {
     Byte(u8, Spot),
     No,
 }
 
 // An entry's byte, and the place where its marks end.
-#[derive(Drop)]
+#[derive(Clone, Copy)]
 pub enum Byte {
     Found(u8, usize),
     No,
 }
 
 // A name: its refusal, the spot right after its `<`, and the spot after it.
-#[derive(Drop)]
+#[derive(Clone, Copy)]
 pub enum Name {
     Found(u8, Spot, Spot),
     No,
@@ -59,7 +60,7 @@ pub enum Name {
 
 // The names of an entry: the spots right after the `<` of the first and of the last, which is the first where it is no range; the lower of
 // their refusals; and the spot after them.
-#[derive(Drop)]
+#[derive(Clone, Copy)]
 pub struct Head {
     pub first: Spot,
     pub last: Spot,
@@ -67,7 +68,7 @@ pub struct Head {
     pub next: Spot,
 }
 
-#[derive(Drop)]
+#[derive(Clone, Copy)]
 pub enum Heads {
     Found(Head),
     No,

@@ -1,4 +1,5 @@
 // A line of a charmap's header, from its first place on: what it changes, or its refusal.
+#![tactic(auto)]
 ghost use Rattle.std.specs.Prelude.{◌≡◌, ◌&&◌, ◌+◌, ◌≤◌, ◌<◌, length, eqb};
 ghost use Rattle.rules.specs.Tokens.{is_text, without_opening_gaps};
 ghost use Rattle.rules.specs.Lines.{in_plain};
@@ -16,7 +17,7 @@ use text_specials::{Chars, Found, Keyword, after_blanks, may_set, with_set};
 use text_tokens::{Closing, end_of_name, end_of_word, only_blanks, skip_gaps, word_is};
 
 // A header line: the two characters after it, whether it is CHARMAP, the place after it and how many LFs it has; or its refusal.
-#[derive(Drop)]
+#[derive(Clone, Copy)]
 pub enum Heading {
     Line(Chars, bool, usize, usize),
     Refused(Refusal),

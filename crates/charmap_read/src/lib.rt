@@ -1,4 +1,5 @@
 // The reader of charmaps: its header's lines, its body's lines, then the 512 numbers. `read` is public and has no `requires`.
+#![tactic(auto)]
 ghost use Rattle.std.specs.Prelude.{◌≡◌, [], ◌≤◌, length, replicate};
 ghost use Rattle.rules.specs.Charmap.{area_of};
 ghost use Rattle.rules.specs.Calls.{charmap_call};
@@ -15,21 +16,21 @@ use text_reader::{reader_at, used_up};
 use text_specials::{Chars, start};
 
 // Whether the area was written, or why not: the refusal and its line.
-#[derive(Drop)]
+#[derive(Clone, Copy)]
 pub enum Mapped {
     Done,
     Refused(Refusal, usize),
 }
 
 // The header up to CHARMAP: the two characters in force after it, the place after that line, and the number of the next one.
-#[derive(Drop)]
+#[derive(Clone, Copy)]
 pub enum Header {
     Opened(Chars, usize, usize),
     Refused(Refusal, usize),
 }
 
 // The body up to END CHARMAP.
-#[derive(Drop)]
+#[derive(Clone, Copy)]
 pub enum Entries {
     Closed,
     Refused(Refusal, usize),
@@ -37,7 +38,7 @@ pub enum Entries {
 
 // How far the header is read. As in every state of a loop that holds a reader (crates/text_reader), the first three fields are whether the loop is over,
 // and the place and the number of the line that comes next.
-#[derive(Drop)]
+#[derive(Clone, Copy)]
 struct HeaderRead {
     over: bool,
     next: usize,
@@ -123,7 +124,7 @@ fn header_lines(src: &[u8]) -> Header
 }
 
 // How far the body is read, with the first three fields of every such state.
-#[derive(Drop)]
+#[derive(Clone, Copy)]
 struct BodyRead {
     over: bool,
     next: usize,

@@ -1,4 +1,5 @@
 // All lines of LC_COLLATE: blocks and conditional chains, two readers that call each other.
+#![tactic(auto)]
 ghost use Rattle.locale_category.specs.Blocks.{Starts, SomeUsed, ReadIs, InBranch, EndedIs, ChainBegins, ChainedIs};
 ghost use Rattle.std.specs.Prelude.{◌≡◌, ◌≤◌, length};
 ghost use Rattle.base_units.specs.Numbers.{number_of};
@@ -14,7 +15,7 @@ use text_lines::{IN_PLAIN, Signs, Spot, line_end};
 use work_order::Order;
 
 // Where a block ends.
-#[derive(Drop)]
+#[derive(Clone, Copy)]
 pub enum Read {
     // at a line of the chain that it stands in: the sheet, the place and the number of that line
     Branch(Sheet, usize, usize),
@@ -25,14 +26,14 @@ pub enum Read {
 }
 
 // Where a branch ends: at a line of its chain, or at a refusal.
-#[derive(Drop)]
+#[derive(Clone, Copy)]
 pub enum Ended {
     At(Sheet, usize, usize),
     Refused(Refusal, usize),
 }
 
 // Where a chain ends: after its endif, or at a refusal.
-#[derive(Drop)]
+#[derive(Clone, Copy)]
 pub enum Chained {
     Next(Sheet, usize, usize),
     Refused(Refusal, usize),
@@ -158,7 +159,7 @@ fn chain(
 
 // Where LC_COLLATE ends: after END LC_COLLATE, with the sheet before it, and the place and the number of the line after it; or a refusal, and
 // its line.
-#[derive(Drop)]
+#[derive(Clone, Copy)]
 pub enum Category {
     Closed(Sheet, usize, usize),
     Refused(Refusal, usize),

@@ -1,4 +1,5 @@
 // The compiler: the lines of a source, the ranks of its order lines, and its table. `compile` is public and has no `requires`.
+#![tactic(auto)]
 ghost use Rattle.std.specs.Prelude.{◌≡◌, ◌+◌, ◌≤◌, length, eqb};
 ghost use Rattle.rules.specs.Calls.{compile_call};
 ghost use Rattle.work_rows.specs.Cells.{cell};
@@ -20,7 +21,7 @@ use work_rows::told;
 use work_store::{clear, undefined_mark};
 
 // The size of the table, which stands in front of the area; or why there is none: the refusal and its line.
-#[derive(Drop)]
+#[derive(Clone, Copy)]
 pub enum Compiled {
     Done(usize),
     Refused(Refusal, usize),

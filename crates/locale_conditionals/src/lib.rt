@@ -1,5 +1,6 @@
 // The conditional lines in LC_COLLATE, as steps of the reader: define, undef, ifdef and ifndef in a used branch; elif, else and endif as the
 // open chain reads them.
+#![tactic(auto)]
 ghost use Rattle.std.specs.Prelude.{◌≡◌, not, ◌&&◌, ◌||◌, length};
 ghost use Rattle.rules.specs.Text.{bytes};
 ghost use Rattle.rules.specs.Tokens.{operands};
@@ -20,7 +21,7 @@ use text_tokens::{Tok, word_is};
 
 // A line of an open chain that is read whole: where it begins, its number and its end; of the chain before it, whether a branch was used, and
 // whether `else` has stood.
-#[derive(Drop)]
+#[derive(Clone, Copy)]
 struct ChainLine {
     at: usize,
     number: usize,
@@ -30,7 +31,7 @@ struct ChainLine {
 }
 
 // What a line of an open chain does.
-#[derive(Drop)]
+#[derive(Clone, Copy)]
 pub enum Turn {
     // elif or else: of the chain after it, whether a branch was used, whether the new one is, and whether `else` has stood; the sheet after
     // it, the place after it, and its LFs

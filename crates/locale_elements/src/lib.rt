@@ -1,4 +1,5 @@
 // The line `collating-element <name> from "<U..><U..>"`, from the spot after its first word on: its name and its characters, and both declared.
+#![tactic(auto)]
 ghost use Rattle.std.specs.Prelude.{◌≡◌, true, ◌+◌, ◌/◌, ◌≤◌, length};
 ghost use Rattle.rules.specs.Text.{every};
 ghost use Rattle.rules.specs.Names.{is_char_name};
@@ -21,14 +22,14 @@ use work_rows::tell;
 use work_store::{Found, declare, find};
 
 // Quotes and nothing after them: the spot after the opening `"`, and how many names they hold; or anything else.
-#[derive(Drop)]
+#[derive(Clone, Copy)]
 pub enum Tail {
     Quotes(Spot, usize),
     Other,
 }
 
 // What a line declares: the marks of its name and of its quotes; or its refusal.
-#[derive(Drop)]
+#[derive(Clone, Copy)]
 pub enum Element {
     Declared(usize, usize),
     Refused(u8),

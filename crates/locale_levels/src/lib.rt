@@ -1,4 +1,5 @@
 // The operands of `order_start`: the rules of the levels, read from the spot after that word on with nothing kept.
+#![tactic(auto)]
 ghost use Rattle.std.specs.Prelude.{◌≡◌, false, not, ◌&&◌, ◌≤◌, length, leb, eqb};
 ghost use Rattle.std.proofs.lemmas.List.Edits.{sets};
 ghost use Rattle.rules.specs.Lines.{in_plain};
@@ -17,7 +18,7 @@ use text_tokens::{COMMA, QUOTE, SEMI, Tok, WORD, lower_of, word_is};
 
 // One rule: its code, 0 where it is none, with the spot after the `;` that follows it, or as the last. Broken: the operands still to come
 // are malformed.
-#[derive(Drop)]
+#[derive(Clone, Copy)]
 pub enum RuleStep {
     More(u8, Spot),
     Last(u8),
@@ -25,14 +26,14 @@ pub enum RuleStep {
 }
 
 // How many rules there are, and whether each is known; or they are malformed.
-#[derive(Drop)]
+#[derive(Clone, Copy)]
 pub enum Tally {
     Rules(usize, bool),
     Broken,
 }
 
 // How many levels there are, or the refusal.
-#[derive(Drop)]
+#[derive(Clone, Copy)]
 pub enum Levels {
     Some(usize),
     Refused(u8),

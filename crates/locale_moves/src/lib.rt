@@ -1,5 +1,6 @@
 // The lines reorder-after and reorder-end in LC_COLLATE, as steps of the reader: they begin and end a block of order lines that move. p is the spot
 // right after that word. The work area stays as it is.
+#![tactic(auto)]
 ghost use Rattle.std.specs.Prelude.{◌≡◌, true, ◌||◌, ◌≤◌, length, eqb};
 ghost use Rattle.rules.specs.Lines.{in_plain};
 ghost use Rattle.rules.specs.Tokens.{operands};
@@ -21,7 +22,7 @@ use work_rows::told;
 use work_store::{Found, find};
 
 // What the line reorder-after names: the mark of an order line that stands; or its refusal.
-#[derive(Drop)]
+#[derive(Clone, Copy)]
 pub enum Named {
     Stands(usize),
     Refused(u8),

@@ -1,4 +1,5 @@
 // How a line in LC_COLLATE that is read whole begins: blank, with a word, which keyword that is, with a name.
+#![tactic(auto)]
 ghost use Rattle.std.specs.Prelude.{◌≤◌, length, ◌≡◌};
 ghost use Rattle.text_lines.specs.Stream.{marks_left};
 ghost use Rattle.text_tokens.specs.Left.{word_in};
@@ -12,7 +13,7 @@ use text_lines::{IN_PLAIN, LineEnd, Signs, Spot, line_end};
 use text_tokens::{NAME, Next, Tok, WORD, lower_of, next_token, skip_gaps, word_is};
 
 // The first words that the paper's collate_line tells apart, in its order; Other: none of them.
-#[derive(Drop)]
+#[derive(Clone, Copy)]
 pub enum Keyword {
     Define,
     Undef,
@@ -94,7 +95,7 @@ pub fn keyword_at(src: &[u8], g: Signs, p: Spot) -> Keyword
 }
 
 // What a line begins with, and its end.
-#[derive(Drop)]
+#[derive(Clone, Copy)]
 pub enum Opening {
     // nothing but blanks
     Blank(LineEnd),

@@ -1,4 +1,5 @@
 // An order line: what is told of its subject, its refusal, and where it comes to stand, in the order or in a block.
+#![tactic(auto)]
 ghost use Rattle.std.specs.Prelude.{◌≡◌, true, false, not, ◌&&◌, ◌||◌, [], ◌∷◌, ◌+◌, ◌-◌, ◌*◌, ◌/◌, ◌≤◌, ◌<◌, length, eqb, leb, ltb};
 ghost use Rattle.rules.specs.Text.{if◌then◌else◌, ◌unless◌, bytes, lowest};
 ghost use Rattle.rules.specs.Lines.{in_plain};
@@ -29,7 +30,7 @@ use work_rows::told;
 use work_store::{Found, declare, find, undefined_mark};
 
 // What is told of a subject: it is a symbol, it has an order line, it stands (it is a character, or declared).
-#[derive(Drop)]
+#[derive(Clone, Copy)]
 pub struct Facts {
     pub symbol: bool,
     pub ordered: bool,

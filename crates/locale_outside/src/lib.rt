@@ -1,4 +1,5 @@
 // The lines of a locale source outside every category: one of them, and all up to LC_COLLATE or to the end.
+#![tactic(auto)]
 ghost use Rattle.std.specs.Prelude.{◌≡◌, ◌≤◌, ◌<◌, ◌+◌, length};
 ghost use Rattle.rules.specs.Text.{begins};
 ghost use Rattle.rules.specs.Lines.{in_plain};
@@ -19,7 +20,7 @@ use text_specials::{Chars, Sign, may_set, sign_line, with_set};
 use text_tokens::{WordStep, end_of_word, only_blanks, skip_gaps, word_byte, word_is};
 
 // What a line is.
-#[derive(Drop)]
+#[derive(Clone, Copy)]
 pub enum Outer {
     // a blank line, or one that holds only a comment: the place after it, and its LFs
     Blank(usize, usize),
@@ -223,7 +224,7 @@ fn outer_line(src: &[u8], h: Chars, before: bool, collated: bool, at: usize) -> 
 }
 
 // What a line is, with the category that it opens.
-#[derive(Drop)]
+#[derive(Clone, Copy)]
 pub enum Turn {
     // lines outside LC_COLLATE: the two characters after them, whether no category has stood, the place after them and the number of the
     // line there
@@ -235,7 +236,7 @@ pub enum Turn {
 }
 
 // What all lines are.
-#[derive(Drop)]
+#[derive(Clone, Copy)]
 pub enum Outers {
     // LC_COLLATE is opened: the two characters, the place after its line and the number of the line there
     Collate(Chars, usize, usize),
@@ -275,7 +276,7 @@ fn outer_turn(src: &[u8], h: Chars, before: bool, collated: bool, at: usize, num
 
 // How far the lines are read. As in every state of a loop that holds a reader (crates/text_reader), the first three fields are whether the loop is over,
 // and the place and the number of the line that comes next.
-#[derive(Drop)]
+#[derive(Clone, Copy)]
 struct Stretch {
     over: bool,
     next: usize,

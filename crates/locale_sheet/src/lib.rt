@@ -1,4 +1,5 @@
 // What is known between two lines in LC_COLLATE, in the work area and beside it, and what a line may do to it: the contract of every line function.
+#![tactic(auto)]
 use base_units::Refusal;
 use text_lines::LineEnd;
 use work_order::Order;
@@ -17,7 +18,7 @@ pub const IN_BLOCK: u8 = 6;
 
 // The open block: the mark of its named line, the mark of the line after which the next one comes to stand, and the place from which on its own lines are
 // written. Outside a block the three say nothing.
-#[derive(Drop)]
+#[derive(Clone, Copy)]
 pub struct Block {
     pub named: usize,
     pub last: usize,
@@ -26,7 +27,7 @@ pub struct Block {
 
 // Where the next line stands (one of the phases above; 1 after END LC_COLLATE); how many toggles are named; the place after the
 // word order_start, and how many levels there are; the order lines; the open block.
-#[derive(Drop)]
+#[derive(Clone, Copy)]
 pub struct Sheet {
     pub phase: u8,
     pub toggles: usize,
@@ -37,7 +38,7 @@ pub struct Sheet {
 }
 
 // A line that is read whole: where it begins, its number, how many chains are open before it, and its end.
-#[derive(Drop)]
+#[derive(Clone, Copy)]
 pub struct Line {
     pub at: usize,
     pub number: usize,
@@ -46,7 +47,7 @@ pub struct Line {
 }
 
 // What a line in a used branch does.
-#[derive(Drop)]
+#[derive(Clone, Copy)]
 pub enum Step {
     // the sheet after it, the place after it, and its LFs
     Next(Sheet, usize, usize),

@@ -1,4 +1,5 @@
 // The lines that are passed over: an unused branch, another category; the words of such a line.
+#![tactic(auto)]
 ghost use Rattle.std.specs.Prelude.{◌≡◌, ◌≤◌, ◌<◌, length};
 ghost use Rattle.rules.specs.Text.{same};
 ghost use Rattle.locale_skips.specs.Words.{plain_left, words_left, first_word, are_two, PlainIs, Skips, ComparedIs};
@@ -13,14 +14,14 @@ use text_reader::{Reader, line, line_at, line_number, past, place, reader_at, us
 use text_tokens::copy_word;
 
 // The next byte of a line with no escape before it, and the spot after it.
-#[derive(Drop)]
+#[derive(Clone, Copy)]
 pub enum Plain {
     Byte(u8, Spot),
     End,
 }
 
 // Whether a run is a given one; the spot after it where it is.
-#[derive(Drop)]
+#[derive(Clone, Copy)]
 pub enum Compared {
     Same(Spot),
     Other,
@@ -152,7 +153,7 @@ fn words_are(src: &[u8], g: Signs, p: Spot, a: &[u8], b: &[u8]) -> bool
 }
 
 // What a line is in an unused branch, by its first word.
-#[derive(Drop)]
+#[derive(Clone, Copy)]
 pub enum Kind {
     // it opens an inner chain
     Opens,
@@ -164,7 +165,7 @@ pub enum Kind {
 }
 
 // What a line of an unused branch does.
-#[derive(Drop)]
+#[derive(Clone, Copy)]
 pub enum Turn {
     // it is passed over, with so many chains open after it
     On(usize),
@@ -175,7 +176,7 @@ pub enum Turn {
 }
 
 // Stop: the place and the number of the line that is to be read next. Refused: why, and at which line.
-#[derive(Drop)]
+#[derive(Clone, Copy)]
 pub enum Skip {
     Stop(usize, usize),
     Refused(Refusal, usize),
@@ -240,7 +241,7 @@ fn branch_turn(src: &[u8], g: Signs, at: usize, depth: usize, total: usize) -> T
 
 // How far an unused branch is read. As in every state of a loop that holds a reader (crates/text_reader), the first three fields are whether the
 // loop is over, and the place and the number of the line that comes next.
-#[derive(Drop)]
+#[derive(Clone, Copy)]
 struct Branch {
     over: bool,
     next: usize,

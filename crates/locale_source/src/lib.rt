@@ -1,4 +1,5 @@
 // All lines of a locale source: those before LC_COLLATE, its own, and those after it.
+#![tactic(auto)]
 ghost use Rattle.text_specials.specs.Signed.{Visible};
 ghost use Rattle.locale_outside.specs.Outside.{signs_of};
 ghost use Rattle.locale_skips.specs.Passing.{Begins};
@@ -13,7 +14,7 @@ use text_lines::Signs;
 use text_specials::{Chars, start};
 
 // What the lines of a source leave beside the work area: the two characters in LC_COLLATE, and the sheet at its end; or a refusal, and its line.
-#[derive(Drop)]
+#[derive(Clone, Copy)]
 pub enum Source {
     Lines(Signs, Sheet),
     Refused(Refusal, usize),

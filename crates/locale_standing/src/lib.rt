@@ -1,4 +1,5 @@
 // The operands of an order line: whether what they name stands (a character, or a declared name), their refusal, and how many there are.
+#![tactic(auto)]
 ghost use Rattle.std.specs.Prelude.{◌≡◌, true, false, [], ◌≤◌, length};
 ghost use Rattle.rules.specs.Lines.{in_plain, quoted};
 ghost use Rattle.rules.specs.Tokens.{operands};
@@ -20,7 +21,7 @@ use text_tokens::{Closing, NAME, QUOTE, Tok, WORD, end_of_name, lower_of, word_i
 use work_store::{Found, find};
 
 // The refusal of the next operand, and the spot after its `;`; or the refusal of the last one. Bad: the operands are malformed.
-#[derive(Drop)]
+#[derive(Clone, Copy)]
 pub enum Turn {
     More(u8, Spot),
     Last(u8),
@@ -28,7 +29,7 @@ pub enum Turn {
 }
 
 // The lowest refusal of an order line's operands, and how many there are; of those that are malformed the number says nothing.
-#[derive(Drop)]
+#[derive(Clone, Copy)]
 pub struct Counted {
     pub refusal: u8,
     pub operands: usize,

@@ -1,4 +1,5 @@
 // The line `collating-symbol <name>`, from the spot after its first word on: its name, whether that is new, and its declaration.
+#![tactic(auto)]
 ghost use Rattle.std.specs.Prelude.{◌≡◌, true, false, ◌≤◌, length};
 ghost use Rattle.rules.specs.Lines.{in_plain};
 ghost use Rattle.rules.specs.Tokens.{operands};
@@ -16,14 +17,14 @@ use text_tokens::{NAME, lower_of};
 use work_store::{Found, declare, find};
 
 // The first operand: a name, with the spot after its `<` and the spot after its `>`; or anything else.
-#[derive(Drop)]
+#[derive(Clone, Copy)]
 pub enum Head {
     Name(Spot, Spot),
     Other,
 }
 
 // What a line declares: the mark of its name; or its refusal.
-#[derive(Drop)]
+#[derive(Clone, Copy)]
 pub enum Symbol {
     Declared(usize),
     Refused(u8),

@@ -1,4 +1,5 @@
 // The operand of `define T`, `undef T`, `ifdef T`, `ifndef T` and `elif T`: the toggle T is looked up, and kept from then on.
+#![tactic(auto)]
 ghost use Rattle.std.specs.Prelude.{◌≡◌};
 ghost use Rattle.rules.specs.Tokens.{operands};
 ghost use Rattle.text_tokens.specs.Left.{tokens_left};
@@ -9,7 +10,7 @@ use text_operands::{One, single_word};
 use work_toggles::{is_on, toggle_refusal, turn};
 
 // What a line does to the toggle that it names: define turns it on, undef off, and a test keeps it.
-#[derive(Drop)]
+#[derive(Clone, Copy)]
 pub enum Set {
     On,
     Off,
@@ -17,7 +18,7 @@ pub enum Set {
 }
 
 // Named: whether the toggle was defined before the line, and how many toggles there are after it. Refused: the refusal of the operand.
-#[derive(Drop)]
+#[derive(Clone, Copy)]
 pub enum Toggled {
     Named(bool, usize),
     Refused(u8),

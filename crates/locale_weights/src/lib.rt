@@ -1,4 +1,5 @@
 // The operands of an order line: what stands between `;` and `;`, read one by one from a spot on with nothing kept.
+#![tactic(auto)]
 ghost use Rattle.std.specs.Prelude.{◌≡◌, ◌≤◌, length};
 ghost use Rattle.rules.specs.Lines.{in_plain};
 ghost use Rattle.locale_weights.specs.Weights.{TailIs, WeightIs};
@@ -9,7 +10,7 @@ use text_tokens::{Closing, SEMI, Tok, end_of_name, named, plain_at};
 
 // The next operand: whether a `;` follows it, and the spot after that. One: the spot where its one token begins, and the token. Bad: the
 // operands still to come are malformed, whatever their names stand for.
-#[derive(Drop)]
+#[derive(Clone, Copy)]
 pub enum Weight {
     Empty(bool, Spot),
     One(Spot, Tok, bool, Spot),
@@ -17,7 +18,7 @@ pub enum Weight {
 }
 
 // What follows the token of an operand: a `;`, with the spot after it; nothing; or what makes the operands malformed.
-#[derive(Drop)]
+#[derive(Clone, Copy)]
 pub enum Tail {
     More(Spot),
     Last,

@@ -1,5 +1,6 @@
 // The public step and comparison. A comparison goes level after level, then by code points; it cuts the strings into elements as far as
 // the first level takes it, where that is walked forward.
+#![tactic(auto)]
 ghost use Rattle.std.specs.Prelude.{◌≡◌, [], ◌∷◌, ◌*◌, ◌≤◌, length};
 ghost use Rattle.rules.specs.Order.{sign_ℕ, codes, answer_from, compare_of};
 ghost use Rattle.rules.specs.Table.{meaning_in};
@@ -15,7 +16,7 @@ use order_elements::{Alike, First};
 use order_entries::Seen;
 
 // How two strings stand to each other, the level that decides, from 1, or 0 where they are equal, and how many entries agreed.
-#[derive(Drop)]
+#[derive(Clone, Copy)]
 pub struct Answer {
     pub sign: Sign,
     pub level: usize,
@@ -23,14 +24,14 @@ pub struct Answer {
 }
 
 // What a comparison gives.
-#[derive(Drop)]
+#[derive(Clone, Copy)]
 pub enum Comparison {
     Decided(Answer),
     Refused(Refusal),
 }
 
 // What a step gives: an item's place in the table, from 1, and how many characters it takes.
-#[derive(Drop)]
+#[derive(Clone, Copy)]
 pub enum Stepping {
     At(usize, usize),
     Refused(Refusal),

@@ -1,4 +1,5 @@
 // The directory of an A to Z page: which heading each topic belongs to, by the first weights that their strings have at level 1.
+#![tactic(auto)]
 ghost use Rattle.std.specs.Prelude.{◌≡◌, true, ◌&&◌, map, ◌≤◌, ◌<◌, length};
 ghost use Rattle.rules.specs.Text.{every};
 ghost use Rattle.rules.specs.Table.{accepted, meaning_in};
@@ -12,14 +13,14 @@ use base_units::Refusal;
 use order_elements::Leading;
 
 // Whether the list was written, or why it was not.
-#[derive(Drop)]
+#[derive(Clone, Copy)]
 pub enum Directed {
     Done,
     Refused(Refusal),
 }
 
 // A part of the run: where it begins, and how many characters it has.
-#[derive(Drop)]
+#[derive(Clone, Copy)]
 struct Part {
     pub start: usize,
     pub size: usize,

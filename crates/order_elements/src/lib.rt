@@ -1,4 +1,5 @@
 // The elements of a string: cut all at once, or only as far as the first level takes it.
+#![tactic(auto)]
 ghost use Rattle.std.specs.Prelude.{◌≡◌, true, false, ◌+◌, ◌≤◌, ◌<◌, length, take, drop};
 ghost use Rattle.rules.specs.Text.{every};
 ghost use Rattle.rules.specs.Names.{is_character};
@@ -14,7 +15,7 @@ use order_find::Found;
 
 // Where a walk over the first level stands: up to a place of the string so many elements are cut; where the weights begin of the last of
 // them that are still to come, and how many; and the elements without a weight since the last that had one.
-#[derive(Drop)]
+#[derive(Clone, Copy)]
 struct Walk {
     pub at: usize,
     pub many: usize,
@@ -24,14 +25,14 @@ struct Walk {
 }
 
 // The next entry and where the walk stands after it; or how many elements the string has.
-#[derive(Drop)]
+#[derive(Clone, Copy)]
 enum Ahead {
     One(Entry, Walk),
     End(usize),
 }
 
 // What the next entries of two walks decide.
-#[derive(Drop)]
+#[derive(Clone, Copy)]
 enum Meeting {
     // the first string comes first
     Before,
@@ -45,7 +46,7 @@ enum Meeting {
 
 // What two strings have in common from two places on: so many characters, cut into so many elements; behind them, how many entries have
 // agreed, and the elements without a weight since the last that had one.
-#[derive(Drop)]
+#[derive(Clone, Copy)]
 struct Common {
     pub size: usize,
     pub many: usize,
@@ -54,7 +55,7 @@ struct Common {
 }
 
 // Two walks, and how many entries have agreed.
-#[derive(Drop)]
+#[derive(Clone, Copy)]
 struct Pair {
     pub x: Walk,
     pub y: Walk,
@@ -62,7 +63,7 @@ struct Pair {
 }
 
 // Two strings whose first levels are alike: how many entries agree, and how many elements each string has.
-#[derive(Drop)]
+#[derive(Clone, Copy)]
 pub struct Alike {
     pub agreed: usize,
     pub first: usize,
@@ -70,7 +71,7 @@ pub struct Alike {
 }
 
 // How the first level of two strings compares.
-#[derive(Drop)]
+#[derive(Clone, Copy)]
 pub enum First {
     // the first string comes first, so many entries having agreed
     Before(usize),
@@ -81,7 +82,7 @@ pub enum First {
 }
 
 // The first weight that a string has at the first level, or nothing.
-#[derive(Drop)]
+#[derive(Clone, Copy)]
 pub enum Leading {
     At(Rank),
     Nothing,

@@ -1,4 +1,5 @@
 // The entries of a level, one after the other in the direction of its rule, and the comparison of two such lists.
+#![tactic(auto)]
 ghost use Rattle.std.specs.Prelude.{◌≡◌, cond, true, min, ◌≤◌, ◌<◌, length, get_or};
 ghost use Rattle.rules.specs.Order.{sign_entry};
 ghost use Rattle.base_units.specs.Numbers.{sign_of};
@@ -9,7 +10,7 @@ use base_units::{Rank, Sign};
 use table_layout::Rule;
 
 // How many elements without a weight stood before it, 0 without position; and its weight.
-#[derive(Drop)]
+#[derive(Clone, Copy)]
 pub struct Entry {
     pub count: usize,
     pub rank: Rank,
@@ -17,7 +18,7 @@ pub struct Entry {
 
 // Where a walk stands: so many elements passed; where the weights begin of the last of them that are still to come, and how
 // many; and the elements without a weight since the last that had one.
-#[derive(Drop)]
+#[derive(Clone, Copy)]
 pub struct Cursor {
     pub passed: usize,
     pub from: usize,
@@ -26,14 +27,14 @@ pub struct Cursor {
 }
 
 // The next entry and where the walk stands after it, or nothing.
-#[derive(Drop)]
+#[derive(Clone, Copy)]
 pub enum Ahead {
     One(Entry, Cursor),
     End,
 }
 
 // Two walks over a level, and how many entries both have passed as equal.
-#[derive(Drop)]
+#[derive(Clone, Copy)]
 struct Walks {
     pub x: Cursor,
     pub y: Cursor,
@@ -41,7 +42,7 @@ struct Walks {
 }
 
 // How two lists of entries compare, and how many entries they begin with alike.
-#[derive(Drop)]
+#[derive(Clone, Copy)]
 pub struct Seen {
     pub sign: Sign,
     pub agreed: usize,

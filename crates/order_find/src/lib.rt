@@ -5,6 +5,7 @@
 // character's bucket is that character alone, it is the element whatever follows. Else halving finds the first listed item of the bucket that
 // does not come before the next four characters. It is the element if the string begins with all of it; else no item that stands there is longer
 // than what the two share, and the search goes on for that beginning. Most places need no search, none more than four.
+#![tactic(auto)]
 ghost use Rattle.std.specs.Prelude.{◌≡◌, true, [], ◌+◌, ◌≤◌, ◌<◌, length, get_or, take, drop};
 ghost use Rattle.rules.specs.Text.{every};
 ghost use Rattle.rules.specs.Names.{is_character};
@@ -17,14 +18,14 @@ ghost use Rattle.order_find.specs.Search.{numbers_of, key_in, Least, Shares, Win
 use table_layout::{Shape, bucket_in, characters, item_at, items, start_in};
 
 // An element: its item's place in the table, from 1, and how many characters it takes.
-#[derive(Drop)]
+#[derive(Clone, Copy)]
 pub struct Found {
     pub place: usize,
     pub size: usize,
 }
 
 // Four numbers to look for: characters, then padding.
-#[derive(Drop)]
+#[derive(Clone, Copy)]
 struct Key {
     pub a: u32,
     pub b: u32,
@@ -33,7 +34,7 @@ struct Key {
 }
 
 // What one search comes to.
-#[derive(Drop)]
+#[derive(Clone, Copy)]
 enum Near {
     // the element
     Element(Found),

@@ -1,6 +1,7 @@
 // The key builder: it counts the bytes of a string's key, and writes them where the room lent has place for them all. No list of the string's
 // elements is kept: the string is cut again for each level. A level that is walked backward is written from its end towards its beginning, since the
 // string is cut from its beginning on, where elements are matched.
+#![tactic(auto)]
 ghost use Rattle.std.specs.Prelude.{◌≡◌, true, [], ◌+◌, ◌*◌, ◌≤◌, ◌<◌, length};
 ghost use Rattle.base_lists.proofs.Runs.{run};
 ghost use Rattle.rules.specs.Meaning.{count_all};
@@ -16,14 +17,14 @@ use base_units::{CodePoint, Rank, Refusal};
 use table_layout::{Rule, Run, Shape};
 
 // How many bytes were written, or why none was.
-#[derive(Drop)]
+#[derive(Clone, Copy)]
 pub enum Keyed {
     Written(usize),
     Refused(Refusal),
 }
 
 // An element of the string: where its weights at a level stand in the table, and how many characters it takes.
-#[derive(Drop)]
+#[derive(Clone, Copy)]
 struct Piece {
     pub weights: Run,
     pub size: usize,

@@ -1,5 +1,6 @@
 // The report of the pairs program, from its input as it arrives in pieces: of each text the first 4,097 bytes are kept, which decide it, and
 // a pair is printed when its second text ends.
+#![tactic(auto)]
 ghost use Rattle.std.specs.Prelude.{◌≡◌, true, [], ◌+◌, ◌≤◌, ◌<◌, length, take};
 ghost use Rattle.rules.specs.Text.{granted};
 ghost use Rattle.rules.specs.Table.{accepted, meaning_in};
@@ -14,7 +15,7 @@ use order_compare::Comparison;
 use pairs_printing::{put_compared, put_refused, put_text};
 
 // How far a piece is taken, and how many bytes are kept of the text that is open.
-#[derive(Drop)]
+#[derive(Clone, Copy)]
 pub struct Run {
     pub at: usize,
     pub len: usize,
@@ -22,7 +23,7 @@ pub struct Run {
 
 // Where a report stands: the place in the piece, how much of the output's room is used, how many texts have ended, and how many bytes are
 // kept of the last of them and of the one that is open.
-#[derive(Drop)]
+#[derive(Clone, Copy)]
 pub struct Fed {
     pub at: usize,
     pub used: usize,

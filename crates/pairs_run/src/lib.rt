@@ -1,5 +1,6 @@
 // A run of the pairs program: its two files, by name, then its input, from a descriptor. What is decided on slices is proved to be the paper's
 // (`open_files`, and `feed` and `finish` of report); the others read and write.
+#![tactic(auto)]
 ghost use Rattle.std.specs.Prelude.{◌≡◌, true, ◌≤◌, length};
 ghost use Rattle.rules.specs.Table.{accepted};
 ghost use Rattle.io.specs.Counts.{IsPrefixLen};
@@ -14,7 +15,7 @@ use pairs_printing::{put_file, put_text};
 use pairs_report::{Fed, feed, finish};
 
 // What was printed of the two files, and whether the input is read then.
-#[derive(Drop)]
+#[derive(Clone, Copy)]
 pub enum Opened {
     Closed(usize),
     Reading(usize),

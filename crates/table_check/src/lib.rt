@@ -1,4 +1,5 @@
 // The check of a table: straight passes over its parts, before any operation reads them. docs/TABLE.md has the layout.
+#![tactic(auto)]
 ghost use Rattle.std.specs.Prelude.{◌≡◌, ◌+◌, ◌-◌, ◌*◌, ◌/◌, ◌%◌, ◌<◌, ◌≤◌, not, ◌&&◌, ◌||◌, length, take, drop, ◌==◌, slice_index, slice_range};
 ghost use Rattle.rules.specs.Text.{within, every};
 ghost use Rattle.rules.specs.Names.{is_character};
@@ -13,14 +14,14 @@ ghost use Rattle.table_check.specs.Answers.{checked_as};
 use base_units::{Refusal, wide};
 
 // How large an accepted table is.
-#[derive(Drop)]
+#[derive(Clone, Copy)]
 pub struct Shape {
     pub levels: usize,
     pub items: usize,
     pub size: usize,
 }
 
-#[derive(Drop)]
+#[derive(Clone, Copy)]
 pub enum Verdict {
     Accepted(Shape),
     Refused(Refusal),

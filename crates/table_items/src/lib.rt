@@ -1,4 +1,5 @@
 // The items that the order lines give: which lines give one; how many there are, and their weights; and all of them written into a table's area.
+#![tactic(auto)]
 ghost use Rattle.std.specs.Prelude.{◌≡◌, ◌&&◌, length, ◌+◌, ◌*◌, ◌/◌, ◌≤◌};
 ghost use Rattle.rules.specs.Text.{if◌then◌else◌, lower};
 ghost use Rattle.work_rows.specs.Cells.{cell};
@@ -17,7 +18,7 @@ use work_store::undefined_mark;
 
 // What the order lines give: how many items and weights there are; or, of the lines with a weight that has no rank, the number of the one that was
 // written first.
-#[derive(Drop)]
+#[derive(Clone, Copy)]
 pub enum Sums {
     Whole(usize, usize),
     Unranked(usize),

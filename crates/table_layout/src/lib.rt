@@ -1,4 +1,5 @@
 // The layout of a table (docs/TABLE.md): where each part stands, and the readers of an accepted table. Offsets and strides are known here alone.
+#![tactic(auto)]
 ghost use Rattle.std.specs.Prelude.{◌≡◌, true, [], ◌∷◌, ◌+◌, ◌*◌, ◌/◌, ◌≤◌, ◌<◌, length, get_or, drop};
 ghost use Rattle.rules.specs.Table.{mask, bucket, accepted, meaning_in};
 ghost use Rattle.rules.specs.Order.{weights_at};
@@ -9,21 +10,21 @@ ghost use Rattle.table_layout.specs.Parts.{chars_part, start_for, Indexed, Lists
 use base_units::Rank;
 
 // How the entries of a level are walked.
-#[derive(Drop)]
+#[derive(Clone, Copy)]
 pub struct Rule {
     pub backward: bool,
     pub position: bool,
 }
 
 // Numbers that stand in a table, from a place on.
-#[derive(Drop)]
+#[derive(Clone, Copy)]
 pub struct Run {
     pub from: usize,
     pub count: usize,
 }
 
 // What every walk over a string asks of a table: how many levels and items it has, and where their characters and their weights begin.
-#[derive(Drop)]
+#[derive(Clone, Copy)]
 pub struct Shape {
     pub levels: usize,
     pub items: usize,
@@ -223,7 +224,7 @@ pub fn weight(t: &[u32], at: usize) -> Rank
 }
 
 // An item that the listing lists: its place in the table, from 1, and where its four numbers begin.
-#[derive(Drop)]
+#[derive(Clone, Copy)]
 pub struct Listed {
     pub place: usize,
     pub from: usize,

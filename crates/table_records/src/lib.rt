@@ -1,4 +1,5 @@
 // One item of a table, written from its order line: its characters, where its weights end at each level, and the weights, read again from the source.
+#![tactic(auto)]
 ghost use Rattle.std.specs.Prelude.{◌≡◌, [], ◌∷◌, ◌+◌, ◌-◌, ◌*◌, ◌/◌, ◌%◌, ◌≤◌, ◌<◌, length};
 ghost use Rattle.std.proofs.lemmas.List.Edits.{sets};
 ghost use Rattle.rules.specs.Lines.{quoted};
@@ -17,7 +18,7 @@ use work_store::undefined_mark;
 use work_subjects::{NextChar, next_char};
 
 // The next of an item's characters, 110000 hex where none is left, and the spot after it.
-#[derive(Drop)]
+#[derive(Clone, Copy)]
 struct Coded {
     code: CodePoint,
     next: Spot,

@@ -1,4 +1,5 @@
 // The weights of an order line, read again from the source as ranks: how many there are, and whether each has one.
+#![tactic(auto)]
 ghost use Rattle.std.specs.Prelude.{◌≡◌, true, ◌&&◌, ◌≤◌, length};
 ghost use Rattle.rules.specs.Lines.{quoted};
 ghost use Rattle.text_tokens.specs.Left.{is_inside};
@@ -19,7 +20,7 @@ use work_store::{Found, find};
 use work_subjects::after_name;
 
 // The rank of the next name in quotes, with the spot after that.
-#[derive(Drop)]
+#[derive(Clone, Copy)]
 pub enum NextRank {
     One(Rank, Spot),
     End,
@@ -27,7 +28,7 @@ pub enum NextRank {
 
 // What an operand gives at its level: the line itself, where it is empty; nothing; the name inside which the spot is; the names in quotes from
 // the spot on.
-#[derive(Drop)]
+#[derive(Clone, Copy)]
 pub enum Part {
     Own,
     None,
@@ -36,21 +37,21 @@ pub enum Part {
 }
 
 // Where the reading of the operands stands: whether there are more, and from which spot on.
-#[derive(Drop)]
+#[derive(Clone, Copy)]
 pub struct Cursor {
     pub more: bool,
     pub at: Spot,
 }
 
 // What the operand of a level gives, and where the next one begins.
-#[derive(Drop)]
+#[derive(Clone, Copy)]
 pub struct Turn {
     pub part: Part,
     pub next: Cursor,
 }
 
 // How many weights there are, and whether each has a rank.
-#[derive(Drop)]
+#[derive(Clone, Copy)]
 pub struct Measured {
     pub weights: usize,
     pub ranked: bool,

@@ -1,4 +1,6 @@
 // Lines of a source, read from a place on with nothing kept: their marks and their ends. For both readers of sources.
+#![tactic(auto)]
+
 ghost use Rattle.std.specs.Prelude.{◌≡◌, true, ◌&&◌, ◌+◌, ◌≤◌, ◌<◌, length, eqb};
 ghost use Rattle.rules.specs.Names.{is_blank};
 ghost use Rattle.rules.specs.Tokens.{is_text};
@@ -22,14 +24,14 @@ pub const QUOTED_NAME: u8 = 3;
 pub const IN_COMMENT: u8 = 4;
 
 // The comment and the escape character in force.
-#[derive(Drop)]
+#[derive(Clone, Copy)]
 pub struct Signs {
     pub comment: u8,
     pub escape: u8,
 }
 
 // A place in the middle of a line: between two marks, in one of the modes above, at the line's first byte or after a blank.
-#[derive(Drop)]
+#[derive(Clone, Copy)]
 pub struct Spot {
     pub at: usize,
     pub mode: u8,
@@ -37,7 +39,7 @@ pub struct Spot {
 }
 
 // What stands next in a line, with the spot after it.
-#[derive(Drop)]
+#[derive(Clone, Copy)]
 pub enum Item {
     Mark(u16, Spot),
     // an escape and LF
@@ -49,14 +51,14 @@ pub enum Item {
 }
 
 // The next mark of a line, with the spot after it.
-#[derive(Drop)]
+#[derive(Clone, Copy)]
 pub enum Step {
     Mark(u16, Spot),
     End,
 }
 
 // Where a line ends, how many LFs it has, and whether it holds only text outside comments.
-#[derive(Drop)]
+#[derive(Clone, Copy)]
 pub struct LineEnd {
     pub next: usize,
     pub feeds: usize,

@@ -1,4 +1,5 @@
 // Names in a source, each from the spot right after its `<`: beside other bytes, as a character by its code, as a hash, packed into eight numbers.
+#![tactic(auto)]
 ghost use Rattle.std.specs.Prelude.{◌≡◌, true, ◌+◌, ◌*◌, ◌%◌, ◌^◌, ◌≤◌, ◌<◌, length, drop, replicate};
 ghost use Rattle.rules.specs.Text.{same};
 ghost use Rattle.text_tokens.specs.Left.{is_inside};
@@ -11,21 +12,21 @@ use text_lines::{IN_NAME, QUOTED_NAME, Signs, Spot, Step, next_mark};
 use text_tokens::{NameStep, is_visible, name_byte};
 
 // The code of a name that is shaped as a character; it may be no character.
-#[derive(Drop)]
+#[derive(Clone, Copy)]
 pub enum Code {
     Char(CodePoint),
     Other,
 }
 
 // The next name in quotes: the spot right after its `<`, or that there is none.
-#[derive(Drop)]
+#[derive(Clone, Copy)]
 pub enum Named {
     Name(Spot),
     Close,
 }
 
 // What a name's bytes make: its hash, and whether it can be declared.
-#[derive(Drop)]
+#[derive(Clone, Copy)]
 pub struct Pack {
     pub hash: usize,
     pub plain: bool,

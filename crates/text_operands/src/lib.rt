@@ -1,4 +1,5 @@
 // What follows a line's first token: its operands, read from a spot on with nothing kept.
+#![tactic(auto)]
 ghost use Rattle.std.specs.Prelude.{◌≡◌, true, false, ◌≤◌, length, eqb};
 ghost use Rattle.rules.specs.Lines.{in_plain};
 ghost use Rattle.rules.specs.Tokens.{operands, tokens_refusal};
@@ -10,7 +11,7 @@ use text_lines::{Signs, Spot, Step, next_mark};
 use text_tokens::{BROKEN, Next, Tok, WORD, lower_of, next_token, plain_at, skip_gaps};
 
 // The next operand: the spot where it begins, and its token. Broken: the operands still to come hold one that is malformed.
-#[derive(Drop)]
+#[derive(Clone, Copy)]
 pub enum Operand {
     Token(Spot, Tok),
     Broken,
@@ -18,7 +19,7 @@ pub enum Operand {
 }
 
 // What follows the first token: operands, from a spot after blanks; one that is malformed, where no blank stands before the first; or nothing.
-#[derive(Drop)]
+#[derive(Clone, Copy)]
 pub enum After {
     Operands(Spot),
     Broken,
@@ -26,7 +27,7 @@ pub enum After {
 }
 
 // One operand that is a word, with the spot where it begins; or anything else.
-#[derive(Drop)]
+#[derive(Clone, Copy)]
 pub enum One {
     Word(Spot),
     Other,

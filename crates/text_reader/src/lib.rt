@@ -1,12 +1,13 @@
 // A reader of lines: the source that it was lent and the place that it has reached, and thin functions over it. What there is to do is done by
 // functions over a slice and a place.
+#![tactic(auto)]
 ghost use Rattle.std.specs.Prelude.{◌≡◌, ◌+◌, ◌^◌, ◌≤◌, ◌<◌, length, leb};
 ghost use Rattle.text_lines.specs.Stream.{line_start, LineIs};
 
 use text_lines::{IN_PLAIN, LineEnd, Signs, Spot, line_end};
 
 // The source, the place in it where the present line begins, and the number of that line.
-#[derive(Drop)]
+#[derive(Clone, Copy)]
 pub struct Reader<'a> {
     pub src: &'a [u8],
     pub at: usize,

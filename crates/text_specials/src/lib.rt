@@ -1,4 +1,5 @@
 // The comment and the escape character: which bytes may be one, the two in force, and a line that sets one, whose c is taken as it stands.
+#![tactic(auto)]
 ghost use Rattle.std.specs.Prelude.{◌≡◌, ◌||◌, ◌≤◌, length};
 ghost use Rattle.rules.specs.Text.{within, ◌unless◌};
 ghost use Rattle.rules.specs.Lines.{is_sign, defaults, sign_refusal, sign_set};
@@ -11,7 +12,7 @@ use text_lines::{IN_PLAIN, Signs, Spot, Step, is_blank, line_end, next_mark};
 use text_tokens::{end_of_word, skip_gaps, word_is};
 
 // The two characters in force, and which of the two lines has stood.
-#[derive(Drop)]
+#[derive(Clone, Copy)]
 pub struct Chars {
     pub comment: u8,
     pub escape: u8,
@@ -143,21 +144,21 @@ pub fn with_set(h: Chars, comment: bool, c: u8) -> Chars
 
 // Plain: no byte is taken as it stands. Taken: the line is comment_char's (true) or escape_char's, the byte, how many LFs stand before it, and
 // the spot after it.
-#[derive(Drop)]
+#[derive(Clone, Copy)]
 pub enum Sign {
     Plain,
     Taken(bool, u8, usize, Spot),
 }
 
 // The first byte after blanks and its place, or that the line ends before one.
-#[derive(Drop)]
+#[derive(Clone, Copy)]
 pub enum Found {
     Byte(u8, usize),
     Nothing,
 }
 
 // Which keyword a word is.
-#[derive(Drop)]
+#[derive(Clone, Copy)]
 pub enum Keyword {
     Comment,
     Escape,

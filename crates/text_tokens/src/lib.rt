@@ -1,4 +1,5 @@
 // The tokens of a line, read from a spot on with nothing kept.
+#![tactic(auto)]
 ghost use Rattle.std.specs.Prelude.{◌≡◌, true, ◌&&◌, ◌≤◌, length, leb};
 ghost use Rattle.rules.specs.Text.{◌unless◌, lower, same};
 ghost use Rattle.rules.specs.Names.{is_visible};
@@ -31,14 +32,14 @@ pub const NAME: u8 = 5;
 pub const QUOTE: u8 = 6;
 
 // The next byte of a word, with the spot after it.
-#[derive(Drop)]
+#[derive(Clone, Copy)]
 pub enum WordStep {
     Byte(u8, Spot),
     End,
 }
 
 // The next byte of a name after escapes and joins, or its `>`, with the spot after it; or a name that the line leaves open.
-#[derive(Drop)]
+#[derive(Clone, Copy)]
 pub enum NameStep {
     Byte(u8, Spot),
     Close(Spot),
@@ -46,21 +47,21 @@ pub enum NameStep {
 }
 
 // The end of a name: its refusal and the spot after its `>`, or a name that the line leaves open.
-#[derive(Drop)]
+#[derive(Clone, Copy)]
 pub enum Closing {
     Closed(u8, Spot),
     Open,
 }
 
 // The end of quotes: how many names they hold, the lowest refusal of those, and the spot after them; or what is malformed.
-#[derive(Drop)]
+#[derive(Clone, Copy)]
 pub enum Quotes {
     Closed(usize, u8, Spot),
     Broken,
 }
 
 // A token: its kind, the spot after it, the spot after its first mark, how many names it has, its refusal, and of an escape pair the byte.
-#[derive(Drop)]
+#[derive(Clone, Copy)]
 pub struct Tok {
     pub kind: u8,
     pub next: Spot,
@@ -71,7 +72,7 @@ pub struct Tok {
 }
 
 // The next token of a line. Broken: the tokens still to come hold one that is malformed.
-#[derive(Drop)]
+#[derive(Clone, Copy)]
 pub enum Next {
     Token(Tok),
     Broken,

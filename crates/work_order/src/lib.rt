@@ -1,5 +1,6 @@
 // The used order lines in their order: a list linked through the rows of the work area, so that a line can be put between two others: each line
 // is linked to the next one, and, until ranks are given, back to the one before.
+#![tactic(auto)]
 ghost use Rattle.std.specs.Prelude.{◌≡◌, ◌<◌, eqb};
 ghost use Rattle.rules.specs.Text.{if◌then◌else◌};
 ghost use Rattle.work_order.specs.Links.{Row, Reached, SomeLines, linked_to, numbered, longer, with_line, Among, unlinked, shorter, Between, linked_between, with_line_after, longer_after, Ranks};
@@ -25,7 +26,7 @@ pub const RANK_NUMBER: usize = 4;
 const BACK_NUMBER: usize = 4;
 
 // The marks of the first and the last line, 0 for none, and how many there are.
-#[derive(Drop)]
+#[derive(Clone, Copy)]
 pub struct Order {
     pub first: usize,
     pub last: usize,

@@ -1,4 +1,6 @@
 // The work area as rows of eight numbers: the last five of a row, which tell what is known of the thing declared there, or keep the numbers of a key.
+#![tactic(auto)]
+
 ghost use Rattle.std.specs.Prelude.{◌≡◌, ◌+◌, ◌*◌, ◌/◌, ◌≤◌, ◌<◌, length, set};
 ghost use Rattle.work_rows.specs.Cells.{cell_at, cell};
 

@@ -2,6 +2,7 @@
 // by the bits of what is declared. Of a row, number 0 is its link to the left, number 1 the head of the chain with the row's number, number 2 its link to the
 // right, times 64, with its tag: the kind of what is declared in those bytes, and the last four bits of its mark (Rattle.work_subjects); 3 to 7 are the five numbers of
 // crate work_rows. A head or a link is 0, or one more than a row. The numbers of what is declared are kept in its row, or in the row before. Behind the rows nothing is touched.
+#![tactic(auto)]
 ghost use Rattle.std.specs.Prelude.{◌≡◌, ◌+◌, ◌-◌, ◌*◌, ◌/◌, ◌%◌, ◌^◌, ◌≤◌, ◌<◌, ◌&&◌, length, get_or, set, replicate, eqb};
 ghost use Rattle.work_subjects.specs.Keys.{key_at};
 ghost use Rattle.work_subjects.specs.Numbers.{width_of};
@@ -12,7 +13,7 @@ use text_lines::Signs;
 use work_subjects::{CHARACTER, NAMED, key_numbers};
 
 // The mark of what is found.
-#[derive(Drop)]
+#[derive(Clone, Copy)]
 pub enum Found {
     At(usize),
     Nothing,

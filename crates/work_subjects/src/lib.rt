@@ -1,4 +1,5 @@
 // What stands at a mark of the source: a name's subject, or the characters of quotes; and the numbers that tell it from all others of its kind.
+#![tactic(auto)]
 ghost use Rattle.std.specs.Prelude.{◌≡◌, true, ◌/◌, ◌≤◌, ◌<◌, length, replicate};
 ghost use Rattle.rules.specs.Lines.{quoted};
 ghost use Rattle.rules.specs.State.{character};
@@ -22,14 +23,14 @@ pub const NAMED: u32 = 1;
 const CHARS: u32 = 2;
 
 // The next character in quotes, with the spot after its name.
-#[derive(Drop)]
+#[derive(Clone, Copy)]
 pub enum NextChar {
     Char(CodePoint, Spot),
     End,
 }
 
 // What is told of a key: its hash, its kind, and whether it can be declared.
-#[derive(Drop)]
+#[derive(Clone, Copy)]
 pub struct Told {
     pub hash: usize,
     pub kind: u32,

@@ -2,6 +2,7 @@
 // is twice the place where the word was written last in the source, and one more where the toggle is defined. Behind them stand 16 decisions,
 // which tell by single bytes the one toggle that a word can be: a lookup compares the word with that one's spelling and passes over all others,
 // however long they are spelled.
+#![tactic(auto)]
 ghost use Rattle.std.specs.Prelude.{◌≡◌, [], ◌+◌, ◌/◌, ◌≤◌, ◌<◌, length};
 ghost use Rattle.text_lines.specs.Stream.{line_start};
 ghost use Rattle.rules.specs.Text.{same, one_of};
@@ -14,21 +15,21 @@ use text_specials::between;
 use text_tokens::{WordStep, copy_word, word_byte};
 
 // Which of the toggles is meant, or none.
-#[derive(Drop)]
+#[derive(Clone, Copy)]
 pub enum Place {
     At(usize),
     Nothing,
 }
 
 // Of a toggle's word: whether each byte may stand in one, and whether it is short enough.
-#[derive(Drop)]
+#[derive(Clone, Copy)]
 pub struct Shape {
     pub clean: bool,
     pub short: bool,
 }
 
 // A place where a word differs from another, and its byte there: 0 behind its end.
-#[derive(Drop)]
+#[derive(Clone, Copy)]
 pub struct Parting {
     pub at: usize,
     pub byte: u8,

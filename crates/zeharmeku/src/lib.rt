@@ -1,5 +1,6 @@
 // The C interface: every public operation, over slices and numbers. include/zeharmeku.h says what each means to a caller in C. No function has
 // a `requires`: what the paper says of an operation holds of every call, and an answer array that is too short gets what it has room for.
+#![tactic(auto)]
 ghost use Rattle.std.specs.Prelude.{◌≡◌, [], ◌∷◌, set};
 ghost use Rattle.rules.specs.Calls.{compile_call, check_call, step_call, compare_call, key_call, charmap_call, area_call, decode_call, encode_call, directory_call};
 ghost use Rattle.base_units.specs.Numbers.{number_of, sign_of};
