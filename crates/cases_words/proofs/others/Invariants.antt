@@ -1,0 +1,10 @@
+-- `cases_words::others` reads no number past the end, and ends. The loop's invariant: at most i numbers are counted, and i is at most the length. The measure is how many are left.
+use Prim.Native.Nat.{◌-◌, ◌≤◌}
+use lib.ListN.{length}
+use Rattle.cases_words.proofs.others.Given as goal
+
+abbrev pub invariant-loop-i : goal.invariant-loop-i
+invariant-loop-i l = (l.n ≤ l.i) × (l.i ≤ length l.s)
+
+abbrev pub decreases-loop-i : goal.decreases-loop-i
+decreases-loop-i l = length l.s - l.i

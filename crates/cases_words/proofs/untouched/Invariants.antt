@@ -1,0 +1,10 @@
+-- `cases_words::untouched` reads no byte past the end, and ends. The loop's invariant: i is at most the length. The measure is how many bytes are left.
+use Prim.Native.Nat.{◌-◌, ◌≤◌}
+use lib.ListN.{length}
+use Rattle.cases_words.proofs.untouched.Given as goal
+
+abbrev pub invariant-loop-i : goal.invariant-loop-i
+invariant-loop-i l = l.i ≤ length l.room
+
+abbrev pub decreases-loop-i : goal.decreases-loop-i
+decreases-loop-i l = length l.room - l.i

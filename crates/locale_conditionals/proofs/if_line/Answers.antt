@@ -1,0 +1,21 @@
+-- `locale_conditionals::if_line` meets its contract: a law for each answer.
+use Rattle.locale_conditionals.proofs.StepLaws.{toggled-low, toggled-high, may-name, foul-line, if-opens, if-deep, if-refuses}
+use Rattle.locale_conditionals.proofs.if_line.Goals as goal
+
+pub named_at-t-requires : goal.named_at-t-requires
+named_at-t-requires c = search may-name
+
+pub refusal_with-requires : goal.refusal_with-requires
+refusal_with-requires c = (search toggled-low, search toggled-high)
+
+pub returns-in-Refused : goal.returns-in-Refused
+returns-in-Refused c = search if-refuses
+
+pub returns-then-l-lt8 : goal.returns-then-l-lt8
+returns-then-l-lt8 c = search if-opens
+
+pub returns-then-l : goal.returns-then-l
+returns-then-l c = search if-deep
+
+pub returns-in-Named : goal.returns-in-Named
+returns-in-Named c = search foul-line

@@ -1,0 +1,12 @@
+-- `locale_levels::count_refusal` meets its contract.
+use Rattle.locale_levels.proofs.CountLaws.{count-good, count-many, count-unknown}
+use Rattle.locale_levels.proofs.count_refusal.Goals as goal
+
+pub returns-then-n-le8 : goal.returns-then-n-le8
+returns-then-n-le8 c = search count-good
+
+pub returns-then-known : goal.returns-then-known
+returns-then-known c = search count-many
+
+pub returns : goal.returns
+returns c = search count-unknown

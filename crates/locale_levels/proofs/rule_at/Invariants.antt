@@ -1,0 +1,11 @@
+-- `locale_levels::rule_at` meets its contract. The invariant: what the tokens that are read of the rule come to. The measure is what is left of the source.
+use Prim.Native.Nat.{◌-◌}
+use lib.ListN.{length}
+use Rattle.locale_levels.proofs.RuleLaws.{Begun}
+use Rattle.locale_levels.proofs.rule_at.Given as goal
+
+abbrev pub invariant-loop-r : goal.invariant-loop-r
+invariant-loop-r l = Begun l.g l.src l.initial.q l.q l.held l.s
+
+abbrev pub decreases-loop-r : goal.decreases-loop-r
+decreases-loop-r l = length l.src - l.q.at

@@ -1,0 +1,11 @@
+-- `locale_levels::rules_left` meets its contract. The invariant: so many rules are passed, and whether each is known. The measure is what is left of the source.
+use Prim.Native.Nat.{◌-◌}
+use lib.ListN.{length}
+use Rattle.locale_levels.proofs.CountLaws.{Passed}
+use Rattle.locale_levels.proofs.rules_left.Given as goal
+
+abbrev pub invariant-loop-code : goal.invariant-loop-code
+invariant-loop-code l = Passed l.g l.src l.initial.q l.q l.n l.known
+
+abbrev pub decreases-loop-code : goal.decreases-loop-code
+decreases-loop-code l = length l.src - l.q.at

@@ -1,0 +1,11 @@
+-- `locale_levels::write_left` meets its contract. The invariant: the rules from q on are still to be written, from i on. The measure is what is left of the source.
+use Prim.Native.Nat.{◌-◌}
+use lib.ListN.{length}
+use Rattle.locale_levels.proofs.WriteLaws.{Writing}
+use Rattle.locale_levels.proofs.write_left.Given as goal
+
+abbrev pub invariant-loop-code : goal.invariant-loop-code
+invariant-loop-code l = Writing l.g l.src l.initial.q l.initial.area l.at l.q l.area l.i
+
+abbrev pub decreases-loop-code : goal.decreases-loop-code
+decreases-loop-code l = length l.src - l.q.at

@@ -1,0 +1,28 @@
+-- `locale_levels::write_rules` meets its contract.
+use Rattle.text_operands.proofs.AfterLaws.{after-plain}
+use Rattle.locale_levels.proofs.WriteLaws.{rules-none-inside, rules-none, rules-broken, rules-empty-inside, rules-empty, rules-fit, rules-written}
+use Rattle.locale_levels.proofs.write_rules.Goals as goal
+
+pub bounds-area-at : goal.bounds-area-at
+bounds-area-at c = search rules-none-inside
+
+pub returns-in-None : goal.returns-in-None
+returns-in-None c = search rules-none
+
+pub returns-in-Broken : goal.returns-in-Broken
+returns-in-Broken c = search rules-broken
+
+pub none_left-requires : goal.none_left-requires
+none_left-requires c = after-plain _ _ _ {a = c.after_first-a.result} c.after_first-a.ensures c.in-Operands.is
+
+pub bounds-area-at-then-none_left : goal.bounds-area-at-then-none_left
+bounds-area-at-then-none_left c = search rules-empty-inside
+
+pub returns-then-none_left : goal.returns-then-none_left
+returns-then-none_left c = search rules-empty
+
+pub write_left-requires : goal.write_left-requires
+write_left-requires c = (after-plain _ _ _ {a = c.after_first-a.result} c.after_first-a.ensures c.in-Operands.is, search rules-fit)
+
+pub returns-in-Operands : goal.returns-in-Operands
+returns-in-Operands c = search rules-written

@@ -1,0 +1,17 @@
+-- `locale_order_lines::own_refusal` meets its contract: a law for each way to return.
+use Rattle.locale_order_lines.proofs.FactLaws.{known-sound}
+use Rattle.locale_order_lines.proofs.OwnLaws.{own-unformed, own-three, own-later}
+use borrow.Author.Rules.{rules}
+use Rattle.locale_order_lines.proofs.own_refusal.Goals as goal
+
+pub weights_refusal-c-requires : goal.weights_refusal-c-requires
+weights_refusal-c-requires c = (search rules, search known-sound)
+
+pub returns-then-f-eq3 : goal.returns-then-f-eq3
+returns-then-f-eq3 c = search own-three
+
+pub returns-then-ok : goal.returns-then-ok
+returns-then-ok c = search own-later
+
+pub returns : goal.returns
+returns c = search own-unformed

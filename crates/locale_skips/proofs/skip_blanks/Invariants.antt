@@ -1,0 +1,11 @@
+-- `locale_skips::skip_blanks` meets its contract. The invariant: only blanks are passed. The measure is what is left of the source.
+use Rattle.locale_skips.proofs.RunLaws.{InBlanks}
+use Prim.Native.Nat.{◌-◌}
+use lib.ListN.{length}
+use Rattle.locale_skips.proofs.skip_blanks.Given as goal
+
+abbrev pub invariant-loop-q : goal.invariant-loop-q
+invariant-loop-q l = InBlanks l.g l.src l.initial.q l.q
+
+abbrev pub decreases-loop-q : goal.decreases-loop-q
+decreases-loop-q l = length l.src - l.q.at

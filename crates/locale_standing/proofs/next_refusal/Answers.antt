@@ -1,0 +1,22 @@
+-- `locale_standing::next_refusal` meets its contract: a law for each way to return.
+use Rattle.locale_standing.proofs.TurnLaws.{turn-bad, turn-empty, turn_end, turn-to, turn-token, turn_one, turn_last}
+use borrow.Author.Rules.{rules}
+use Rattle.locale_standing.proofs.next_refusal.Goals as goal
+
+pub returns-in-Bad : goal.returns-in-Bad
+returns-in-Bad c = search turn-bad
+
+pub returns-then-more : goal.returns-then-more
+returns-then-more c = search turn-empty
+
+pub returns-in-Empty : goal.returns-in-Empty
+returns-in-Empty c = search turn_end
+
+pub one_refusal-f-requires : goal.one_refusal-f-requires
+one_refusal-f-requires c = ((search turn-to, search turn-token), search rules)
+
+pub returns-then-more-2 : goal.returns-then-more-2
+returns-then-more-2 c = search turn_one
+
+pub returns-in-One : goal.returns-in-One
+returns-in-One c = search turn_last

@@ -1,0 +1,12 @@
+-- `order_directory::plain` meets its contract: the rule of the first level says so.
+use Rattle.order_directory.proofs.PageLaws.{first-level, backward-first, forward-first}
+use Rattle.order_directory.proofs.plain.Goals as goal
+
+pub rule_of-rule-requires : goal.rule_of-rule-requires
+rule_of-rule-requires c = search first-level
+
+pub returns-then-rule : goal.returns-then-rule
+returns-then-rule c = search backward-first
+
+pub returns : goal.returns
+returns c = search forward-first

@@ -1,0 +1,19 @@
+-- `pairs_report::pair_second` meets its contract: one law for each answer of the decoding.
+use borrow.Author.Rules.{rules}
+use Rattle.pairs_report.proofs.PairLaws.{text-inside, text-length, text-string, second-granted, second-refused}
+use Rattle.pairs_report.proofs.pair_second.Goals as goal
+
+pub returns-in-Refused : goal.returns-in-Refused
+returns-in-Refused c = search second-refused
+
+pub slice_bounds-pair_strings-end : goal.slice_bounds-pair_strings-end
+slice_bounds-pair_strings-end c = search text-inside
+
+pub slice_bounds-pair_strings-end-in-Written : goal.slice_bounds-pair_strings-end-in-Written
+slice_bounds-pair_strings-end-in-Written c = search text-length
+
+pub pair_strings-requires : goal.pair_strings-requires
+pair_strings-requires c = (search rules, search (rules, text-string))
+
+pub returns-in-Written : goal.returns-in-Written
+returns-in-Written c = search second-granted

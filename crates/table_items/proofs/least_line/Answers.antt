@@ -1,0 +1,6 @@
+-- `table_items::least_line` meets its contract.
+use Rattle.table_items.proofs.SumLaws.{least-here}
+use Rattle.table_items.proofs.least_line.Goals as goal
+
+pub returns : goal.returns
+returns c = search least-here

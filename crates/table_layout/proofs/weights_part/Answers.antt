@@ -1,0 +1,7 @@
+-- `table_layout::weights_part` meets its contract: the parts before the weights stay small.
+use native.Mathlib.Omega.{arith}
+use Rattle.table_layout.proofs.LayoutLaws.{ends_at-bound}
+use Rattle.table_layout.proofs.weights_part.Goals as goal
+
+pub overflow_add-result : goal.overflow_add-result
+overflow_add-result c = let a = c.args in omega (arith, c.rules_part.ensures, ends_at-bound a.levels a.items c.requires.0 c.requires.1)

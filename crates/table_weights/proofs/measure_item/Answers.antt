@@ -1,0 +1,16 @@
+-- `table_weights::measure_item` meets its contract: the place and the own rank are those of the row.
+use Rattle.table_weights.proofs.MeasureLaws.{row_inside, row_line, row-measured}
+use borrow.Author.Rules.{rules}
+use Rattle.table_weights.proofs.measure_item.Goals as goal
+
+pub told-requires : goal.told-requires
+told-requires c = search (rules, row_inside)
+
+pub told-requires-2 : goal.told-requires-2
+told-requires-2 c = search (rules, row_inside)
+
+pub measure_line-requires : goal.measure_line-requires
+measure_line-requires c = (search row_line, search rules)
+
+pub returns : goal.returns
+returns c = search row-measured

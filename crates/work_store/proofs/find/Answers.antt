@@ -1,0 +1,13 @@
+-- `work_store::find` meets its contract: the way of the key is followed, if it can be declared.
+use Rattle.work_store.proofs.SeekLaws.{sought-some, sought-found, strange-nowhere}
+use borrow.Author.Rules.{rules}
+use Rattle.work_store.proofs.find.Goals as goal
+
+pub find_from-requires : goal.find_from-requires
+find_from-requires c = (search sought-some, search rules)
+
+pub returns-then-k : goal.returns-then-k
+returns-then-k c = search sought-found
+
+pub returns : goal.returns
+returns c = search strange-nowhere

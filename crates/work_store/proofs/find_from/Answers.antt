@@ -1,0 +1,14 @@
+use Rattle.work_store.proofs.SeekLaws.{seeking-start, seeking-found, seeking-on, seeking-none}
+use Rattle.work_store.proofs.find_from.Goals as goal
+
+pub loop-l-init : goal.loop-l-init
+loop-l-init c = search seeking-start
+
+pub returns-then-same : goal.returns-then-same
+returns-then-same c = search seeking-found
+
+pub loop-l-preserved : goal.loop-l-preserved
+loop-l-preserved c = search seeking-on
+
+pub returns : goal.returns
+returns c = search seeking-none
