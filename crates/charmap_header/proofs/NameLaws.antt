@@ -40,7 +40,7 @@ use Rattle.text_specials.proofs.OpenLaws.{opening-blank}
 use Rattle.text_specials.proofs.TakenLaws.{blanks-drop}
 use Rattle.text_specials.proofs.LineTokenLaws.{gaps, blank-text, keyword-text}
 use Rattle.charmap_header.specs.Head.{signs_of, head_with, plain_marks_at, Plain, PassedOver, Malformed, Opening, NameOpens, Named, SignNamed, SignOpened, SetBy}
-use Rattle.charmap_header.proofs.FirstLaws.{first-token, some}
+use Rattle.charmap_header.proofs.FirstLaws.{first-token}
 use Rattle.charmap_header.proofs.SignLaws.{tokens_of-is, opens_sign, header_signs, header-kind, sign-past, sign-never, header-plain}
 use Rattle.charmap_header.proofs.OutcomeLaws.{outcome-none, outcome-open, outcome-other, line-bare, line-glued, line-blank}
 

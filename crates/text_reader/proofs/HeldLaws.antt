@@ -46,8 +46,8 @@ module _ {D : Type 0} (R : Reading D) {src : List ℕ} {s t : D} {held : List �
         → (held' ≡ b) × (at' ≡ R.next u) × (number' ≡ R.number u) → IsHeld R src s u held'.now at' number'
     held_on {b} {held'} {at'} {number'} lent over e =
         let came : R.Stands src s u (R.next u) (R.number u) =
-            subst (λ (x : List ℕ). R.Stands x s u (R.next u) (R.number u)) h.same
-            (turn.goes over s (subst (λ (x : List ℕ). R.Stands x s t at number) (sym h.same) h.stands)) in
+        subst (λ (x : List ℕ). R.Stands x s u (R.next u) (R.number u)) h.same
+        (turn.goes over s (subst (λ (x : List ℕ). R.Stands x s t at number) (sym h.same) h.stands)) in
         let there : R.Stands src s u at' (R.number u) = subst (λ (k : ℕ). R.Stands src s u k (R.number u)) (sym e.1) came in
         record {
           same = ap (λ (x : Bor (List ℕ)). x.now) e.0 ∙ lent ∙ h.same;
