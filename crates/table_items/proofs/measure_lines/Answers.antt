@@ -7,7 +7,7 @@ pub loop-left-init : goal.loop-left-init
 loop-left-init c = search summing-none
 
 pub measure_item-m-requires : goal.measure_item-m-requires
-measure_item-m-requires c = (search summing-row, search rules)
+measure_item-m-requires c = record { row_ready = search summing-row; sound = search rules }
 
 pub least_line-line-requires : goal.least_line-line-requires
 least_line-line-requires c = search summing-inside

@@ -11,7 +11,7 @@ pub is_item-requires : goal.is_item-requires
 is_item-requires c = search writing-chars
 
 pub write_item-next-requires : goal.write_item-next-requires
-write_item-next-requires c = ((search writing-chars, search item-has, search writing-row), (search rules, search writing-room))
+write_item-next-requires c = record { chars_ready = (search writing-chars, search item-has, search writing-row); sound = search rules; item_room = search writing-room }
 
 pub overflow_add-slot : goal.overflow_add-slot
 overflow_add-slot c = search writing-slot
