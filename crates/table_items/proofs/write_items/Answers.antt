@@ -1,8 +1,8 @@
-use mathlib.Core.Logic.{⊎_elim}
 use Rattle.table_items.proofs.FillLaws.{writing-none, writing-chars, writing-row, writing-inside, writing-room, writing-slot, writing-place, writing-item, writing-other, writing-all}
 use Rattle.table_items.proofs.LineLaws.{item-has}
 use borrow.Author.Rules.{rules}
 use Rattle.table_items.proofs.write_items.Goals as goal
+use Rattle.table_items.proofs.write_items.Goals.{then-is_item, else-is_item}
 
 pub loop-left-init : goal.loop-left-init
 loop-left-init c = search writing-none
@@ -23,7 +23,7 @@ pub told-requires : goal.told-requires
 told-requires c = (search rules, search writing-inside)
 
 pub loop-left-preserved : goal.loop-left-preserved
-loop-left-preserved c = ⊎_elim (λ w. search writing-item) (λ w. search writing-other) c.if-is_item.branch
+loop-left-preserved c = elim c.if-is_item.branch [ then-is_item w ↦ search writing-item | else-is_item w ↦ search writing-other ]
 
 pub returns : goal.returns
 returns c = search writing-all
