@@ -1,8 +1,7 @@
 // What the programs of cases share: words of their lines, and marks of their input.
 #![tactic(auto)]
 
-ghost use Rattle.std.specs.Prelude.{◌≤◌, length};
-ghost use Rattle.io.specs.Counts.{IsPrefixLen};
+ghost use Rattle.std.specs.Prelude.{◌≡◌, ◌≤◌, length, take};
 
 use base_units::Refusal;
 use std::io;
@@ -76,7 +75,7 @@ pub fn untouched(room: &[u8]) -> bool {
 
 // One read, and how many bytes it put in front of the room; none where it fails.
 fn read_some(file: &mut impl Read, room: &mut [u8]) -> usize
-    ensures { IsPrefixLen result room.new }
+    ensures { (result ≤ length room.new) × (result ≡ length (take result room.new)) }
 {
     match file.read(room) {
         Ok(n) => n,
@@ -86,7 +85,7 @@ fn read_some(file: &mut impl Read, room: &mut [u8]) -> usize
 
 // Reads until the room is full, the file ends or a read fails; how many bytes stand in front of the room then.
 pub fn read_full(file: &mut impl Read, room: &mut [u8]) -> usize
-    ensures { IsPrefixLen result room.new }
+    ensures { (result ≤ length room.new) × (result ≡ length (take result room.new)) }
 {
     let mut done = 0;
     while done < room.len() {

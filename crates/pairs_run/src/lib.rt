@@ -2,9 +2,9 @@
 // (`open_files`, and `feed` and `finish` of report); the others read and write.
 #![tactic(auto)]
 
-ghost use Rattle.std.specs.Prelude.{◌≡◌, true, ◌≤◌, length, IfOk};
+ghost use Rattle.std.specs.Prelude.{◌≡◌, true, ◌≤◌, length, take, IfOk};
 ghost use Rattle.rules.specs.Table.{accepted};
-ghost use Rattle.io.specs.Counts.{IsPrefixLen};
+ghost use Rattle.std.specs.Io.{ReadsAtMost};
 ghost use Rattle.pairs_report.specs.Feeding.{Ready};
 ghost use Rattle.pairs_run.specs.Opening.{LocaleIs, CharmapIs, CharmapOpens, FilesOpen};
 ghost use Rattle.pairs_run.specs.Pieces.{Rooms, Consumed, Ended};
@@ -122,7 +122,7 @@ fn consume(
 
 // One read, and how many bytes it put in front of the room; none where it fails.
 fn read_some(input: &mut impl Read, room: &mut [u8]) -> usize
-    ensures { IsPrefixLen result room.new }
+    ensures { (result ≤ length room.new) × (result ≡ length (take result room.new)) }
 {
     match input.read(room) {
         Ok(n) => n,
@@ -270,7 +270,7 @@ fn run_texts(
 
 // Reads until the room is full, the file ends or a read fails. How many bytes stand in front of the room then.
 fn read_full(file: &mut impl Read, room: &mut [u8]) -> usize
-    ensures { IsPrefixLen result room.new }
+    ensures { (result ≤ length room.new) × (result ≡ length (take result room.new)) }
 {
     let mut done = 0;
     while done < room.len() {
@@ -295,7 +295,7 @@ pub fn path_of(name: &[u8]) -> io::Result<&str>
 
 // A file by name, as much of it as the room has place for; one that cannot be opened is empty. Fails where the name is not UTF-8.
 fn load(rt: &impl Files, name: &[u8], room: &mut [u8]) -> io::Result<usize>
-    ensures { IfOk result (λ n. IsPrefixLen n room.new) }
+    ensures { ReadsAtMost result room.new }
 {
     match fs::open(rt, path_of(name)?) {
         Ok(mut file) => Ok(read_full(&mut file, room)),
