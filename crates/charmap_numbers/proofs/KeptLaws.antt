@@ -1,4 +1,5 @@
 -- What the entries of a charmap give stays the 512 numbers of all entries as one byte after the other is given.
+use Rattle.std.specs.Prelude.{if◌then◌else◌}
 use mathlib.Core.Path.{◌≡◌, refl, sym, ap, ◌∙◌}
 use mathlib.Core.Bool.{Bool, true, false, not, ◌||◌}
 use mathlib.Core.List.Memᴰ
@@ -11,7 +12,7 @@ use lib.Dec.{eqb, ltb}
 use lib.Seq.{drop-cons, get_or-take, get_or-set_same, get_or-set_other, append_snoc, ext_get_or, length-take-le}
 use borrow.Author.Tests.{eqb-true, eqb-false, eq-eqb, ne_eqb, ltb-true, ltb-false}
 use Rattle.base_lists.proofs.Bools.{or-false-left, or-false-right, or-false-intro, clash, by}
-use Rattle.rules.specs.Text.{if◌then◌else◌, one_of}
+use Rattle.rules.specs.Text.{one_of}
 use Rattle.rules.specs.Charmap.{Given, no_code, counted, gives_byte, is_given, code_given, first_byte, encodes, area_of}
 use Rattle.rules.proofs.TextLaws.{one_of-append, one_of-get_d}
 use Rattle.rules.proofs.GivenLaws.{code-none}
