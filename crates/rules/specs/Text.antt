@@ -4,7 +4,6 @@ use Prim.Native.String.{String, [] as empty, ◌∷◌ as ◌then◌}
 use Prim.Native.Char.{code}
 
 infix 68 ◌unless◌
-
 -- ## Bytes
 
 -- a text's bytes; a byte above 7E is written as the character of that code
