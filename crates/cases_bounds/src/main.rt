@@ -1,7 +1,10 @@
 // The run cases of the directory that are starts and lengths, with what must be written in the file stdout.
 #![tactic(auto)]
+
 mod places;
 
-fn main() {
-    places::cases();
+use std::io;
+
+fn main(rt: HostRuntime) -> io::Result<()> {
+    places::cases(&rt)
 }

@@ -2,47 +2,44 @@
 use base_units::Refusal;
 use cases_words::{end_line, number, others, refusal};
 use charmap_read::Mapped;
+use std::io;
 
 // How many bytes have a code, how many of them encode it, and whether what lies behind is as it was.
-fn numbers(area: &[u32]) {
+fn numbers(rt: &impl Print, area: &[u32]) -> io::Result<()> {
     if 512 <= area.len() {
-        number(others(&area[0..256], 0x110000));
-        io::write_all(1, b" codes,");
-        number(others(&area[256..512], 0));
-        io::write_all(1, b" encode");
+        number(rt, others(&area[0..256], 0x110000))?;
+        rt.write_all(b" codes,")?;
+        number(rt, others(&area[256..512], 0))?;
+        rt.write_all(b" encode")?;
         if others(&area[512..area.len()], 0xEEEE) == 0 {
-            io::write_all(1, b", rest unchanged");
+            rt.write_all(b", rest unchanged")?;
         }
     }
-    end_line();
+    end_line(rt)
 }
 
 // A refusal and its line, and whether the area is as it was.
-fn stopped(r: Refusal, line: usize, area: &[u32]) {
-    refusal(r);
-    io::write_all(1, b" line");
-    number(line);
+fn stopped(rt: &impl Print, r: Refusal, line: usize, area: &[u32]) -> io::Result<()> {
+    refusal(rt, r)?;
+    rt.write_all(b" line")?;
+    number(rt, line)?;
     if others(area, 0xEEEE) == 0 {
-        io::write_all(1, b", area unchanged");
+        rt.write_all(b", area unchanged")?;
     }
-    end_line();
+    end_line(rt)
 }
 
 // A source read into an area.
-pub fn mapped_in(name: &[u8], src: &[u8], area: &mut [u32]) {
-    io::write_all(1, name);
+pub fn mapped_in(rt: &impl Print, name: &[u8], src: &[u8], area: &mut [u32]) -> io::Result<()> {
+    rt.write_all(name)?;
     match charmap_read::read(src, area) {
-        Mapped::Done => {
-            numbers(area);
-        }
-        Mapped::Refused(r, line) => {
-            stopped(r, line, area);
-        }
+        Mapped::Done => numbers(rt, area),
+        Mapped::Refused(r, line) => stopped(rt, r, line, area),
     }
 }
 
 // A source read into an area of two numbers more than it takes.
-pub fn mapped(name: &[u8], src: &[u8]) {
+pub fn mapped(rt: &impl Print, name: &[u8], src: &[u8]) -> io::Result<()> {
     let mut area = [0xEEEEu32; 514];
-    mapped_in(name, src, &mut area);
+    mapped_in(rt, name, src, &mut area)
 }

@@ -1,37 +1,40 @@
 // The cases of standard input: a name, `~`, a source, `~` and LF, and so on.
-ghost use Rattle.std.specs.Prelude.{◌≤◌, ◌<◌, length};
+ghost use Rattle.std.specs.Prelude.{◌≤◌, ◌<◌, length, IfOk};
 
 use crate::show::mapped;
-use cases_words::mark;
+use cases_words::{mark, read_full};
+use std::io;
 
 // One case; the place of the next one, or the end.
-fn case(b: &[u8], at: usize) -> usize
+fn case(rt: &impl Print, b: &[u8], at: usize) -> io::Result<usize>
     requires { at < length b.now }
-    ensures { (at < result) × (result ≤ length b.now) }
+    ensures { IfOk result (λ next. (at < next) × (next ≤ length b.now)) }
 {
     let name = mark(b, at, 126);
     if name < b.len() {
         let end = mark(b, name + 1, 126);
-        mapped(&b[at..name], &b[name + 1..end]);
+        mapped(rt, &b[at..name], &b[name + 1..end])?;
         if end + 2 < b.len() {
-            return end + 2;
+            return Ok(end + 2);
         }
     }
-    b.len()
+    Ok(b.len())
 }
 
 // All cases of a text.
-fn each(b: &[u8]) {
+fn each(rt: &impl Print, b: &[u8]) -> io::Result<()> {
     let mut at: usize = 0;
     while at < b.len() {
-        at = case(b, at);
+        at = case(rt, b, at)?;
     }
+    Ok(())
 }
 
-pub fn cases() {
+pub fn cases(rt: &(impl Print + Input)) -> io::Result<()> {
     let mut b = [0u8; 8192];
-    let n = io::read_full(0, &mut b);
+    let n = read_full(&mut rt.reader(), &mut b);
     if n <= 8192 {
-        each(&b[0..n]);
+        each(rt, &b[0..n])?;
     }
+    Ok(())
 }

@@ -2,71 +2,81 @@
 use base_units::{Refusal, wide};
 use cases_words::{bytes, end_line, number, others, refusal, untouched};
 use charmap_coding::Coded;
+use std::io;
 
-fn code(c: u32) {
-    io::write_all(1, b" ");
-    io::print_hex(1, c as u64, 4);
+fn code(rt: &impl Print, c: u32) -> io::Result<()> {
+    rt.write_all(b" ")?;
+    print!(rt; "{c:04x}")
 }
 
-fn codes(s: &[u32]) {
+fn codes(rt: &impl Print, s: &[u32]) -> io::Result<()> {
     let mut i: usize = 0;
     while i < s.len() {
-        code(s[i]);
+        code(rt, s[i])?;
         i += 1;
     }
+    Ok(())
 }
 
 // A refusal, and whether the room is as it was.
-fn uncoded(r: Refusal, same: bool) {
-    refusal(r);
+fn uncoded(rt: &impl Print, r: Refusal, same: bool) -> io::Result<()> {
+    refusal(rt, r)?;
     if same {
-        io::write_all(1, b", room unchanged");
+        rt.write_all(b", room unchanged")?;
     }
-    end_line();
+    end_line(rt)
 }
 
 // Bytes to characters, in a room.
-pub fn decoded_in(name: &[u8], area: &[u32], b: &[u8], room: &mut [u32]) {
-    io::write_all(1, name);
+pub fn decoded_in(
+    rt: &impl Print,
+    name: &[u8],
+    area: &[u32],
+    b: &[u8],
+    room: &mut [u32],
+) -> io::Result<()> {
+    rt.write_all(name)?;
     match charmap_coding::decode(area, b, room) {
         Coded::Written(n) => {
             if n <= room.len() {
-                codes(&room[0..n]);
+                codes(rt, &room[0..n])?;
             }
-            end_line();
+            end_line(rt)
         }
-        Coded::Refused(r) => {
-            uncoded(r, others(room, 0xEEEE) == 0);
-        }
+        Coded::Refused(r) => uncoded(rt, r, others(room, 0xEEEE) == 0),
     }
 }
 
 // Bytes to characters.
-pub fn decoded(name: &[u8], area: &[u32], b: &[u8]) {
+pub fn decoded(rt: &impl Print, name: &[u8], area: &[u32], b: &[u8]) -> io::Result<()> {
     let mut room = [0xEEEEu32; 8];
-    decoded_in(name, area, b, &mut room);
+    decoded_in(rt, name, area, b, &mut room)
 }
 
 // Characters to bytes, in a room.
-pub fn encoded_in(name: &[u8], area: &[u32], s: &[u32], room: &mut [u8]) {
-    io::write_all(1, name);
+pub fn encoded_in(
+    rt: &impl Print,
+    name: &[u8],
+    area: &[u32],
+    s: &[u32],
+    room: &mut [u8],
+) -> io::Result<()> {
+    rt.write_all(name)?;
     match charmap_coding::encode(area, s, room) {
         Coded::Written(n) => {
             if n <= room.len() {
-                bytes(&room[0..n]);
+                bytes(rt, &room[0..n])?;
             }
-            end_line();
+            end_line(rt)
         }
-        Coded::Refused(r) => {
-            uncoded(r, untouched(room));
-        }
+        Coded::Refused(r) => uncoded(rt, r, untouched(room)),
     }
 }
 
 // Characters to bytes.
-pub fn encoded(name: &[u8], area: &[u32], s: &[u32]) {
+pub fn encoded(rt: &impl Print, name: &[u8], area: &[u32], s: &[u32]) -> io::Result<()> {
     let mut room = [0xEEu8; 8];
-    encoded_in(name, area, s, &mut room);
+    encoded_in(rt, name, area, s, &mut room)
 }
 
 // How many numbers are their own places.
@@ -94,17 +104,17 @@ fn all_bytes(b: &mut [u8; 256]) {
 }
 
 // How many of these bytes are decoded to their places.
-fn decoded_to_places(area: &[u32], b: &[u8; 256]) {
+fn decoded_to_places(rt: &impl Print, area: &[u32], b: &[u8; 256]) -> io::Result<()> {
     let mut room = [0xEEEEu32; 256];
     charmap_coding::decode(area, b, &mut room);
-    number(own(&room));
+    number(rt, own(&room))
 }
 
 // How many of all bytes are decoded to themselves.
-pub fn decoded_own(name: &[u8], area: &[u32]) {
+pub fn decoded_own(rt: &impl Print, name: &[u8], area: &[u32]) -> io::Result<()> {
     let mut b = [0u8; 256];
     all_bytes(&mut b);
-    io::write_all(1, name);
-    decoded_to_places(area, &b);
-    end_line();
+    rt.write_all(name)?;
+    decoded_to_places(rt, area, &b)?;
+    end_line(rt)
 }

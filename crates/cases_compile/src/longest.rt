@@ -2,6 +2,7 @@
 ghost use Rattle.std.specs.Prelude.{◌≤◌, ◌<◌, ◌+◌, ◌*◌, length};
 
 use crate::show::{compiled_in, compiled_with};
+use std::io;
 
 // A text put over the bytes from a place on.
 fn put(src: &mut [u8], at: usize, text: &[u8])
@@ -15,48 +16,61 @@ fn put(src: &mut [u8], at: usize, text: &[u8])
 }
 
 // A source with the first n numbers of a work area. The area is long enough for a table with no order line.
-fn longest_in(name: &[u8], src: &[u8], work: &mut [u32], n: usize) {
+fn longest_in(
+    rt: &impl Print,
+    name: &[u8],
+    src: &[u8],
+    work: &mut [u32],
+    n: usize,
+) -> io::Result<()> {
     let mut area = [0xEEEEu32; 32];
-    compiled_with(name, src, &mut area, work, n);
+    compiled_with(rt, name, src, &mut area, work, n)
 }
 
 // The same, of a length that is known.
-fn longest_with(name: &[u8], src: &[u8], work: &mut [u32; 1048641], n: usize) {
-    longest_in(name, src, work, n);
+fn longest_with(
+    rt: &impl Print,
+    name: &[u8],
+    src: &[u8],
+    work: &mut [u32; 1048641],
+    n: usize,
+) -> io::Result<()> {
+    longest_in(rt, name, src, work, n)
 }
 
-fn longest_by(name: &[u8], src: &[u8], n: usize) {
+fn longest_by(rt: &impl Print, name: &[u8], src: &[u8], n: usize) -> io::Result<()> {
     let mut work = [0xEEEEu32; 1048641];
-    longest_with(name, src, &mut work, n);
+    longest_with(rt, name, src, &mut work, n)
 }
 
 // A source as long as it may be, which is accepted; then with a work area one number short; then one byte longer, with areas and with none.
-fn longest_of(src: &[u8]) {
+fn longest_of(rt: &impl Print, src: &[u8]) -> io::Result<()> {
     if 1 <= src.len() {
-        longest_by(b"1,048,576 bytes:", &src[0..src.len() - 1], 1048640);
+        longest_by(rt, b"1,048,576 bytes:", &src[0..src.len() - 1], 1048640)?;
         longest_by(
+            rt,
             b"1,048,576 bytes, work one short:",
             &src[0..src.len() - 1],
             1048639,
-        );
+        )?;
     }
-    longest_by(b"1,048,577 bytes:", src, 1048641);
-    compiled_in(b"1,048,577 bytes, no area:", src, &mut [], &mut []);
+    longest_by(rt, b"1,048,577 bytes:", src, 1048641)?;
+    compiled_in(rt, b"1,048,577 bytes, no area:", src, &mut [], &mut [])
 }
 
 // The same, of a length that is known.
-fn longest_within(src: &mut [u8; 1048577]) {
+fn longest_within(rt: &impl Print, src: &mut [u8; 1048577]) -> io::Result<()> {
     put(
         src,
         0,
         b"LC_COLLATE\norder_start\norder_end\nEND LC_COLLATE\n",
     );
-    longest_of(src);
+    longest_of(rt, src)
 }
 
-fn longest() {
+fn longest(rt: &impl Print) -> io::Result<()> {
     let mut src = [10u8; 1048577];
-    longest_within(&mut src);
+    longest_within(rt, &mut src)
 }
 
 // A hex digit put at a place.
@@ -111,73 +125,82 @@ fn put_order(src: &mut [u8], n: u32, end: usize, text: &[u8])
 }
 
 // The first n bytes of a source, in the areas lent.
-fn lines_in(name: &[u8], src: &[u8], n: usize, area: &mut [u32], work: &mut [u32]) {
+fn lines_in(
+    rt: &impl Print,
+    name: &[u8],
+    src: &[u8],
+    n: usize,
+    area: &mut [u32],
+    work: &mut [u32],
+) -> io::Result<()> {
     if n <= src.len() {
-        compiled_in(name, &src[0..n], area, work);
+        compiled_in(rt, name, &src[0..n], area, work)?;
     }
+    Ok(())
 }
 
 // The same, of lengths that are known.
 fn lines_within(
+    rt: &impl Print,
     name: &[u8],
     src: &[u8; 393302],
     n: usize,
     area: &mut [u32; 262200],
     work: &mut [u32; 393366],
-) {
-    lines_in(name, src, n, area, work);
+) -> io::Result<()> {
+    lines_in(rt, name, src, n, area, work)
 }
 
 // The first n bytes of a source, in areas that are long enough.
-fn lines_of(name: &[u8], src: &[u8; 393302], n: usize) {
+fn lines_of(rt: &impl Print, name: &[u8], src: &[u8; 393302], n: usize) -> io::Result<()> {
     let mut area = [0xEEEEu32; 262200];
     let mut work = [0xEEEEu32; 393366];
-    lines_within(name, src, n, &mut area, &mut work);
+    lines_within(rt, name, src, n, &mut area, &mut work)
 }
 
 // As many order lines as there may be.
-fn most_within(src: &mut [u8; 393302]) {
+fn most_within(rt: &impl Print, src: &mut [u8; 393302]) -> io::Result<()> {
     put_order(src, 32767, 393227, b"order_end\nEND LC_COLLATE\n");
-    lines_of(b"32,767 order lines:", src, 393252);
+    lines_of(rt, b"32,767 order lines:", src, 393252)
 }
 
 // One more.
-fn more_within(src: &mut [u8; 393302]) {
+fn more_within(rt: &impl Print, src: &mut [u8; 393302]) -> io::Result<()> {
     put_order(src, 32768, 393239, b"order_end\nEND LC_COLLATE\n");
-    lines_of(b"32,768 order lines:", src, 393264);
+    lines_of(rt, b"32,768 order lines:", src, 393264)
 }
 
 // As many as there may be, and a block that moves the last one.
-fn moved_within(src: &mut [u8; 393302]) {
+fn moved_within(rt: &impl Print, src: &mut [u8; 393302]) -> io::Result<()> {
     put_order(
         src,
         32767,
         393227,
         b"order_end\nreorder-after <U00010000>\n<U00017FFE>\nreorder-end\nEND LC_COLLATE\n",
     );
-    lines_of(b"32,767 order lines, the last moved:", src, 393302);
+    lines_of(rt, b"32,767 order lines, the last moved:", src, 393302)
 }
 
 // One more, in a block.
-fn added_within(src: &mut [u8; 393302]) {
+fn added_within(rt: &impl Print, src: &mut [u8; 393302]) -> io::Result<()> {
     put_order(
         src,
         32767,
         393227,
         b"order_end\nreorder-after <U00010000>\n<U00017FFF>\nreorder-end\nEND LC_COLLATE\n",
     );
-    lines_of(b"32,767 order lines, one more in a block:", src, 393302);
+    lines_of(rt, b"32,767 order lines, one more in a block:", src, 393302)
 }
 
-fn most_lines() {
+fn most_lines(rt: &impl Print) -> io::Result<()> {
     let mut src = [10u8; 393302];
-    most_within(&mut src);
-    more_within(&mut src);
-    moved_within(&mut src);
-    added_within(&mut src);
+    most_within(rt, &mut src)?;
+    more_within(rt, &mut src)?;
+    moved_within(rt, &mut src)?;
+    added_within(rt, &mut src)
 }
 
-pub fn cases() {
-    longest();
-    most_lines();
+pub fn cases(rt: &impl Print) -> io::Result<()> {
+    longest(rt)?;
+    most_lines(rt)
 }

@@ -2,107 +2,119 @@
 use base_units::Refusal;
 use cases_words::{end_line, kept, number, others, refusal};
 use locale_compile::Compiled;
+use std::io;
 
 // A number of a table; a dash for 110000 hex, which is no character.
-fn entry(x: u32) {
+fn entry(rt: &impl Print, x: u32) -> io::Result<()> {
     if x == 0x110000 {
-        io::write_all(1, b" -");
+        rt.write_all(b" -")
     } else {
-        number(x as usize);
+        number(rt, x as usize)
     }
 }
 
-fn entries(t: &[u32]) {
+fn entries(rt: &impl Print, t: &[u32]) -> io::Result<()> {
     let mut i: usize = 0;
     while i < t.len() {
-        entry(t[i]);
+        entry(rt, t[i])?;
         i += 1;
     }
+    Ok(())
 }
 
 // Whether the work area is all zeros.
-fn worked(work: &[u32]) {
+fn worked(rt: &impl Print, work: &[u32]) -> io::Result<()> {
     if others(work, 0) == 0 {
-        io::write_all(1, b", work zero");
+        rt.write_all(b", work zero")
     } else {
-        io::write_all(1, b", work touched");
+        rt.write_all(b", work touched")
     }
 }
 
 // Whether these numbers are a table, and no more.
-fn judged(t: &[u32]) {
+fn judged(rt: &impl Print, t: &[u32]) -> io::Result<()> {
     match table_check::check(t) {
         table_check::Verdict::Accepted(s) => {
             if s.size == t.len() {
-                io::write_all(1, b", accepted");
+                rt.write_all(b", accepted")?;
             }
+            Ok(())
         }
-        table_check::Verdict::Refused(r) => {
-            refusal(r);
-        }
+        table_check::Verdict::Refused(r) => refusal(rt, r),
     }
 }
 
 // A table's numbers; of a large one the first three, which tell how many levels, items and weights it has.
-fn numbers(t: &[u32]) {
-    io::write_all(1, b":");
+fn numbers(rt: &impl Print, t: &[u32]) -> io::Result<()> {
+    rt.write_all(b":")?;
     if t.len() <= 512 {
-        entries(t);
+        entries(rt, t)
     } else {
-        entries(&t[0..3]);
+        entries(rt, &t[0..3])
     }
 }
 
 // A table of n numbers, and whether the rest of the area and the work area are as they must be.
-fn done(n: usize, area: &[u32], work: &[u32]) {
-    number(n);
-    io::write_all(1, b" numbers");
+fn done(rt: &impl Print, n: usize, area: &[u32], work: &[u32]) -> io::Result<()> {
+    number(rt, n)?;
+    rt.write_all(b" numbers")?;
     if n <= area.len() {
-        judged(&area[0..n]);
-        io::write_all(1, b", rest");
-        kept(&area[n..area.len()]);
-        worked(work);
-        numbers(&area[0..n]);
+        judged(rt, &area[0..n])?;
+        rt.write_all(b", rest")?;
+        kept(rt, &area[n..area.len()])?;
+        worked(rt, work)?;
+        numbers(rt, &area[0..n])?;
     }
-    end_line();
+    end_line(rt)
 }
 
 // A refusal and its line, and whether the area and the work area are as they must be.
-fn stopped(r: Refusal, line: usize, area: &[u32], work: &[u32]) {
-    refusal(r);
-    io::write_all(1, b" line");
-    number(line);
-    io::write_all(1, b", area");
-    kept(area);
-    worked(work);
-    end_line();
+fn stopped(rt: &impl Print, r: Refusal, line: usize, area: &[u32], work: &[u32]) -> io::Result<()> {
+    refusal(rt, r)?;
+    rt.write_all(b" line")?;
+    number(rt, line)?;
+    rt.write_all(b", area")?;
+    kept(rt, area)?;
+    worked(rt, work)?;
+    end_line(rt)
 }
 
 // A source compiled into an area, with a work area.
-pub fn compiled_in(name: &[u8], src: &[u8], area: &mut [u32], work: &mut [u32]) {
-    io::write_all(1, name);
+pub fn compiled_in(
+    rt: &impl Print,
+    name: &[u8],
+    src: &[u8],
+    area: &mut [u32],
+    work: &mut [u32],
+) -> io::Result<()> {
+    rt.write_all(name)?;
     match locale_compile::compile(src, area, work) {
-        Compiled::Done(n) => {
-            done(n, area, work);
-        }
-        Compiled::Refused(r, line) => {
-            stopped(r, line, area, work);
-        }
+        Compiled::Done(n) => done(rt, n, area, work),
+        Compiled::Refused(r, line) => { stopped(rt, r, line, area, work) }
     }
 }
 
 // The same, with the first numbers of a work area.
-pub fn compiled_with(name: &[u8], src: &[u8], area: &mut [u32], work: &mut [u32], n: usize) {
+pub fn compiled_with(
+    rt: &impl Print,
+    name: &[u8],
+    src: &[u8],
+    area: &mut [u32],
+    work: &mut [u32],
+    n: usize,
+) -> io::Result<()> {
     if n <= work.len() {
-        compiled_in(name, src, area, &mut work[0..n]);
+        compiled_in(rt, name, src, area, &mut work[0..n])?;
     }
+    Ok(())
 }
 
 // A source of at most 960 bytes, with the shortest work area that it may have.
-pub fn compiled(name: &[u8], src: &[u8]) {
+pub fn compiled(rt: &impl Print, name: &[u8], src: &[u8]) -> io::Result<()> {
     let mut area = [0xEEEEu32; 512];
     let mut work = [0xEEEEu32; 1024];
     if src.len() <= 960 {
-        compiled_with(name, src, &mut area, &mut work, src.len() + 64);
+        compiled_with(rt, name, src, &mut area, &mut work, src.len() + 64)?;
     }
+    Ok(())
 }

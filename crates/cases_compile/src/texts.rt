@@ -1,47 +1,50 @@
 // The cases of standard input: a name, `~`, a source, `~` and LF, and so on.
-ghost use Rattle.std.specs.Prelude.{◌≤◌, ◌<◌, length};
+ghost use Rattle.std.specs.Prelude.{◌≤◌, ◌<◌, length, IfOk};
 
 use crate::show::compiled;
-use cases_words::mark;
+use cases_words::{mark, read_full};
+use std::io;
 
 // One case; the place of the next one, or the end.
-fn case(b: &[u8], at: usize) -> usize
+fn case(rt: &impl Print, b: &[u8], at: usize) -> io::Result<usize>
     requires { at < length b.now }
-    ensures { (at < result) × (result ≤ length b.now) }
+    ensures { IfOk result (λ next. (at < next) × (next ≤ length b.now)) }
 {
     let name = mark(b, at, 126);
     if name < b.len() {
         let end = mark(b, name + 1, 126);
-        compiled(&b[at..name], &b[name + 1..end]);
+        compiled(rt, &b[at..name], &b[name + 1..end])?;
         if end + 2 < b.len() {
-            return end + 2;
+            return Ok(end + 2);
         }
     }
-    b.len()
+    Ok(b.len())
 }
 
 // All cases of a text.
-fn each(b: &[u8]) {
+fn each(rt: &impl Print, b: &[u8]) -> io::Result<()> {
     let mut at: usize = 0;
     while at < b.len() {
-        at = case(b, at);
+        at = case(rt, b, at)?;
     }
+    Ok(())
 }
 
 // All cases of standard input, read into a buffer.
-fn cases_in(b: &mut [u8]) {
-    let n = io::read_full(0, b);
+fn cases_in(rt: &(impl Print + Input), b: &mut [u8]) -> io::Result<()> {
+    let n = read_full(&mut rt.reader(), b);
     if n <= b.len() {
-        each(&b[0..n]);
+        each(rt, &b[0..n])?;
     }
+    Ok(())
 }
 
 // The same, in a buffer of a length that is known.
-fn cases_within(b: &mut [u8; 65536]) {
-    cases_in(b);
+fn cases_within(rt: &(impl Print + Input), b: &mut [u8; 65536]) -> io::Result<()> {
+    cases_in(rt, b)
 }
 
-pub fn cases() {
+pub fn cases(rt: &(impl Print + Input)) -> io::Result<()> {
     let mut b = [0u8; 65536];
-    cases_within(&mut b);
+    cases_within(rt, &mut b)
 }

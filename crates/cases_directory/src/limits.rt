@@ -2,6 +2,7 @@
 ghost use Rattle.std.specs.Prelude.{◌≤◌, ◌<◌, ◌+◌, ◌*◌, length};
 
 use cases_telling::directed_in;
+use std::io;
 
 // A text put over the bytes from a place on.
 fn put(src: &mut [u8], at: usize, text: &[u8])
@@ -75,91 +76,110 @@ fn put_places(places: &mut [u64; 2002]) {
 }
 
 // 1,000 headings, and 1,000 topics from the second character on.
-fn most(t: &[u32], run: &[u32], headings: &[u64], topics: &[u64]) {
-    directed_in(b"1,000 and 1,000:", t, run, headings, topics, 1001);
-    directed_in(b"a list of 1,000:", t, run, headings, topics, 1000);
-    directed_in(b"a list of 999:", t, run, headings, topics, 999);
+fn most(
+    rt: &impl Print,
+    t: &[u32],
+    run: &[u32],
+    headings: &[u64],
+    topics: &[u64],
+) -> io::Result<()> {
+    directed_in(rt, b"1,000 and 1,000:", t, run, headings, topics, 1001)?;
+    directed_in(rt, b"a list of 1,000:", t, run, headings, topics, 1000)?;
+    directed_in(rt, b"a list of 999:", t, run, headings, topics, 999)
 }
 
 // 1,001 of either: 17.
-fn more(t: &[u32], run: &[u32], headings: &[u64], all: &[u64]) {
-    directed_in(b"1,001 headings:", t, run, all, headings, 1001);
-    directed_in(b"1,001 topics:", t, run, headings, all, 1001);
-    directed_in(b"1,001 of both:", t, run, all, all, 1001);
-    directed_in(b"1,001 topics and no list:", t, run, &[], all, 0);
+fn more(rt: &impl Print, t: &[u32], run: &[u32], headings: &[u64], all: &[u64]) -> io::Result<()> {
+    directed_in(rt, b"1,001 headings:", t, run, all, headings, 1001)?;
+    directed_in(rt, b"1,001 topics:", t, run, headings, all, 1001)?;
+    directed_in(rt, b"1,001 of both:", t, run, all, all, 1001)?;
+    directed_in(rt, b"1,001 topics and no list:", t, run, &[], all, 0)
 }
 
 // 1,000 and a start with no length, which is not one more.
-fn odd(t: &[u32], run: &[u32], places: &[u64]) {
-    directed_in(b"1,000 and a start each:", t, run, places, places, 1001);
+fn odd(rt: &impl Print, t: &[u32], run: &[u32], places: &[u64]) -> io::Result<()> {
+    directed_in(rt, b"1,000 and a start each:", t, run, places, places, 1001)
 }
 
 // By the starts and lengths of 1,001 strings.
-fn many(t: &[u32], run: &[u32], all: &[u64]) {
+fn many(rt: &impl Print, t: &[u32], run: &[u32], all: &[u64]) -> io::Result<()> {
     if 2002 <= all.len() {
-        most(t, run, &all[0..2000], &all[2..2002]);
-        odd(t, run, &all[0..2001]);
-        more(t, run, &all[0..2000], all);
+        most(rt, t, run, &all[0..2000], &all[2..2002])?;
+        odd(rt, t, run, &all[0..2001])?;
+        more(rt, t, run, &all[0..2000], all)?;
     }
+    Ok(())
 }
 
 // The same, of lengths that are known.
-fn many_within(t: &[u32], run: &mut [u32; 1001], all: &mut [u64; 2002]) {
+fn many_within(
+    rt: &impl Print,
+    t: &[u32],
+    run: &mut [u32; 1001],
+    all: &mut [u64; 2002],
+) -> io::Result<()> {
     put_characters(run);
     put_places(all);
-    many(t, run, all);
+    many(rt, t, run, all)
 }
 
-fn many_by(t: &[u32]) {
+fn many_by(rt: &impl Print, t: &[u32]) -> io::Result<()> {
     let mut run = [0u32; 1001];
     let mut all = [0u64; 2002];
-    many_within(t, &mut run, &mut all);
+    many_within(rt, t, &mut run, &mut all)
 }
 
 // Strings of the most characters, and of one more (12).
-fn long_topics(t: &[u32], run: &[u32]) {
+fn long_topics(rt: &impl Print, t: &[u32], run: &[u32]) -> io::Result<()> {
     directed_in(
+        rt,
         b"a topic of 4,096:",
         t,
         run,
         &[0, 1],
         &[0, 4096, 1, 4096],
         3,
-    );
-    directed_in(b"a topic of 4,097:", t, run, &[0, 1], &[0, 4097], 3);
+    )?;
+    directed_in(rt, b"a topic of 4,097:", t, run, &[0, 1], &[0, 4097], 3)
 }
 
 // The same of headings; 12 before 15, 17 before 12.
-fn long_headings(t: &[u32], run: &[u32]) {
-    directed_in(b"a heading of 4,096:", t, run, &[1, 4096], &[0, 1], 3);
-    directed_in(b"a heading of 4,097:", t, run, &[0, 4097], &[0, 1], 3);
+fn long_headings(rt: &impl Print, t: &[u32], run: &[u32]) -> io::Result<()> {
+    directed_in(rt, b"a heading of 4,096:", t, run, &[1, 4096], &[0, 1], 3)?;
+    directed_in(rt, b"a heading of 4,097:", t, run, &[0, 4097], &[0, 1], 3)?;
     directed_in(
+        rt,
         b"4,097, and headings alike:",
         t,
         run,
         &[0, 1, 1, 1],
         &[0, 4097],
         0,
-    );
-    directed_in(b"4,098:", t, run, &[0, 4097], &[0, 4098], 0);
+    )?;
+    directed_in(rt, b"4,098:", t, run, &[0, 4097], &[0, 4098], 0)
 }
 
-fn long(t: &[u32]) {
+fn long(rt: &impl Print, t: &[u32]) -> io::Result<()> {
     let run = [0x10000u32; 4097];
-    long_topics(t, &run);
-    long_headings(t, &run);
+    long_topics(rt, t, &run)?;
+    long_headings(rt, t, &run)
 }
 
-fn cases_by(src: &mut [u8; 12060], t: &mut [u32; 8033], work: &mut [u32; 12124]) {
+fn cases_by(
+    rt: &impl Print,
+    src: &mut [u8; 12060],
+    t: &mut [u32; 8033],
+    work: &mut [u32; 12124],
+) -> io::Result<()> {
     put_source(src);
     locale_compile::compile(src, t, work);
-    many_by(t);
-    long(t);
+    many_by(rt, t)?;
+    long(rt, t)
 }
 
-pub fn cases() {
+pub fn cases(rt: &impl Print) -> io::Result<()> {
     let mut src = [0u8; 12060];
     let mut t = [0u32; 8033];
     let mut work = [0u32; 12124];
-    cases_by(&mut src, &mut t, &mut work);
+    cases_by(rt, &mut src, &mut t, &mut work)
 }

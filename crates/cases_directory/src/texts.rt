@@ -2,6 +2,7 @@
 ghost use Rattle.std.specs.Prelude.{◌≤◌, ◌<◌, ◌+◌, ◌*◌, length};
 
 use cases_telling::directed_in;
+use std::io;
 
 fn wide(b: u8) -> u32 {
     b as u32
@@ -54,16 +55,27 @@ fn cut(text: &[u8], at: usize, places: &mut [u64]) -> usize
 }
 
 // A page whose headings and topics are the first n and m numbers, with a list that has one number more than there are topics.
-fn laid(name: &[u8], t: &[u32], run: &[u32], headings: &[u64], n: usize, topics: &[u64], m: usize) {
+fn laid(
+    rt: &impl Print,
+    name: &[u8],
+    t: &[u32],
+    run: &[u32],
+    headings: &[u64],
+    n: usize,
+    topics: &[u64],
+    m: usize,
+) -> io::Result<()> {
     if n <= headings.len() {
         if m <= topics.len() {
-            directed_in(name, t, run, &headings[0..n], &topics[0..m], m / 2 + 1);
+            directed_in(rt, name, t, run, &headings[0..n], &topics[0..m], m / 2 + 1)?;
         }
     }
+    Ok(())
 }
 
 // A page of two texts of at most 256 bytes each, in arrays of lengths that are known.
 fn page_within(
+    rt: &impl Print,
     name: &[u8],
     t: &[u32],
     headings: &[u8],
@@ -71,23 +83,39 @@ fn page_within(
     run: &mut [u32; 512],
     first: &mut [u64; 512],
     second: &mut [u64; 512],
-)
+) -> io::Result<()>
     requires { (length headings.now ≤ 256) × (length topics.now ≤ 256) }
 {
     put(run, 0, headings);
     put(run, headings.len(), topics);
     let n = cut(headings, 0, first);
     let m = cut(topics, headings.len(), second);
-    laid(name, t, run, first, n, second, m);
+    laid(rt, name, t, run, first, n, second, m)
 }
 
-pub fn page(name: &[u8], t: &[u32], headings: &[u8], topics: &[u8]) {
+pub fn page(
+    rt: &impl Print,
+    name: &[u8],
+    t: &[u32],
+    headings: &[u8],
+    topics: &[u8],
+) -> io::Result<()> {
     let mut run = [0u32; 512];
     let mut first = [0u64; 512];
     let mut second = [0u64; 512];
     if headings.len() <= 256 {
         if topics.len() <= 256 {
-            page_within(name, t, headings, topics, &mut run, &mut first, &mut second);
+            page_within(
+                rt,
+                name,
+                t,
+                headings,
+                topics,
+                &mut run,
+                &mut first,
+                &mut second,
+            )?;
         }
     }
+    Ok(())
 }

@@ -1,21 +1,24 @@
 // Runs of the pairs program, with what must be written in the file stdout. Each line of standard input names a locale, a charmap and an input,
 // files of data/; what a run writes stands behind its line.
 #![tactic(auto)]
-ghost use Rattle.std.specs.Prelude.{◌≤◌, ◌<◌, length};
 
-use cases_words::mark;
+ghost use Rattle.std.specs.Prelude.{◌≤◌, ◌<◌, length, IfOk};
+
+use cases_words::{mark, read_full};
+use pairs_run::path_of;
+use std::rt::Files;
+use std::{fs, io};
 
 // One run.
-fn run(locale: &[u8], charmap: &[u8], input: &[u8]) {
-    let fd = os::open_read(input);
-    pairs_run::run(locale, charmap, fd);
-    libc::close(fd);
+fn run(rt: &(impl Print + Files), locale: &[u8], charmap: &[u8], input: &[u8]) -> io::Result<()> {
+    let mut file = fs::open(rt, path_of(input)?)?;
+    pairs_run::run(rt, locale, charmap, &mut file)
 }
 
 // One line of standard input; the place of the next one, or the end.
-fn case(b: &[u8], at: usize) -> usize
+fn case(rt: &(impl Print + Files), b: &[u8], at: usize) -> io::Result<usize>
     requires { at < length b.now }
-    ensures { (at < result) × (result ≤ length b.now) }
+    ensures { IfOk result (λ next. (at < next) × (next ≤ length b.now)) }
 {
     let locale = mark(b, at, 32);
     if locale < b.len() {
@@ -23,31 +26,34 @@ fn case(b: &[u8], at: usize) -> usize
         if charmap < b.len() {
             let end = mark(b, charmap + 1, 10);
             if end < b.len() {
-                io::write_all(1, &b[at..end + 1]);
+                rt.write_all(&b[at..end + 1])?;
                 run(
+                    rt,
                     &b[at..locale],
                     &b[locale + 1..charmap],
                     &b[charmap + 1..end],
-                );
-                return end + 1;
+                )?;
+                return Ok(end + 1);
             }
         }
     }
-    b.len()
+    Ok(b.len())
 }
 
 // All lines of standard input.
-fn each(b: &[u8]) {
+fn each(rt: &(impl Print + Files), b: &[u8]) -> io::Result<()> {
     let mut at: usize = 0;
     while at < b.len() {
-        at = case(b, at);
+        at = case(rt, b, at)?;
     }
+    Ok(())
 }
 
-fn main() {
+fn main(rt: HostRuntime) -> io::Result<()> {
     let mut b = [0u8; 4096];
-    let n = io::read_full(0, &mut b);
+    let n = read_full(&mut rt.reader(), &mut b);
     if n <= 4096 {
-        each(&b[0..n]);
+        each(&rt, &b[0..n])?;
     }
+    Ok(())
 }

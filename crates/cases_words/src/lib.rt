@@ -1,36 +1,40 @@
 // What the programs of cases share: words of their lines, and marks of their input.
 #![tactic(auto)]
-ghost use Rattle.std.specs.Prelude.{◌≤◌, length};
+
+ghost use Rattle.std.specs.Prelude.{◌≡◌, ◌≤◌, length, take};
 
 use base_units::Refusal;
+use std::io;
+use std::io::Read;
 
-pub fn end_line() {
-    io::write_all(1, b"\n");
+pub fn end_line(rt: &impl Print) -> io::Result<()> {
+    rt.write_all(b"\n")
 }
 
 // A blank and a number.
-pub fn number(n: usize) {
-    io::write_all(1, b" ");
-    io::print_decimal(1, n as u64);
+pub fn number(rt: &impl Print, n: usize) -> io::Result<()> {
+    rt.write_all(b" ")?;
+    rt.print(n)
 }
 
-pub fn refusal(r: Refusal) {
-    io::write_all(1, b" refused");
-    number(base_units::number_of(r) as usize);
+pub fn refusal(rt: &impl Print, r: Refusal) -> io::Result<()> {
+    rt.write_all(b" refused")?;
+    number(rt, base_units::number_of(r) as usize)
 }
 
 // A blank and a byte.
-fn byte(b: u8) {
-    io::write_all(1, b" ");
-    io::print_hex(1, b as u64, 2);
+fn byte(rt: &impl Print, b: u8) -> io::Result<()> {
+    rt.write_all(b" ")?;
+    print!(rt; "{b:02x}")
 }
 
-pub fn bytes(b: &[u8]) {
+pub fn bytes(rt: &impl Print, b: &[u8]) -> io::Result<()> {
     let mut i: usize = 0;
     while i < b.len() {
-        byte(b[i]);
+        byte(rt, b[i])?;
         i += 1;
     }
+    Ok(())
 }
 
 // How many numbers are not x.
@@ -49,11 +53,11 @@ pub fn others(s: &[u32], x: u32) -> usize {
 }
 
 // Whether numbers that must stay are as they were, EEEE.
-pub fn kept(s: &[u32]) {
+pub fn kept(rt: &impl Print, s: &[u32]) -> io::Result<()> {
     if others(s, 0xEEEE) == 0 {
-        io::write_all(1, b" unchanged");
+        rt.write_all(b" unchanged")
     } else {
-        io::write_all(1, b" touched");
+        rt.write_all(b" touched")
     }
 }
 
@@ -67,6 +71,31 @@ pub fn untouched(room: &[u8]) -> bool {
         i += 1;
     }
     true
+}
+
+// One read, and how many bytes it put in front of the room; none where it fails.
+fn read_some(file: &mut impl Read, room: &mut [u8]) -> usize
+    ensures { (result ≤ length room.new) × (result ≡ length (take result room.new)) }
+{
+    match file.read(room) {
+        Ok(n) => n,
+        Err(_) => 0,
+    }
+}
+
+// Reads until the room is full, the file ends or a read fails; how many bytes stand in front of the room then.
+pub fn read_full(file: &mut impl Read, room: &mut [u8]) -> usize
+    ensures { (result ≤ length room.new) × (result ≡ length (take result room.new)) }
+{
+    let mut done = 0;
+    while done < room.len() {
+        let n = read_some(file, &mut room[done..]);
+        if n == 0 {
+            return done;
+        }
+        done += n;
+    }
+    done
 }
 
 // The place of the next byte of this value, or the end.

@@ -1,5 +1,8 @@
 // The pairs program: it reads locale.src and charmap.src, then standard input, and compares each two neighbouring lines.
 #![tactic(auto)]
-fn main() {
-    pairs_run::run(b"locale.src", b"charmap.src", 0);
+
+use std::io;
+
+fn main(rt: HostRuntime) -> io::Result<()> {
+    pairs_run::run(&rt, b"locale.src", b"charmap.src", &mut rt.stdin())
 }

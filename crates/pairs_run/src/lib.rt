@@ -1,9 +1,10 @@
-// A run of the pairs program: its two files, by name, then its input, from a descriptor. What is decided on slices is proved to be the paper's
+// A run of the pairs program: its two files, by name, then its input, from a reader. What is decided on slices is proved to be the paper's
 // (`open_files`, and `feed` and `finish` of report); the others read and write.
 #![tactic(auto)]
-ghost use Rattle.std.specs.Prelude.{◌≡◌, true, ◌≤◌, length};
+
+ghost use Rattle.std.specs.Prelude.{◌≡◌, true, ◌≤◌, length, take, IfOk};
 ghost use Rattle.rules.specs.Table.{accepted};
-ghost use Rattle.io.specs.Counts.{IsPrefixLen};
+ghost use Rattle.std.specs.Io.{ReadsAtMost};
 ghost use Rattle.pairs_report.specs.Feeding.{Ready};
 ghost use Rattle.pairs_run.specs.Opening.{LocaleIs, CharmapIs, CharmapOpens, FilesOpen};
 ghost use Rattle.pairs_run.specs.Pieces.{Rooms, Consumed, Ended};
@@ -13,6 +14,9 @@ use charmap_read::Mapped;
 use locale_compile::Compiled;
 use pairs_printing::{put_file, put_text};
 use pairs_report::{Fed, feed, finish};
+use std::io::{ErrorKind, Read};
+use std::rt::Files;
+use std::{fs, io};
 
 // What was printed of the two files, and whether the input is read then.
 #[derive(Clone, Copy)]
@@ -87,6 +91,7 @@ fn open_files(
 
 // A piece of the input: each time the output's room is full, and at the end, what was printed is written.
 fn consume(
+    rt: &impl Print,
     t: &[u32],
     area: &[u32],
     piece: &[u8],
@@ -94,16 +99,16 @@ fn consume(
     before: &mut [u8],
     current: &mut [u8],
     out: &mut [u8],
-) -> Fed
+) -> io::Result<Fed>
     requires t_value { (accepted t.now ≡ true) × (80 ≤ length out.old) }
     requires ready { Ready piece.now f before.old current.old out.old × (f.used ≡ 0) }
-    ensures { Consumed piece.now f result }
+    ensures { IfOk result (λ g. Consumed piece.now f g) }
 {
     let mut g = f;
     while g.at < piece.len() {
         let h = feed(t, area, piece, g, before, current, out);
         let used = h.used;
-        io::write_all(1, &out[..used]);
+        rt.write_all(&out[..used])?;
         g = Fed {
             at: h.at,
             used: 0,
@@ -112,21 +117,32 @@ fn consume(
             len: h.len,
         };
     }
-    g
+    Ok(g)
 }
 
-// The input, piece by piece, to its end. The count of pieces is there because a loop has to end: no input has so many.
+// One read, and how many bytes it put in front of the room; none where it fails.
+fn read_some(input: &mut impl Read, room: &mut [u8]) -> usize
+    ensures { (result ≤ length room.new) × (result ≡ length (take result room.new)) }
+{
+    match input.read(room) {
+        Ok(n) => n,
+        Err(_) => 0,
+    }
+}
+
+// The input, piece by piece, to its end, or to a read that fails. The count of pieces is there because a loop has to end: no input has so many.
 fn read_pieces(
+    rt: &impl Print,
     t: &[u32],
     area: &[u32],
-    input: i32,
+    input: &mut impl Read,
     piece: &mut [u8],
     before: &mut [u8],
     current: &mut [u8],
     out: &mut [u8],
-) -> Fed
+) -> io::Result<Fed>
     requires { Rooms t.now piece.old before.old current.old out.old }
-    ensures { Ended t.now result before.new current.new out.new }
+    ensures { IfOk result (λ g. Ended t.now g before.new current.new out.new) }
 {
     let mut g = Fed {
         at: 0,
@@ -137,10 +153,9 @@ fn read_pieces(
     };
     let mut pieces: u64 = 0;
     while pieces < 0x400000000000 {
-        let got = libc::read(input, piece);
-        let n = io::count(got, piece);
+        let n = read_some(input, piece);
         if n == 0 {
-            return g;
+            return Ok(g);
         }
         let f = Fed {
             at: 0,
@@ -149,100 +164,156 @@ fn read_pieces(
             last: g.last,
             len: g.len,
         };
-        g = consume(t, area, &piece[..n], f, before, current, out);
+        g = consume(rt, t, area, &piece[..n], f, before, current, out)?;
         pieces += 1;
     }
-    g
+    Ok(g)
 }
 
 // A last text without LF.
-fn write_last(t: &[u32], area: &[u32], g: Fed, before: &[u8], current: &[u8], out: &mut [u8])
+fn write_last(
+    rt: &impl Print,
+    t: &[u32],
+    area: &[u32],
+    g: Fed,
+    before: &[u8],
+    current: &[u8],
+    out: &mut [u8],
+) -> io::Result<()>
     requires { Ended t.now g before.now current.now out.old }
 {
     let n = finish(t, area, g, before, current, out);
-    io::write_all(1, &out[..n]);
+    rt.write_all(&out[..n])
 }
 
 // The whole input.
 fn read_input(
+    rt: &impl Print,
     t: &[u32],
     area: &[u32],
-    input: i32,
+    input: &mut impl Read,
     piece: &mut [u8],
     before: &mut [u8],
     current: &mut [u8],
     out: &mut [u8],
-)
+) -> io::Result<()>
     requires { Rooms t.now piece.old before.old current.old out.old }
 {
-    let g = read_pieces(t, area, input, piece, before, current, out);
-    write_last(t, area, g, before, current, out);
+    let g = read_pieces(rt, t, area, input, piece, before, current, out)?;
+    write_last(rt, t, area, g, before, current, out)
 }
 
 // The input, with rooms for a piece and for two texts.
-fn read_with(t: &[u32], area: &[u32], input: i32, out: &mut [u8])
+fn read_with(
+    rt: &impl Print,
+    t: &[u32],
+    area: &[u32],
+    input: &mut impl Read,
+    out: &mut [u8],
+) -> io::Result<()>
     requires { (accepted t.now ≡ true) × (80 ≤ length out.old) }
 {
     let mut piece = [0u8; 65536];
     let mut before = [0u8; 4097];
     let mut current = [0u8; 4097];
-    read_input(t, area, input, &mut piece, &mut before, &mut current, out);
+    read_input(
+        rt,
+        t,
+        area,
+        input,
+        &mut piece,
+        &mut before,
+        &mut current,
+        out,
+    )
 }
 
 // The two files, then the input.
 fn run_within(
+    rt: &impl Print,
     locale: &[u8],
     charmap: &[u8],
-    input: i32,
+    input: &mut impl Read,
     table: &mut [u32],
     work: &mut [u32],
     area: &mut [u32],
     out: &mut [u8],
-)
+) -> io::Result<()>
     requires table_len { (length table.old ≡ 8192) × (length work.old ≡ 8256) }
     requires area_len { (length area.old ≡ 512) × (100 ≤ length out.old) }
 {
     let s = open_files(locale, charmap, table, work, area, out);
     match s {
-        Opened::Closed(n) => {
-            io::write_all(1, &out[..n]);
-        }
+        Opened::Closed(n) => rt.write_all(&out[..n]),
         Opened::Reading(n) => {
-            io::write_all(1, &out[..n]);
-            read_with(table, area, input, out);
+            rt.write_all(&out[..n])?;
+            read_with(rt, table, area, input, out)
         }
     }
 }
 
 // The same with rooms for the table, the compiler's work, the charmap and the output.
-fn run_texts(locale: &[u8], charmap: &[u8], input: i32) {
+fn run_texts(
+    rt: &impl Print,
+    locale: &[u8],
+    charmap: &[u8],
+    input: &mut impl Read,
+) -> io::Result<()> {
     let mut table = [0u32; 8192];
     let mut work = [0u32; 8256];
     let mut area = [0u32; 512];
     let mut out = [0u8; 65536];
     run_within(
-        locale, charmap, input, &mut table, &mut work, &mut area, &mut out,
-    );
+        rt, locale, charmap, input, &mut table, &mut work, &mut area, &mut out,
+    )
 }
 
-// A file by name, as much of it as the room has place for; an absent one is empty.
-fn load(name: &[u8], room: &mut [u8]) -> usize
-    ensures { IsPrefixLen result room.new }
+// Reads until the room is full, the file ends or a read fails. How many bytes stand in front of the room then.
+fn read_full(file: &mut impl Read, room: &mut [u8]) -> usize
+    ensures { (result ≤ length room.new) × (result ≡ length (take result room.new)) }
 {
-    let fd = os::open_read(name);
-    if fd < 0 {
-        return 0;
+    let mut done = 0;
+    while done < room.len() {
+        let n = read_some(file, &mut room[done..]);
+        if n == 0 {
+            return done;
+        }
+        done += n;
     }
-    let n = io::read_full(fd, room);
-    libc::close(fd);
-    n
+    done
 }
 
-// The pairs program on these two files and this input. A file's room has one byte more than a file may have.
-pub fn run(locale: &[u8], charmap: &[u8], input: i32) {
+// A file's name as text, which a path is. Fails where it is not UTF-8.
+pub fn path_of(name: &[u8]) -> io::Result<&str>
+    ensures { IfOk result (λ path. path.now ≡ name.now) }
+{
+    match str::from_utf8(name) {
+        Ok(path) => Ok(path),
+        Err(_) => Err(io::Error::new(ErrorKind::InvalidInput, "a file's name is not UTF-8")),
+    }
+}
+
+// A file by name, as much of it as the room has place for; one that cannot be opened is empty. Fails where the name is not UTF-8.
+fn load(rt: &impl Files, name: &[u8], room: &mut [u8]) -> io::Result<usize>
+    ensures { ReadsAtMost result room.new }
+{
+    match fs::open(rt, path_of(name)?) {
+        Ok(mut file) => Ok(read_full(&mut file, room)),
+        Err(_) => Ok(0),
+    }
+}
+
+// The pairs program on these two files and this input. A file's room has one byte more than a file may have. Fails where a name is not UTF-8, before
+// anything of the input is read and anything is written, and where a write fails, after which nothing is read or written.
+pub fn run(
+    rt: &(impl Files + Print),
+    locale: &[u8],
+    charmap: &[u8],
+    input: &mut impl Read,
+) -> io::Result<()> {
     let mut first = [0u8; 8193];
     let mut second = [0u8; 8193];
-    let n = load(locale, &mut first);
-    let m = load(charmap, &mut second);
-    run_texts(&first[..n], &second[..m], input);
+    let n = load(rt, locale, &mut first)?;
+    let m = load(rt, charmap, &mut second)?;
+    run_texts(rt, &first[..n], &second[..m], input)
 }
