@@ -1,6 +1,6 @@
 -- What is proved of the code of each public operation: run on any arguments, it ends, and its answer and the areas that it leaves are as `Answered` in specs/
 -- says. It asks nothing of the caller. So the laws of this crate are about what the functions answer, and a contract that is weakened or given a `requires` is
--- refused here.
+-- refused here. `Wired` says that the names in the code mean the code of what it calls.
 use seplogic.Ra.Ura.{Ura}
 use base.Logic.{emp}
 use prog.Model.{Model}
