@@ -1,35 +1,26 @@
-use mathlib.Core.Path.{◌≡◌, sym, ◌∙◌, subst}
-use mathlib.Core.Bool.{true, false}
-use mathlib.Core.List.{List}
-use Prim.Native.Nat.{ℕ, ◌≤◌}
-use lib.ListN.{length}
-use lib.Dec.{leb}
-use borrow.Author.Rules.{rules}
-use borrow.Author.Tests.{leb-true}
-use Rattle.text_reader.specs.Turns.{Turns}
-use Rattle.locale_skips.specs.declared.Branch.{Branch}
-use Rattle.locale_skips.specs.Passing.{BranchIs, BranchStands, branch_reading}
+use mathlib.Core.Path.{refl}
+use Rattle.text_reader.proofs.HeldLaws.{inside, at_line, past_all, held_first, held_on, nearer, held_over}
+use Rattle.locale_skips.specs.Passing.{branch_reading}
 use Rattle.locale_skips.proofs.BranchLaws.{reading-used}
 use Rattle.locale_skips.proofs.branch_lines.Goals as goal
 
--- a line that does not end the reading leaves it where the next reader stands
-reading_goes : {src src' : List ℕ} {s t u : Branch} {i n i' n' : ℕ} → BranchStands src s t i n → src' ≡ src → Turns branch_reading src' t i n u
-    → u.over ≡ false → i' ≡ u.next → n' ≡ u.number → BranchStands src s u i' n'
-reading_goes {src} {src'} {s} {t} {u} {i} {n} v e w o p q =
-    let w' = subst (λ (x : List ℕ). Turns branch_reading x t i n u) e w in
-    rw (p, q) (w'.goes o s v)
+pub loop-q-init : goal.loop-q-init
+loop-q-init c = held_first branch_reading c.requires c.reader_at-q.ensures
 
--- nothing is left of the source
-reading_over : {src src' : List ℕ} {s t : Branch} {i n : ℕ} → BranchStands src s t i n → src' ≡ src → leb (length src') i ≡ true
-    → BranchIs s.signs src s.next s.number s.depth t.answer
-reading_over {src} {src'} {s} {t} {i} {n} v e h = reading-used v (subst (λ (x : List ℕ). length x ≤ i) e (leb-true (length src') i h))
+pub branch_line-t-requires : goal.branch_line-t-requires
+branch_line-t-requires c = at_line branch_reading c.loop-q.invariant (inside _ _ c.used_up.ensures c.loop-q-test.true)
+
+pub returns-then-t : goal.returns-then-t
+returns-then-t c = held_over branch_reading c.loop-q.invariant c.branch_line-t.ensures c.if-t.true
+
+pub loop-q-smaller : goal.loop-q-smaller
+loop-q-smaller c =
+    nearer branch_reading c.loop-q.invariant c.branch_line-t.ensures c.if-t.false c.reader_at-q-in-loop-q.ensures.1 (inside _ _ c.used_up.ensures c.loop-q-test.true)
 
 pub loop-q-preserved : goal.loop-q-preserved
-loop-q-preserved c = record {
-  source = search rules;
-  stands = reading_goes c.loop-q.invariant.stands c.loop-q.invariant.source c.branch_line-t.ensures c.if-t.false
-      c.reader_at-q-in-loop-q.ensures.1 c.reader_at-q-in-loop-q.ensures.2;
-}
+loop-q-preserved c = held_on branch_reading c.loop-q.invariant c.branch_line-t.ensures refl c.if-t.false c.reader_at-q-in-loop-q.ensures
 
 pub returns : goal.returns
-returns c = reading_over c.loop-q.invariant.stands c.loop-q.invariant.source (sym c.used_up.ensures ∙ c.loop-q-test.false)
+returns c =
+    let h = c.loop-q.invariant in
+    reading-used h.stands (past_all branch_reading h c.used_up.ensures c.loop-q-test.false)
