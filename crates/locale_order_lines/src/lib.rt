@@ -1,5 +1,6 @@
 // An order line: what is told of its subject, its refusal, and where it comes to stand, in the order or in a block.
 #![tactic(auto)]
+
 ghost use Rattle.std.specs.Prelude.{◌≡◌, true, false, not, ◌&&◌, ◌||◌, [], ◌∷◌, ◌+◌, ◌-◌, ◌*◌, ◌/◌, ◌≤◌, ◌<◌, length, eqb, leb, ltb};
 ghost use Rattle.rules.specs.Text.{if◌then◌else◌, ◌unless◌, bytes, lowest};
 ghost use Rattle.rules.specs.Lines.{in_plain};
