@@ -43,12 +43,11 @@ use Rattle.locale_sheet.specs.declared.Sheet.{Sheet}
 use Rattle.locale_sheet.specs.declared.Step.{Step}
 use Rattle.locale_sheet.specs.Sheets.{Open, SomeOpen, StepIs}
 use Rattle.locale_sheet.specs.Names.{subject_in, operands_from, NameLine}
-use Rattle.locale_sheet.proofs.SheetLaws.{read_whole}
+use Rattle.locale_sheet.proofs.SheetLaws.{read_whole, spot-behind}
 use Rattle.locale_sheet.proofs.BlockLaws.{mark-older, place_same, block_same}
 use Rattle.locale_order_lines.specs.declared.Facts.{Facts}
 use Rattle.locale_order_lines.specs.Facts.{is_again, FactsOf, name_facts, AgainIs, OwnRefused, RowIs, Ready, Lists}
 use Rattle.locale_order_lines.specs.Lines.{Reads}
-use Rattle.locale_sheet.proofs.SheetLaws.{spot-behind}
 use Rattle.locale_order_lines.proofs.FactLaws.{mark-found, mark-is, facts-name}
 use Rattle.locale_order_lines.proofs.AgainLaws.{again-is}
 use Rattle.locale_order_lines.proofs.RangeLaws.{bounded-line, bounded-order, Taken}

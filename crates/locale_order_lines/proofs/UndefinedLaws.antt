@@ -22,12 +22,11 @@ use Rattle.locale_sheet.specs.declared.Sheet.{Sheet}
 use Rattle.locale_sheet.specs.declared.Step.{Step}
 use Rattle.locale_sheet.specs.Sheets.{Open, SomeOpen, StepIs}
 use Rattle.locale_sheet.specs.Names.{operands_from}
-use Rattle.locale_sheet.proofs.SheetLaws.{read_whole}
+use Rattle.locale_sheet.proofs.SheetLaws.{read_whole, spot-behind}
 use Rattle.locale_order_lines.specs.declared.Facts.{Facts}
 use Rattle.locale_order_lines.specs.Facts.{is_again, undefined_facts, AgainIs, OwnRefused, Ready, Lists}
 use Rattle.locale_sheet.specs.Words.{WordLine}
 use Rattle.locale_order_lines.specs.Lines.{Reads}
-use Rattle.locale_sheet.proofs.SheetLaws.{spot-behind}
 use Rattle.locale_order_lines.proofs.FactLaws.{undefined-are}
 use Rattle.locale_order_lines.proofs.AgainLaws.{again-is}
 use Rattle.locale_order_lines.proofs.RangeLaws.{bounded-line, bounded-order}

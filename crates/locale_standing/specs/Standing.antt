@@ -13,8 +13,7 @@ use Rattle.text_tokens.specs.declared.Tok.{Tok}
 use Rattle.text_tokens.specs.Left.{names_in}
 use Rattle.text_names.specs.Named.{name_left}
 use Rattle.work_subjects.specs.Keys.{item, key_at, subject_left}
-use Rattle.work_store.specs.Store.{Decl, first, Holds}
-use Rattle.work_store.specs.Store.{is_found}
+use Rattle.work_store.specs.Store.{Decl, first, Holds, is_found}
 
 -- ## What stands
 

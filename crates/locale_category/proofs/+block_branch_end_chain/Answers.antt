@@ -1,6 +1,6 @@
-use Rattle.locale_category.proofs.BlockLaws.{going_start, going-line, going_next, next-less, going-refused, going-branch, going-closes, chain-begins, chain-falls, opens-fits, next_fits, closes-fits, going-long, going-chain, chain-less, going-chain-refused, going_end}
-use Rattle.locale_category.proofs.BranchLaws.{branch-start, branch-begins, used-some, used-refused, used-closed, used-branch, passed-refused, passed-stop}
-use Rattle.locale_category.proofs.ChainLaws.{chaining-start, in-branch, branch-falls, chaining-long, ends-fits, goes-fits, chain-refused, line-may, turn-refused, turn-ends, turn-goes, turn-less}
+use Rattle.locale_category.proofs.BlockLaws.{going_start, going-line, going_next, going-refused, going-branch, going-closes, chain-begins, chain-falls, opens-fits, next_fits, closes-fits, going-chain, going-chain-refused, going_end}
+use Rattle.locale_category.proofs.BranchLaws.{branch-start, used-some, used-refused, used-branch, passed-stop}
+use Rattle.locale_category.proofs.ChainLaws.{chaining-start, in-branch, branch-falls, chain-refused, line-may, turn-refused, turn-ends, turn-goes, turn-less}
 use borrow.Author.Rules.{rules}
 use Rattle.locale_category.proofs.+block_branch_end_chain.Goals as goal
 

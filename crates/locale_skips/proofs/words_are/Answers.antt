@@ -1,6 +1,5 @@
 -- `locale_skips::words_are` meets its contract: the first run, the second, and that no third follows.
-use Rattle.locale_skips.proofs.LineWordLaws.{same-to}
-use Rattle.locale_skips.proofs.LineWordLaws.{pair-first, pair-second, pair_then}
+use Rattle.locale_skips.proofs.LineWordLaws.{same-to, pair-first, pair-second, pair_then}
 use Rattle.locale_skips.proofs.words_are.Goals as goal
 
 pub returns-in-Other : goal.returns-in-Other
