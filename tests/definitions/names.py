@@ -42,4 +42,4 @@ def computed(crate):
 
 
 if __name__ == "__main__":
-    print(computed("Rattle·rules·specs"), end="")
+    print(computed("Rattle.rules"), end="")

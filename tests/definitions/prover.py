@@ -1,47 +1,50 @@
-"""prover.py: has `rt` prove theorems about the paper's definitions, in a scratch repository under target/, and tells which do not hold."""
-import os
+"""prover.py: has `rt` prove theorems about the paper's definitions, in a scratch repository outside of this one, and tells which do not hold."""
+import atexit
 import pathlib
 import re
 import shutil
 import subprocess
+import tempfile
 
 import names
 
 REPO = pathlib.Path(__file__).resolve().parents[2]
-SCRATCH = REPO / "target" / "definitions"
+# The gate refuses theorems that no crate of its repository has, so they stand elsewhere, until the run has ended.
+SCRATCH = pathlib.Path(tempfile.mkdtemp(prefix="zeharmeku-definitions-"))
+atexit.register(shutil.rmtree, SCRATCH, ignore_errors=True)
 MODULE_SIZE = 40  # theorems in one module
 
-HEADER = """use mathlib.Core.Path.{_≡_, refl}
+HEADER = """use mathlib.Core.Path.{◌≡◌, refl}
 use mathlib.Core.Bool.{Bool, true, false}
-use mathlib.Core.List.{List, [], _∷_, _++_}
+use mathlib.Core.List.{List, [], ◌∷◌, ◌++◌}
 use Prim.Native.Nat.{ℕ}
-use lib.ListN.{length, getD, take, drop, set, replicate}
-use Rattle·rules.proofs.Computed.{computed}
-use Rattle·rules.specs.Text.{bytes, Result, granted, refused}
-use Rattle·rules.specs.Meaning.{Meaning, item}
-use Rattle·rules.specs.Compile.{compileOf}
-use Rattle·rules.specs.Table.{sums, ends, doubled, mask, bucket, listing, starts, storedForm, gaps, meaningIn, accepted}
-use Rattle·rules.specs.Order.{less, equal, greater, signBytes}
-use Rattle·rules.specs.Charmap.{charmapOf}
-use Rattle·rules.specs.Calls.{compileCall, checkCall, stepCall, compareCall, keyCall, decodeCall, encodeCall, charmapCall, areaCall, directoryCall}
-use Rattle·rules.specs.Pairs.{pairsOf}
+use lib.ListN.{length, get_or, take, drop, set, replicate}
+use Rattle.rules.proofs.Computed.{computed}
+use Rattle.rules.specs.Text.{bytes, Result, granted, refused}
+use Rattle.rules.specs.Meaning.{Meaning, item}
+use Rattle.rules.specs.Compile.{compile_of}
+use Rattle.rules.specs.Table.{sums, ends, doubled, mask, bucket, listing, starts, stored_form, gaps, meaning_in, accepted}
+use Rattle.rules.specs.Order.{less, equal, greater, sign_bytes}
+use Rattle.rules.specs.Charmap.{charmap_of}
+use Rattle.rules.specs.Calls.{compile_call, check_call, step_call, compare_call, key_call, decode_call, encode_call, charmap_call, area_call, directory_call}
+use Rattle.rules.specs.Pairs.{pairs_of}
 
 -- what a source gives: its refusal, 0 for none, and its line; the meaning, or the numbers, if it is accepted
-abbrev refusalIn : {A : Type 0} → Result A → ℕ
-refusalIn (granted a) = 0
-refusalIn (refused n l) = n
+abbrev refusal_in : {A : Type 0} → Result A → ℕ
+refusal_in (granted a) = 0
+refusal_in (refused n l) = n
 
-abbrev lineIn : {A : Type 0} → Result A → ℕ
-lineIn (granted a) = 0
-lineIn (refused n l) = l
+abbrev line_in : {A : Type 0} → Result A → ℕ
+line_in (granted a) = 0
+line_in (refused n l) = l
 
-abbrev meaningFrom : Result Meaning → Meaning
-meaningFrom (granted m) = m
-meaningFrom (refused n l) = record { rules = []; items = [] }
+abbrev meaning_given : Result Meaning → Meaning
+meaning_given (granted m) = m
+meaning_given (refused n l) = record { rules = []; items = [] }
 
-abbrev numbersFrom : Result (List ℕ) → List ℕ
-numbersFrom (granted ns) = ns
-numbersFrom (refused n l) = []
+abbrev numbers_given : Result (List ℕ) → List ℕ
+numbers_given (granted ns) = ns
+numbers_given (refused n l) = []
 """
 
 
@@ -116,7 +119,7 @@ def prepare(crates):
         for part in ["src", "specs"] + (["proofs"] if name != "rules" else []):
             if (REPO / "crates" / name / part).is_dir():
                 shutil.copytree(REPO / "crates" / name / part, SCRATCH / "crates" / name / part)
-    write(SCRATCH / "crates/rules/proofs/Computed.antt", names.computed("Rattle·rules·specs"))
+    write(SCRATCH / "crates/rules/proofs/Computed.antt", names.computed("Rattle.rules"))
     write(SCRATCH / "crates/rules/proofs/Lib.antt", "pub mod Computed\n")
     for name, modules in crates.items():
         lines.append(f"{name}: rules")
@@ -129,7 +132,8 @@ def prepare(crates):
 
 # ---------------------------------------------------------------- the prover's answer
 
-ERROR = re.compile(r"^.*/crates/(\w+)/proofs/Rows(\d+)\.antt:(\d+):\d+: error: (.*)$")
+BEGINS = re.compile(r"^== (\w+)$")  # what is said of a crate
+ERROR = re.compile(r"^\S*\bproofs/Rows(\d+)\.antt:(\d+):\d+: error: (.*)$")
 
 
 def prove(crates):
@@ -137,23 +141,25 @@ def prove(crates):
     prepare(crates)
     try:
         done = subprocess.run(
-            ["rt", "check", *crates], cwd=SCRATCH, env=dict(os.environ, RT_CUT="0"), stdout=subprocess.PIPE, stderr=subprocess.STDOUT, text=True, check=False
+            ["rt", "all", "check"], cwd=SCRATCH, stdout=subprocess.PIPE, stderr=subprocess.STDOUT, text=True, check=False
         )
     except OSError as e:
         raise CouldNotCompute(f"rt: {e}") from e
-    failed, explained, lines = {}, set(), done.stdout.split("\n")
+    failed, explained, lines, crate = {}, set(), done.stdout.split("\n"), ""
     for at, line in enumerate(lines):
-        m = ERROR.match(line)
-        if m and m.group(1) in crates:
-            owner = crates[m.group(1)][int(m.group(2))].owners.get(int(m.group(3)))
+        begins, m = BEGINS.match(line), ERROR.match(line)
+        if begins:
+            crate = begins.group(1)
+        if m and crate in crates:
+            owner = crates[crate][int(m.group(1))].owners.get(int(m.group(2)))
             if owner is None:
                 raise CouldNotCompute(done.stdout)
             more = []
             while at + 1 + len(more) < len(lines) and lines[at + 1 + len(more)].startswith("  "):
                 more.append(lines[at + 1 + len(more)].strip())
-            failed.setdefault(owner, "\n".join([m.group(4), *more]))
-            explained.add(m.group(1))
-    refused = set(re.findall(r"^rt: (\w+) NOT PROVED", done.stdout, flags=re.M))
+            failed.setdefault(owner, "\n".join([m.group(3), *more]))
+            explained.add(crate)
+    refused = set(re.findall(r"^(\w+): failed", done.stdout.rpartition("\n== summary\n")[2], flags=re.M))
     if refused != explained or (done.returncode == 0) == bool(failed):
         raise CouldNotCompute(done.stdout)
     return failed

@@ -50,19 +50,19 @@ def meaning(levels, items):
 
 def meaning_parts(left, levels, items):
     """The parts of what a source gives, as (label, left side, right side)."""
-    given = f"(meaningFrom ({left}) .items)"
-    yield "levels", f"meaningFrom ({left}) .rules", rules(levels)
+    given = f"(meaning_given ({left})).items"
+    yield "levels", f"(meaning_given ({left})).rules", rules(levels)
     yield f"there being {len(items)} items", f"length {given}", len(items)
     for k, (chars, weights) in enumerate(items):
         label = " ".join("%04X" % c for c in chars) or "UNDEFINED"
-        yield f"item {k + 1}, {label}", f"getD {given} {k} (item [] [])", item(chars, weights)
+        yield f"item {k + 1}, {label}", f"get_or {given} {k} (item [] [])", item(chars, weights)
 
 
 def area_parts(left, ns):
     """The parts of what a charmap gives, sixteen bytes at a time."""
     for k in range(0, 512, 16):
         label = f"{'marks' if k > 255 else 'codes'} of {k % 256:02X} to {k % 256 + 15:02X}"
-        yield label, f"take 16 (drop {k} (numbersFrom ({left})))", numbers(ns[k : k + 16])
+        yield label, f"take 16 (drop {k} (numbers_given ({left})))", numbers(ns[k : k + 16])
 
 
 def size_of(levels, items):
@@ -159,7 +159,7 @@ class Book:
     def damaged(self, st):
         """A table's numbers, changed; with no table, none."""
         base = self.base(st, self.terms)
-        term = f"storedForm table-{base} []" if base and self.terms[base][0] == "Meaning" else f"table-{base}" if base else "[]"
+        term = f"stored_form table-{base} []" if base and self.terms[base][0] == "Meaning" else f"table-{base}" if base else "[]"
         for where, words in st.edits:
             what, *by = edit(where, words)
             if what == "set":
@@ -190,9 +190,9 @@ class Book:
         row, no = self.row(st), source_refusal(st)
         area, work = chosen.get("area", ROOMY), chosen.get("work", len(given) + 64)
         if "lent" in chosen:
-            self.lent(st, row, f"(compileCall {text(given)} (replicate {area} {FILLER}) (replicate {work} {FILLER}))", area, work)
+            self.lent(st, row, f"(compile_call {text(given)} (replicate {area} {FILLER}) (replicate {work} {FILLER}))", area, work)
         else:
-            left = f"compileOf {text(given)} {area} {work}"
+            left = f"compile_of {text(given)} {area} {work}"
             row.theorems.append((left, f"refused {no[0]} {no[1]}" if no else f"granted ({meaning(*meaning_lines(st))})"))
             row.source = left, given.count(b"\n")
             row.parts = [] if no else list(meaning_parts(left, *meaning_lines(st)))
@@ -203,12 +203,12 @@ class Book:
         levels, items = ([], []) if no else meaning_lines(st)
         size = 0 if no else size_of(levels, items)
         for part, n in (("refusal", no[0] if no else 0), ("line", no[1] if no else 0), ("size", size)):
-            row.theorems.append((f"{call} .{part}", str(n)))
-        row.theorems.append((f"{call} .work", numbers([0] * work)))
-        row.theorems.append((f"drop {size} ({call} .area)", numbers([FILLER] * (area - size))))
+            row.theorems.append((f"{call}.{part}", str(n)))
+        row.theorems.append((f"{call}.work", numbers([0] * work)))
+        row.theorems.append((f"drop {size} {call}.area", numbers([FILLER] * (area - size))))
         if not no:
-            row.theorems.append((f"accepted ({call} .area)", "true"))
-            row.theorems.append((f"meaningIn ({call} .area)", meaning(levels, items)))
+            row.theorems.append((f"accepted {call}.area", "true"))
+            row.theorems.append((f"meaning_in {call}.area", meaning(levels, items)))
 
     def charmap(self, st):
         given, words = self.framed(st)
@@ -218,9 +218,9 @@ class Book:
         if "lent" in chosen:
             n, line = no or (0, 0)
             after = numbers(ns + [FILLER] * (area - len(ns)))
-            row.theorems.append((f"charmapCall {text(given)} (replicate {area} {FILLER})", f"record {{ refusal = {n}; line = {line}; area = {after} }}"))
+            row.theorems.append((f"charmap_call {text(given)} (replicate {area} {FILLER})", f"record {{ refusal = {n}; line = {line}; area = {after} }}"))
         else:
-            left = f"charmapOf {text(given)} {area}"
+            left = f"charmap_of {text(given)} {area}"
             row.theorems.append((left, f"refused {no[0]} {no[1]}" if no else f"granted {numbers(ns)}"))
             row.source = left, given.count(b"\n")
             row.parts = [] if no else list(area_parts(left, ns))
@@ -233,7 +233,7 @@ class Book:
                 st.fail(f"no source {named}")
             files[part] = (self.sources[named] if named else b"") + bytes(st.inputs.get(part, b""))
         out = "".join(line + "\n" for where, line in st.expected).encode("ascii")
-        row.theorems.append(("pairsOf " + " ".join(text(files[part]) for part in FILES), numbers(out)))
+        row.theorems.append(("pairs_of " + " ".join(text(files[part]) for part in FILES), numbers(out)))
 
     # ---- the stored form of a table
 
@@ -249,13 +249,13 @@ class Book:
         """A whole stored form, and the meaning that is read back from it, whatever follows."""
         row, term = self.part(st)
         ns = [n for where, line in st.expected for n in counted(st, line)]
-        row.theorems.append((f"storedForm {term} []", numbers(ns)))
-        row.theorems.append((f"meaningIn {numbers(ns + [FILLER])}", term))
+        row.theorems.append((f"stored_form {term} []", numbers(ns)))
+        row.theorems.append((f"meaning_in {numbers(ns + [FILLER])}", term))
 
     def of_items(self, st):
         """A part of a stored form that follows from the items."""
         row, term = self.part(st)
-        row.theorems.append((f"{st.kind} ({term} .items)", numbers(counted(st, st.one()))))
+        row.theorems.append((f"{st.kind} ({term}).items", numbers(counted(st, st.one()))))
 
     ends = listing = starts = of_items
 
@@ -298,7 +298,7 @@ class Book:
         """The row of a call on a named table or map, and that as a term."""
         row = self.row(st)
         row.uses.append(name)
-        return row, f"(storedForm table-{name} [])" if self.terms[name][0] == "Meaning" else f"table-{name}"
+        return row, f"(stored_form table-{name} [])" if self.terms[name][0] == "Meaning" else f"table-{name}"
 
     def answered(self, st, row, left, shape, parts):
         """A row whose answer is a record: its refusal, and parts that are 0 in a refusal and else stand in the expected line."""
@@ -316,32 +316,32 @@ class Book:
             st.fail("expected is `< LEVEL AGREED` with `<`, `=` or `>`, or `refused N`")
         sign, level, agreed = m.groups() if m else ("=", 0, 0)
         answer = f"record {{ sign = {SIGNS[sign]}; level = {level}; agreed = {agreed} }}"
-        row.theorems.append((f"compareCall {table} {a} {b}", f"record {{ refusal = {no[0] if no else 0}; answer = {answer} }}"))
+        row.theorems.append((f"compare_call {table} {a} {b}", f"record {{ refusal = {no[0] if no else 0}; answer = {answer} }}"))
 
     def keys(self, st):
         """Two keys, as bytes."""
         found, words = strings_in(st)
         if len(found) != 2 or words != ["keys"] or st.one() not in SIGNS:
             st.fail('it is `keys "key" "key" -> <` with `<`, `=` or `>`')
-        self.row(st).theorems.append((f"signBytes {string(found[0])} {string(found[1])}", SIGNS[st.one()]))
+        self.row(st).theorems.append((f"sign_bytes {string(found[0])} {string(found[1])}", SIGNS[st.one()]))
 
     def step(self, st):
         row, table, (s,), words = self.call(st, 1, True)
         if len(words) != 1 or not words[0].isdigit():
             st.fail('it is `step TABLE "string" PLACE -> ITEM LENGTH`')
-        self.answered(st, row, f"stepCall {table} {s} {words[0]}", r"(\d+) (\d+)", ["place = {}", "size = {}"])
+        self.answered(st, row, f"step_call {table} {s} {words[0]}", r"(\d+) (\d+)", ["place = {}", "size = {}"])
 
     def check(self, st):
         row, table, _, words = self.call(st, 0, False)
         parts = ["levels = {}", "items = {}", "size = {}"]
-        self.answered(st, row, f"checkCall {table}", r"(\d+) levels (\d+) items (\d+) numbers", parts)
+        self.answered(st, row, f"check_call {table}", r"(\d+) levels (\d+) items (\d+) numbers", parts)
 
     def area(self, st):
         row, area, _, words = self.call(st, 0, False)
         no = refusal(st.one())
         if not no and st.one() != "accepted":
             st.fail("expected is `accepted` or `refused 11`")
-        row.theorems.append((f"areaCall {area}", str(no[0] if no else 0)))
+        row.theorems.append((f"area_call {area}", str(no[0] if no else 0)))
 
     def written(self, st, function):
         """A key, a decoding or an encoding into a room that held the filler."""
@@ -354,13 +354,13 @@ class Book:
         row.theorems.append((left, f"record {{ refusal = {no[0] if no else 0}; size = {len(out)}; room = {after} }}"))
 
     def key(self, st):
-        self.written(st, "keyCall")
+        self.written(st, "key_call")
 
     def decode(self, st):
-        self.written(st, "decodeCall")
+        self.written(st, "decode_call")
 
     def encode(self, st):
-        self.written(st, "encodeCall")
+        self.written(st, "encode_call")
 
     def directory(self, st):
         """A page, its headings and topics given as strings or as places in a run, into a list that held the filler."""
@@ -387,5 +387,5 @@ class Book:
         no = refusal(st.one())
         out = [] if no else counted(st, st.one())
         size = int(room[0]) if room else len(topics) // 2 + 2
-        left = f"directoryCall {table} {string(run)} {numbers(headings)} {numbers(topics)} (replicate {size} {FILLER})"
+        left = f"directory_call {table} {string(run)} {numbers(headings)} {numbers(topics)} (replicate {size} {FILLER})"
         row.theorems.append((left, f"record {{ refusal = {no[0] if no else 0}; list = {numbers(out + [FILLER] * (size - len(out)))} }}"))

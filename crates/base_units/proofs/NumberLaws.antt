@@ -1,8 +1,8 @@
 -- No two refusals have one number, and no two signs are told alike: so an answer that is an enum is determined by what it is on the paper.
+use Rattle.std.specs.Prelude.{if◌then◌else◌}
 use mathlib.Core.Path.{◌≡◌, refl, sym, ap, ◌∙◌}
 use Prim.Native.Nat.{ℕ}
 use native.Mathlib.Omega.{arith}
-use Rattle.rules.specs.Text.{if◌then◌else◌}
 use lib.Dec.{eqb}
 use Rattle.base_units.specs.Numbers.{number_of, sign_of}
 use Rattle.base_units.specs.declared.Sign.{Sign}

@@ -1,4 +1,5 @@
 -- What an entry gives: the tests of its functions, and that its refusal is the paper's.
+use Rattle.std.specs.Prelude.{if◌then◌else◌}
 use mathlib.Core.Path.{◌≡◌, refl, sym, ap, ◌∙◌, subst}
 use mathlib.Core.Bool.{Bool, true, false, not, ◌&&◌}
 use mathlib.Core.List.{List, [], ◌∷◌, ◌++◌}
@@ -9,7 +10,7 @@ use lib.ListN.{length}
 use lib.Dec.{ltb, leb}
 use borrow.Author.Tests.{leb-true, le-leb, leb-false, lt-leb, lt-ltb, le-ltb, not-true}
 use Rattle.base_lists.proofs.Bools.{and_left, by}
-use Rattle.rules.specs.Text.{if◌then◌else◌, every, ◌unless◌, lower, lowest, one_of}
+use Rattle.rules.specs.Text.{every, ◌unless◌, lower, lowest, one_of}
 use Rattle.rules.specs.Names.{names_refusal, hex_value, char_shaped, code_of, is_character, is_char_name}
 use Rattle.rules.specs.Tokens.{Token, token_at, the_name, is_range}
 use Rattle.rules.specs.Charmap.{Given, Mapping, counted, last_token, entry_line, area_of, no_code, is_given}

@@ -1,5 +1,6 @@
 // What a line between CHARMAP and END CHARMAP does.
 #![tactic(auto)]
+
 ghost use Rattle.std.specs.Prelude.{◌≡◌, false, ◌&&◌, ◌≤◌, ◌<◌, length, eqb, ltb};
 ghost use Rattle.rules.specs.Lines.{in_plain};
 ghost use Rattle.rules.specs.Tokens.{without_gaps, tokens_of, is_entry};

@@ -1,5 +1,6 @@
 // A charmap area given back: its check, decoding and encoding. Each public operation checks the area itself and has no `requires`.
 #![tactic(auto)]
+
 ghost use Rattle.std.specs.Prelude.{◌≡◌, true, map, ◌≤◌, length, take, drop, replicate};
 ghost use Rattle.rules.specs.Text.{every, within};
 ghost use Rattle.rules.specs.Names.{is_character};

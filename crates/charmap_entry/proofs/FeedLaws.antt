@@ -1,4 +1,5 @@
 -- The LFs of a line are those among its bytes, whatever its kind (line-fed); and the turns of the loop that counts them.
+use Rattle.std.specs.Prelude.{if◌then◌else◌}
 use mathlib.Core.Path.{◌≡◌, refl, ap, ◌∙◌}
 use mathlib.Core.Bool.{Bool, true, false}
 use mathlib.Core.List.{List, [], ◌∷◌}
@@ -9,7 +10,6 @@ use lib.Dec.{eqb}
 use borrow.Author.Tests.{eq-eqb, ne_eqb}
 use Rattle.base_lists.proofs.Bools.{by, cond_both}
 use Rattle.base_lists.proofs.Runs.{run, run-whole, run_none, run-cons}
-use Rattle.rules.specs.Text.{if◌then◌else◌}
 use Rattle.rules.specs.Names.{is_blank}
 use Rattle.rules.specs.Lines as paper
 use Rattle.rules.specs.Lines.{in_plain, in_comment, after, Scan, scan_start, dropped, fed, marked, takes_as_is, opens_comment, ends_entry, scan_escaped, scan, line_from, line_of}

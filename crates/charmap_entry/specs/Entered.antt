@@ -1,6 +1,6 @@
 -- A line between CHARMAP and END CHARMAP: an entry with its parts, or a plain line.
-use Rattle.std.specs.Prelude.{◌≡◌, Bool, true, false, not, ◌&&◌, ◌||◌, List, [], ◌∷◌, ◌++◌, ℕ, ◌+◌, ◌≤◌, ◌<◌, length, drop, eqb}
-use Rattle.rules.specs.Text.{if◌then◌else◌, every, same}
+use Rattle.std.specs.Prelude.{◌≡◌, Bool, true, false, not, ◌&&◌, ◌||◌, List, [], ◌∷◌, ◌++◌, ℕ, ◌+◌, ◌≤◌, ◌<◌, length, drop, eqb, if◌then◌else◌}
+use Rattle.rules.specs.Text.{every, same}
 use Rattle.rules.specs.Names.{is_blank, name_refusal, names_refusal, is_any_hex, digit, hex_value}
 use Rattle.rules.specs.Tokens.{is_text, gap, broken, word, name, Token, token, token_at, the_name, no_part, tokens_from, tokens_of, without_opening_gaps, is_range, is_entry}
 use Rattle.rules.specs.Charmap.{last_token}

@@ -1,5 +1,6 @@
 // A line between CHARMAP and END CHARMAP, from its first place on: whether it is an entry, and its parts.
 #![tactic(auto)]
+
 ghost use Rattle.std.specs.Prelude.{◌≡◌, ◌&&◌, ◌≤◌, length};
 ghost use Rattle.rules.specs.Text.{every};
 ghost use Rattle.rules.specs.Tokens.{is_text};

@@ -1,4 +1,5 @@
 -- The answers of the functions that end a header line: passed over, malformed, CHARMAP, and a character that is set.
+use Rattle.std.specs.Prelude.{if◌then◌else◌}
 use mathlib.Core.Path.{◌≡◌, refl, sym, ap, ◌∙◌, subst}
 use mathlib.Core.Bool.{Bool, true, false, not, ◌&&◌}
 use mathlib.Core.List.{List, [], ◌∷◌}
@@ -9,7 +10,7 @@ use lib.Dec.{eqb}
 use borrow.Author.Tests.{eqb-true}
 use Rattle.base_lists.proofs.Bools.{by, clash, and_left}
 use Rattle.base_lists.proofs.Lists.{length-zero}
-use Rattle.rules.specs.Text.{if◌then◌else◌, ◌unless◌, lower}
+use Rattle.rules.specs.Text.{◌unless◌, lower}
 use Rattle.rules.specs.Names.{is_blank}
 use Rattle.rules.specs.Tokens as kind
 use Rattle.rules.specs.Tokens.{is_text, Token, token, token_at, single, no_part, tokens_from, tokens_of, without_opening_gaps, without_gaps}

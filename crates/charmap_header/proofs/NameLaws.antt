@@ -1,4 +1,5 @@
 -- Header lines that begin with `<`: the name, the blank after it, and the byte after blanks.
+use Rattle.std.specs.Prelude.{if◌then◌else◌}
 use mathlib.Core.Path.{◌≡◌, refl, sym, ap, ◌∙◌, subst}
 use mathlib.Core.Bool.{Bool, true, false, ◌&&◌, ◌||◌, and-false, false≢true}
 use mathlib.Core.List.{List, [], ◌∷◌, ◌++◌, append_assoc, append-nil, append_cancel_right}
@@ -8,7 +9,7 @@ use lib.ListN.{length, drop}
 use lib.Dec.{eqb}
 use borrow.Author.Tests.{eqb-true, ne_eqb}
 use Rattle.base_lists.proofs.Bools.{by, and_intro}
-use Rattle.rules.specs.Text.{if◌then◌else◌, bytes, every, one_of, is, same, begins, ◌unless◌, lower}
+use Rattle.rules.specs.Text.{bytes, every, one_of, is, same, begins, ◌unless◌, lower}
 use Rattle.rules.specs.Names.{is_blank}
 use Rattle.rules.specs.Tokens as kind
 use Rattle.rules.specs.Tokens.{is_text, gap, broken, Token, token, the_name, lexed, no_part, lex, tokens_from, without_blanks, tokens_of, without_gaps}
@@ -40,7 +41,7 @@ use Rattle.text_specials.proofs.OpenLaws.{opening-blank}
 use Rattle.text_specials.proofs.TakenLaws.{blanks-drop}
 use Rattle.text_specials.proofs.LineTokenLaws.{gaps, blank-text, keyword-text}
 use Rattle.charmap_header.specs.Head.{signs_of, head_with, plain_marks_at, Plain, PassedOver, Malformed, Opening, NameOpens, Named, SignNamed, SignOpened, SetBy}
-use Rattle.charmap_header.proofs.FirstLaws.{first-token, some}
+use Rattle.charmap_header.proofs.FirstLaws.{first-token}
 use Rattle.charmap_header.proofs.SignLaws.{tokens_of-is, opens_sign, header_signs, header-kind, sign-past, sign-never, header-plain}
 use Rattle.charmap_header.proofs.OutcomeLaws.{outcome-none, outcome-open, outcome-other, line-bare, line-glued, line-blank}
 

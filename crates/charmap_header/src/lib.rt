@@ -1,5 +1,6 @@
 // A line of a charmap's header, from its first place on: what it changes, or its refusal.
 #![tactic(auto)]
+
 ghost use Rattle.std.specs.Prelude.{◌≡◌, ◌&&◌, ◌+◌, ◌≤◌, ◌<◌, length, eqb};
 ghost use Rattle.rules.specs.Tokens.{is_text, without_opening_gaps};
 ghost use Rattle.rules.specs.Lines.{in_plain};

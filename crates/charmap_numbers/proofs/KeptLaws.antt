@@ -1,4 +1,5 @@
 -- What the entries of a charmap give stays the 512 numbers of all entries as one byte after the other is given.
+use Rattle.std.specs.Prelude.{if◌then◌else◌}
 use mathlib.Core.Path.{◌≡◌, refl, sym, ap, ◌∙◌}
 use mathlib.Core.Bool.{Bool, true, false, not, ◌||◌}
 use mathlib.Core.List.Memᴰ
@@ -11,7 +12,7 @@ use lib.Dec.{eqb, ltb}
 use lib.Seq.{drop-cons, get_or-take, get_or-set_same, get_or-set_other, append_snoc, ext_get_or, length-take-le}
 use borrow.Author.Tests.{eqb-true, eqb-false, eq-eqb, ne_eqb, ltb-true, ltb-false}
 use Rattle.base_lists.proofs.Bools.{or-false-left, or-false-right, or-false-intro, clash, by}
-use Rattle.rules.specs.Text.{if◌then◌else◌, one_of}
+use Rattle.rules.specs.Text.{one_of}
 use Rattle.rules.specs.Charmap.{Given, no_code, counted, gives_byte, is_given, code_given, first_byte, encodes, area_of}
 use Rattle.rules.proofs.TextLaws.{one_of-append, one_of-get_d}
 use Rattle.rules.proofs.GivenLaws.{code-none}
@@ -45,7 +46,7 @@ by_byte b (g ∷ gs) h = by (eqb b g.byte)
     (λ t. record { entry = g; there = Memᴰ.head refl; byte = sym (eqb-true b g.byte t) })
     (λ t. let r = by_byte b gs (rw t at h) in record { entry = r.entry; there = Memᴰ.tail r.there; byte = r.byte })
 
-not_byte : {b : ℕ} {gs : List Given} {g : Given} → Memᴰ g gs → one_of (gives_byte b) gs ≡ false → g.byte ≡ b → ⊥
+not_byte : {b : ℕ} {g : Given} {gs : List Given} → Memᴰ g gs → one_of (gives_byte b) gs ≡ false → g.byte ≡ b → ⊥
 unfolding one_of gives_byte
 not_byte {b} (Memᴰ.head {x} {xs} e) h q = eqb-false b x.byte (or-false-left (eqb b x.byte) (one_of (gives_byte b) xs) h) (sym q ∙ ap (λ (y : Given). y.byte) e)
 not_byte {b} (Memᴰ.tail {x} {xs} m) h q = not_byte m (or-false-right (eqb b x.byte) (one_of (gives_byte b) xs) h) q
@@ -107,12 +108,12 @@ first-none (g ∷ gs) c h =
     rw (or-false-left (eqb c g.code) (one_of (of_code c) gs) h) (first-none gs c (or-false-right (eqb c g.code) (one_of (of_code c) gs) h))
 
 -- a code that no entry has is no byte's
-no_code : (gs : List Given) (c b : ℕ) → c < no_code → one_of (of_code c) gs ≡ false → c ≡ code_given gs b → ⊥
+no_code_lem : (gs : List Given) (c b : ℕ) → c < no_code → one_of (of_code c) gs ≡ false → c ≡ code_given gs b → ⊥
 unfolding one_of code_given
-no_code [] c b l h e = omega arith
-no_code (g ∷ gs) c b l h e = by (eqb b g.byte)
+no_code_lem [] c b l h e = omega arith
+no_code_lem (g ∷ gs) c b l h e = by (eqb b g.byte)
     (λ t. eqb-false c g.code (or-false-left (eqb c g.code) (one_of (of_code c) gs) h) (rw t at e))
-    (λ t. no_code gs c b l (or-false-right (eqb c g.code) (one_of (of_code c) gs) h) (rw t at e))
+    (λ t. no_code_lem gs c b l (or-false-right (eqb c g.code) (one_of (of_code c) gs) h) (rw t at e))
 
 one_of-none : (p : ℕ → Bool) (l : List ℕ) → ((i : ℕ) → i < length l → p (get_or l i 0) ≡ false) → one_of p l ≡ false
 unfolding one_of
@@ -134,7 +135,7 @@ has-given gs c k l = let n = area-codes gs in by (one_of (of_code c) gs)
     let e : c ≡ get_or (take 256 (area_of gs)) r.entry.byte 0 = sym (area-take gs r.entry.byte f ∙ k.once r.entry r.there ∙ r.code) in
     rw t (one_of-get_d (eqb c) (take 256 (area_of gs)) r.entry.byte 0 (omega arith) (eq-eqb c (get_or (take 256 (area_of gs)) r.entry.byte 0) e)))
     (λ t. rw t (one_of-none (eqb c) (take 256 (area_of gs)) (λ i h.
-    ne_eqb c (get_or (take 256 (area_of gs)) i 0) (λ q. no_code gs c i l t (q ∙ area-take gs i (omega arith))))))
+    ne_eqb c (get_or (take 256 (area_of gs)) i 0) (λ q. no_code_lem gs c i l t (q ∙ area-take gs i (omega arith))))))
 
 -- ## One more
 

@@ -1,6 +1,6 @@
 -- The 512 numbers of a charmap as its entries change them, one byte after the other (Rattle.rules.specs.Charmap has them of all entries).
-use Rattle.std.specs.Prelude.{Bool, not, List, ℕ, zero, suc, ◌+◌, take, drop, set, eqb}
-use Rattle.rules.specs.Text.{if◌then◌else◌, one_of}
+use Rattle.std.specs.Prelude.{Bool, not, List, ℕ, zero, suc, ◌+◌, take, drop, set, eqb, if◌then◌else◌}
+use Rattle.rules.specs.Text.{one_of}
 use Rattle.rules.specs.Charmap.{no_code}
 
 -- a byte has the code c

@@ -1,5 +1,6 @@
 // What the entries of a charmap give, kept as the 512 numbers of its area.
 #![tactic(auto)]
+
 ghost use Rattle.std.specs.Prelude.{◌≡◌, ◌+◌, ◌≤◌, ◌<◌, length};
 ghost use Rattle.rules.specs.Calls.{over};
 ghost use Rattle.charmap_numbers.specs.Giving.{has_code, one_for, with, with_range, any_taken};

@@ -1,4 +1,5 @@
 -- The whole of a charmap: each answer is the paper's.
+use Rattle.std.specs.Prelude.{if◌then◌else◌}
 use mathlib.Core.Path.{◌≡◌, refl, sym, ap, ◌∙◌, subst}
 use mathlib.Core.Bool.{not}
 use mathlib.Core.List.{List, []}
@@ -6,7 +7,7 @@ use Prim.Native.Nat.{ℕ, ◌≤◌, ◌<◌}
 use lib.ListN.{length}
 use lib.Dec.{eqb, ltb}
 use borrow.Author.Tests.{ne_eqb, lt-ltb, le-ltb}
-use Rattle.rules.specs.Text.{if◌then◌else◌, Result, granted, refused}
+use Rattle.rules.specs.Text.{Result, granted, refused}
 use Rattle.rules.specs.Charmap.{MapEnded, map_ended, area_of, charmap_of}
 use Rattle.rules.specs.Calls as calls
 use Rattle.rules.specs.Calls.{over, mapped_as, charmap_call}

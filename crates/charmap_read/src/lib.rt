@@ -1,5 +1,6 @@
 // The reader of charmaps: its header's lines, its body's lines, then the 512 numbers. `read` is public and has no `requires`.
 #![tactic(auto)]
+
 ghost use Rattle.std.specs.Prelude.{◌≡◌, [], ◌≤◌, length, replicate};
 ghost use Rattle.rules.specs.Charmap.{area_of};
 ghost use Rattle.rules.specs.Calls.{charmap_call};

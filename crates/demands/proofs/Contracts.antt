@@ -1,9 +1,10 @@
 -- What is proved of the code of each public operation: run on any arguments, it ends, and its answer and the areas that it leaves are as `Answered` in specs/
 -- says. It asks nothing of the caller. So the laws of this crate are about what the functions answer, and a contract that is weakened or given a `requires` is
--- refused here.
+-- refused here. `Wired` says that the names in the code mean the code of what it calls.
 use seplogic.Ra.Ura.{Ura}
 use base.Logic.{emp}
 use prog.Model.{Model}
+use prog.Wired.{Wired}
 use types.Logic.{Logic}
 use contract.Lifetimes.{Lfts}
 use contract.Monad.{fact}
@@ -51,42 +52,42 @@ module _ {M : Type 1} {𝓤 : Ura M} (𝓛 : Logic 𝓤) (𝓜 : Model 𝓤 𝓛
 
   -- In each of them a holds the parameters at entry, e those at exit, in the order of the signature.
 
-  pub compile-meets : Meets 𝓛 (compile.ended).signature (𝓡.run compile-code.routine)
+  pub compile-meets : Wired 𝓡.env compile-code.code → Meets 𝓛 (compile.ended).signature (𝓡.run (𝓡.env compile-code.name))
       (promises compile.ended (λ κs a r e. Compiles a.0.now a.1.0.now a.1.1.0.now r e.1.0.now e.1.1.0.now))
   compile-meets = compile-thm.met 𝓤 𝓛 𝓜 𝓡
 
-  pub check-meets : Meets 𝓛 (check.ended).signature (𝓡.run check-code.routine)
+  pub check-meets : Wired 𝓡.env check-code.code → Meets 𝓛 (check.ended).signature (𝓡.run (𝓡.env check-code.name))
       (promises check.ended (λ κs a r e. Checks a.0.now r))
   check-meets = check-thm.met 𝓤 𝓛 𝓜 𝓡
 
-  pub step-meets : Meets 𝓛 (step.ended).signature (𝓡.run step-code.routine)
+  pub step-meets : Wired 𝓡.env step-code.code → Meets 𝓛 (step.ended).signature (𝓡.run (𝓡.env step-code.name))
       (promises step.ended (λ κs a r e. Steps a.0.now a.1.0.now a.1.1.0 r))
   step-meets = step_thm.met 𝓤 𝓛 𝓜 𝓡
 
-  pub compare-meets : Meets 𝓛 (compare.ended).signature (𝓡.run compare-code.routine)
+  pub compare-meets : Wired 𝓡.env compare-code.code → Meets 𝓛 (compare.ended).signature (𝓡.run (𝓡.env compare-code.name))
       (promises compare.ended (λ κs a r e. Compares a.0.now a.1.0.now a.1.1.0.now r))
   compare-meets = compare-thm.met 𝓤 𝓛 𝓜 𝓡
 
-  pub key_meets : Meets 𝓛 (key.ended).signature (𝓡.run key-code.routine)
+  pub key_meets : Wired 𝓡.env key-code.code → Meets 𝓛 (key.ended).signature (𝓡.run (𝓡.env key-code.name))
       (promises key.ended (λ κs a r e. Keys a.0.now a.1.0.now a.1.1.0.now r e.1.1.0.now))
   key_meets = key-thm.met 𝓤 𝓛 𝓜 𝓡
 
-  pub read_meets : Meets 𝓛 (read.ended).signature (𝓡.run read-code.routine)
+  pub read_meets : Wired 𝓡.env read-code.code → Meets 𝓛 (read.ended).signature (𝓡.run (𝓡.env read-code.name))
       (promises read.ended (λ κs a r e. Reads a.0.now a.1.0.now r e.1.0.now))
   read_meets = read-thm.met 𝓤 𝓛 𝓜 𝓡
 
-  pub check-area-meets : Meets 𝓛 (check-area.ended).signature (𝓡.run check-area-code.routine)
+  pub check-area-meets : Wired 𝓡.env check-area-code.code → Meets 𝓛 (check-area.ended).signature (𝓡.run (𝓡.env check-area-code.name))
       (promises check-area.ended (λ κs a r e. ChecksArea a.0.now r))
   check-area-meets = check-area-thm.met 𝓤 𝓛 𝓜 𝓡
 
-  pub decode-meets : Meets 𝓛 (decode.ended).signature (𝓡.run decode-code.routine)
+  pub decode-meets : Wired 𝓡.env decode-code.code → Meets 𝓛 (decode.ended).signature (𝓡.run (𝓡.env decode-code.name))
       (promises decode.ended (λ κs a r e. Decodes a.0.now a.1.0.now a.1.1.0.now r e.1.1.0.now))
   decode-meets = decode-thm.met 𝓤 𝓛 𝓜 𝓡
 
-  pub encode-meets : Meets 𝓛 (encode.ended).signature (𝓡.run encode-code.routine)
+  pub encode-meets : Wired 𝓡.env encode-code.code → Meets 𝓛 (encode.ended).signature (𝓡.run (𝓡.env encode-code.name))
       (promises encode.ended (λ κs a r e. Encodes a.0.now a.1.0.now a.1.1.0.now r e.1.1.0.now))
   encode-meets = encode-thm.met 𝓤 𝓛 𝓜 𝓡
 
-  pub directory-meets : Meets 𝓛 (directory.ended).signature (𝓡.run directory-code.routine)
+  pub directory-meets : Wired 𝓡.env directory-code.code → Meets 𝓛 (directory.ended).signature (𝓡.run (𝓡.env directory-code.name))
       (promises directory.ended (λ κs a r e. Directs a.0.now a.1.0.now a.1.1.0.now a.1.1.1.0.now a.1.1.1.1.0.now r e.1.1.1.1.0.now))
   directory-meets = directory-thm.met 𝓤 𝓛 𝓜 𝓡

@@ -1,10 +1,11 @@
 -- What is proved of the code of each exported function: run on any arguments, it ends, and it leaves the paper's answer told in numbers, and the areas as the
--- paper has them (Rattle.zeharmeku.specs.Told). It asks nothing of the caller, and no second answer meets what it promises.
+-- paper has them (Rattle.zeharmeku.specs.Told). It asks nothing of the caller, and no second answer meets what it promises. `Wired` is as in `Contracts`.
 use mathlib.Core.Path.{◌≡◌, sym, ◌∙◌}
 use mathlib.Core.List.{List}
 use Prim.Native.Nat.{ℕ}
 use seplogic.Ra.Ura.{Ura}
 use prog.Model.{Model}
+use prog.Wired.{Wired}
 use types.Logic.{Logic}
 use contract.Running.{Running}
 use denote.Triple.Spec.{Meets}
@@ -47,43 +48,43 @@ module _ {M : Type 1} {𝓤 : Ura M} (𝓛 : Logic 𝓤) (𝓜 : Model 𝓤 𝓛
   -- In each of them a holds the parameters at entry, e those at exit, in the order of the signature; the last of them is the array for the
   -- answer, but for area and directory, which return their refusal.
 
-  pub compile-exported : Meets 𝓛 (compile.ended).signature (𝓡.run compile-code.routine)
+  pub compile-exported : Wired 𝓡.env compile-code.code → Meets 𝓛 (compile.ended).signature (𝓡.run (𝓡.env compile-code.name))
       (promises 𝓛 𝓜 𝓡 compile.ended (λ κs a r e. CompiledIs (compile_call a.0.now a.1.0.now a.1.1.0.now) a.1.1.1.0.now e.1.1.1.0.now e.1.0.now e.1.1.0.now))
   compile-exported = compile-thm.met 𝓤 𝓛 𝓜 𝓡
 
-  pub check-exported : Meets 𝓛 (check.ended).signature (𝓡.run check-code.routine)
+  pub check-exported : Wired 𝓡.env check-code.code → Meets 𝓛 (check.ended).signature (𝓡.run (𝓡.env check-code.name))
       (promises 𝓛 𝓜 𝓡 check.ended (λ κs a r e. e.1.0.now ≡ told (checked_numbers (check_call a.0.now)) a.1.0.now))
   check-exported = check-thm.met 𝓤 𝓛 𝓜 𝓡
 
-  pub step-exported : Meets 𝓛 (step.ended).signature (𝓡.run step-code.routine)
+  pub step-exported : Wired 𝓡.env step-code.code → Meets 𝓛 (step.ended).signature (𝓡.run (𝓡.env step-code.name))
       (promises 𝓛 𝓜 𝓡 step.ended (λ κs a r e. e.1.1.1.0.now ≡ told (stepped_numbers (step_call a.0.now a.1.0.now a.1.1.0)) a.1.1.1.0.now))
   step-exported = step_thm.met 𝓤 𝓛 𝓜 𝓡
 
-  pub compare-exported : Meets 𝓛 (compare.ended).signature (𝓡.run compare-code.routine)
+  pub compare-exported : Wired 𝓡.env compare-code.code → Meets 𝓛 (compare.ended).signature (𝓡.run (𝓡.env compare-code.name))
       (promises 𝓛 𝓜 𝓡 compare.ended (λ κs a r e. e.1.1.1.0.now ≡ told (compared_numbers (compare_call a.0.now a.1.0.now a.1.1.0.now)) a.1.1.1.0.now))
   compare-exported = compare-thm.met 𝓤 𝓛 𝓜 𝓡
 
-  pub key-exported : Meets 𝓛 (key.ended).signature (𝓡.run key-code.routine)
+  pub key-exported : Wired 𝓡.env key-code.code → Meets 𝓛 (key.ended).signature (𝓡.run (𝓡.env key-code.name))
       (promises 𝓛 𝓜 𝓡 key.ended (λ κs a r e. WrittenIs (key_call a.0.now a.1.0.now a.1.1.0.now) a.1.1.1.0.now e.1.1.1.0.now e.1.1.0.now))
   key-exported = key-thm.met 𝓤 𝓛 𝓜 𝓡
 
-  pub charmap-exported : Meets 𝓛 (charmap.ended).signature (𝓡.run charmap-code.routine)
+  pub charmap-exported : Wired 𝓡.env charmap-code.code → Meets 𝓛 (charmap.ended).signature (𝓡.run (𝓡.env charmap-code.name))
       (promises 𝓛 𝓜 𝓡 charmap.ended (λ κs a r e. MappedIs (charmap_call a.0.now a.1.0.now) a.1.1.0.now e.1.1.0.now e.1.0.now))
   charmap-exported = charmap-thm.met 𝓤 𝓛 𝓜 𝓡
 
-  pub area-exported : Meets 𝓛 (area.ended).signature (𝓡.run area-code.routine)
+  pub area-exported : Wired 𝓡.env area-code.code → Meets 𝓛 (area.ended).signature (𝓡.run (𝓡.env area-code.name))
       (promises 𝓛 𝓜 𝓡 area.ended (λ κs a r e. r ≡ area_call a.0.now))
   area-exported = area-thm.met 𝓤 𝓛 𝓜 𝓡
 
-  pub decode-exported : Meets 𝓛 (decode.ended).signature (𝓡.run decode-code.routine)
+  pub decode-exported : Wired 𝓡.env decode-code.code → Meets 𝓛 (decode.ended).signature (𝓡.run (𝓡.env decode-code.name))
       (promises 𝓛 𝓜 𝓡 decode.ended (λ κs a r e. WrittenIs (decode_call a.0.now a.1.0.now a.1.1.0.now) a.1.1.1.0.now e.1.1.1.0.now e.1.1.0.now))
   decode-exported = decode-thm.met 𝓤 𝓛 𝓜 𝓡
 
-  pub encode-exported : Meets 𝓛 (encode.ended).signature (𝓡.run encode-code.routine)
+  pub encode-exported : Wired 𝓡.env encode-code.code → Meets 𝓛 (encode.ended).signature (𝓡.run (𝓡.env encode-code.name))
       (promises 𝓛 𝓜 𝓡 encode.ended (λ κs a r e. WrittenIs (encode_call a.0.now a.1.0.now a.1.1.0.now) a.1.1.1.0.now e.1.1.1.0.now e.1.1.0.now))
   encode-exported = encode-thm.met 𝓤 𝓛 𝓜 𝓡
 
-  pub directory-exported : Meets 𝓛 (directory.ended).signature (𝓡.run directory-code.routine)
+  pub directory-exported : Wired 𝓡.env directory-code.code → Meets 𝓛 (directory.ended).signature (𝓡.run (𝓡.env directory-code.name))
       (promises 𝓛 𝓜 𝓡 directory.ended (λ κs a r e. DirectedIs (directory_call a.0.now a.1.0.now a.1.1.0.now a.1.1.1.0.now a.1.1.1.1.0.now) r e.1.1.1.1.0.now))
   directory-exported = directory-thm.met 𝓤 𝓛 𝓜 𝓡
 

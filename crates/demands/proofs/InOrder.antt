@@ -1,5 +1,6 @@
 -- Demand 1: "Bad input gets the numbered refusal of document 01, in its order": of each public operation, for every answer, its refusal is the first
 -- that is given of 01's list for it, or of 02's, and there is none on any other ground.
+use Rattle.std.specs.Prelude.{if◌then◌else◌}
 use mathlib.Core.Path.{◌≡◌, ap, ◌∙◌}
 use mathlib.Core.Bool.{not, ◌&&◌}
 use mathlib.Core.List.{List, [], ◌∷◌, map}
@@ -8,7 +9,7 @@ use lib.ListN.{length}
 use lib.Dec.{eqb, leb, ltb}
 use borrow.Author.Tests.{ltb-true, ltb-false, le-leb, lt-leb}
 use Rattle.base_lists.proofs.Bools.{by}
-use Rattle.rules.specs.Text.{if◌then◌else◌, ◌unless◌, within, every}
+use Rattle.rules.specs.Text.{◌unless◌, within, every}
 use Rattle.rules.specs.Names.{is_character}
 use Rattle.rules.specs.Meaning.{size_of}
 use Rattle.rules.specs.State.{start}

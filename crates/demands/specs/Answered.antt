@@ -1,7 +1,6 @@
 -- What each public operation promises, as a predicate of what it is lent, what it answers, and what is left where it writes: the `ensures` of its
 -- contract, word for word. `Contracts` in proofs/ shows that the contracts say this and nothing else, and that none asks anything of its caller.
-use Rattle.std.specs.Prelude.{◌≡◌, List, [], ◌∷◌, ℕ, ◌*◌, get_or, take, drop, eqb}
-use Rattle.rules.specs.Text.{if◌then◌else◌}
+use Rattle.std.specs.Prelude.{◌≡◌, List, [], ◌∷◌, ℕ, ◌*◌, get_or, take, drop, eqb, if◌then◌else◌}
 use Rattle.rules.specs.Meaning.{Meaning}
 use Rattle.rules.specs.State.{start}
 use Rattle.rules.specs.Source.{lines_from}

@@ -1,5 +1,6 @@
 // All lines of LC_COLLATE: blocks and conditional chains, two readers that call each other.
 #![tactic(auto)]
+
 ghost use Rattle.locale_category.specs.Blocks.{Starts, SomeUsed, ReadIs, InBranch, EndedIs, ChainBegins, ChainedIs};
 ghost use Rattle.std.specs.Prelude.{◌≡◌, ◌≤◌, length};
 ghost use Rattle.base_units.specs.Numbers.{number_of};

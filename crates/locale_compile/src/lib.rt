@@ -1,5 +1,6 @@
 // The compiler: the lines of a source, the ranks of its order lines, and its table. `compile` is public and has no `requires`.
 #![tactic(auto)]
+
 ghost use Rattle.std.specs.Prelude.{◌≡◌, ◌+◌, ◌≤◌, length, eqb};
 ghost use Rattle.rules.specs.Calls.{compile_call};
 ghost use Rattle.work_rows.specs.Cells.{cell};

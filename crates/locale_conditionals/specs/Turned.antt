@@ -1,6 +1,6 @@
 -- The conditional lines in LC_COLLATE as steps of the reader: what their functions are given.
-use Rattle.std.specs.Prelude.{Bool, true, false, not, List, ℕ}
-use Rattle.rules.specs.Text.{if◌then◌else◌, bytes}
+use Rattle.std.specs.Prelude.{Bool, true, false, not, List, ℕ, if◌then◌else◌}
+use Rattle.rules.specs.Text.{bytes}
 use Rattle.text_lines.specs.declared.Signs.{Signs}
 use Rattle.text_lines.specs.declared.Spot.{Spot}
 use Rattle.text_lines.specs.declared.LineEnd.{LineEnd}

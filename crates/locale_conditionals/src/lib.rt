@@ -1,6 +1,7 @@
 // The conditional lines in LC_COLLATE, as steps of the reader: define, undef, ifdef and ifndef in a used branch; elif, else and endif as the
 // open chain reads them.
 #![tactic(auto)]
+
 ghost use Rattle.std.specs.Prelude.{◌≡◌, not, ◌&&◌, ◌||◌, length};
 ghost use Rattle.rules.specs.Text.{bytes};
 ghost use Rattle.rules.specs.Tokens.{operands};

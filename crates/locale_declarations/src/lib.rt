@@ -1,6 +1,7 @@
 // Lines in LC_COLLATE that open with order_start, order_end, END, collating-symbol or collating-element, as steps of the reader. p is the
 // spot right after that word. Only the two that declare write to the work area.
 #![tactic(auto)]
+
 ghost use Rattle.std.specs.Prelude.{◌≡◌, ◌||◌, ◌≤◌, length, eqb};
 ghost use Rattle.rules.specs.Lines.{in_plain};
 ghost use Rattle.rules.specs.Tokens.{operands};

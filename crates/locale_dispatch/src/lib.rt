@@ -1,5 +1,6 @@
 // A line in LC_COLLATE in a used branch, from its place on: the dispatcher over its first word or name.
 #![tactic(auto)]
+
 ghost use Rattle.locale_sheet.specs.Sheets.{StepIs};
 ghost use Rattle.locale_dispatch.specs.Steps.{LineAt, WordAt};
 

@@ -1,5 +1,6 @@
 // The line `collating-element <name> from "<U..><U..>"`, from the spot after its first word on: its name and its characters, and both declared.
 #![tactic(auto)]
+
 ghost use Rattle.std.specs.Prelude.{◌≡◌, true, ◌+◌, ◌/◌, ◌≤◌, length};
 ghost use Rattle.rules.specs.Text.{every};
 ghost use Rattle.rules.specs.Names.{is_char_name};

@@ -1,4 +1,5 @@
 -- A rule read token by token: the number it comes to is the paper's code.
+use Rattle.std.specs.Prelude.{if◌then◌else◌}
 use mathlib.Core.Path.{◌≡◌, refl, sym, ◌∙◌}
 use mathlib.Core.Bool.{Bool, true, false, not, ◌&&◌, ◌||◌}
 use mathlib.Core.List.{List, [], ◌∷◌, ◌++◌}
@@ -8,7 +9,7 @@ use lib.ListN.{length}
 use lib.Dec.{eqb}
 use borrow.Author.Tests.{eqb-true, ne_eqb}
 use Rattle.base_lists.proofs.Bools.{by}
-use Rattle.rules.specs.Text.{if◌then◌else◌, within, bytes, same, is}
+use Rattle.rules.specs.Text.{within, bytes, same, is}
 use Rattle.rules.specs.Tokens.{comma, word, Token}
 use Rattle.rules.specs.OrderLines.{rule_word, rule_code}
 use Rattle.text_lines.specs.declared.Signs.{Signs}

@@ -1,7 +1,7 @@
 -- The rules of `order_start` as code reads them, one by one: what is still to come at a spot is the paper's own list
 -- (Rattle.rules.specs.OrderLines).
-use Rattle.std.specs.Prelude.{◌≡◌, true, false, List, [], ◌∷◌, map, ℕ, ◌≤◌, ◌<◌, length, eqb, leb}
-use Rattle.rules.specs.Text.{if◌then◌else◌, ◌unless◌, lower}
+use Rattle.std.specs.Prelude.{◌≡◌, true, false, List, [], ◌∷◌, map, ℕ, ◌≤◌, ◌<◌, length, eqb, leb, if◌then◌else◌}
+use Rattle.rules.specs.Text.{◌unless◌, lower}
 use Rattle.rules.specs.Lines.{in_plain}
 use Rattle.rules.specs.Tokens.{comma, Token, tokens_refusal}
 use Rattle.rules.specs.OrderLines.{split_at, rule_word, rule_code, rules_formed}

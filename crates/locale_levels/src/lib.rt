@@ -1,5 +1,6 @@
 // The operands of `order_start`: the rules of the levels, read from the spot after that word on with nothing kept.
 #![tactic(auto)]
+
 ghost use Rattle.std.specs.Prelude.{◌≡◌, false, not, ◌&&◌, ◌≤◌, length, leb, eqb};
 ghost use Rattle.std.proofs.lemmas.List.Edits.{sets};
 ghost use Rattle.rules.specs.Lines.{in_plain};

@@ -1,6 +1,6 @@
 -- The line reorder-after as code reads it: from the spot after its first word on, with what is declared and ordered so far in the work area.
-use Rattle.std.specs.Prelude.{◌≡◌, List, [], ◌∷◌, ℕ, length, eqb, leb}
-use Rattle.rules.specs.Text.{if◌then◌else◌, ◌unless◌, lower, lowest}
+use Rattle.std.specs.Prelude.{◌≡◌, List, [], ◌∷◌, ℕ, length, eqb, leb, if◌then◌else◌}
+use Rattle.rules.specs.Text.{◌unless◌, lower, lowest}
 use Rattle.rules.specs.Tokens.{name, Token, token_at, the_name, single, tokens_refusal}
 use Rattle.rules.specs.Meaning.{Rule}
 use Rattle.rules.specs.State.{Declaration, Subject, OrderLine}

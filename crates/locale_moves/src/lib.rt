@@ -1,6 +1,7 @@
 // The lines reorder-after and reorder-end in LC_COLLATE, as steps of the reader: they begin and end a block of order lines that move. p is the spot
 // right after that word. The work area stays as it is.
 #![tactic(auto)]
+
 ghost use Rattle.std.specs.Prelude.{◌≡◌, true, ◌||◌, ◌≤◌, length, eqb};
 ghost use Rattle.rules.specs.Lines.{in_plain};
 ghost use Rattle.rules.specs.Tokens.{operands};

@@ -1,5 +1,6 @@
 // How a line in LC_COLLATE that is read whole begins: blank, with a word, which keyword that is, with a name.
 #![tactic(auto)]
+
 ghost use Rattle.std.specs.Prelude.{◌≤◌, length, ◌≡◌};
 ghost use Rattle.text_lines.specs.Stream.{marks_left};
 ghost use Rattle.text_tokens.specs.Left.{word_in};

@@ -1,4 +1,5 @@
 -- What is told of a subject: by what is found in the store, and by its row.
+use Rattle.std.specs.Prelude.{if◌then◌else◌}
 use mathlib.Core.Path.{◌≡◌, refl, sym, ap, ◌∙◌, subst}
 use mathlib.Core.Bool.{Bool, true, false, not}
 use mathlib.Core.List.{List}
@@ -7,7 +8,6 @@ use native.Mathlib.Omega.{arith}
 use lib.ListN.{length}
 use borrow.Author.Tests.{eq-eqb, ne_eqb, le-leb, lt-leb}
 use Rattle.base_lists.proofs.Bools.{by, cond-true, cond-false}
-use Rattle.rules.specs.Text.{if◌then◌else◌}
 use Rattle.rules.specs.Names.{char_shaped, is_character}
 use Rattle.rules.specs.Meaning.{Rule}
 use Rattle.rules.specs.State.{in_block, Declaration, Subject, character, named, undefined, OrderLine}

@@ -1,4 +1,5 @@
 -- The refusal of an order line, by the facts of its subject.
+use Rattle.std.specs.Prelude.{if◌then◌else◌}
 use mathlib.Core.Path.{◌≡◌, refl, sym, ap, ◌∙◌}
 use mathlib.Core.Bool.{Bool, true, false, not, ◌&&◌, ◌||◌, or-true}
 use mathlib.Core.List.{List, [], ◌∷◌}
@@ -8,7 +9,7 @@ use lib.ListN.{length, length-map}
 use lib.Dec.{eqb, leb, ltb}
 use borrow.Author.Tests.{eq-eqb, ne_eqb, le-leb, lt-leb, lt-ltb, le-ltb}
 use Rattle.base_lists.proofs.Bools.{by}
-use Rattle.rules.specs.Text.{if◌then◌else◌, ◌unless◌, lower, lowest}
+use Rattle.rules.specs.Text.{◌unless◌, lower, lowest}
 use Rattle.rules.specs.Tokens.{Token, operands, tokens_refusal}
 use Rattle.rules.specs.State.{in_order, in_block, Subject, Chain, State}
 use Rattle.rules.specs.OrderLines.{operand_list, weights_refusal, order_line}

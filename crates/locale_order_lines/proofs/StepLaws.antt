@@ -1,4 +1,5 @@
 -- An order line as a step of the reader: what it is read as, the row that it is given, and what is held after it.
+use Rattle.std.specs.Prelude.{if◌then◌else◌}
 use mathlib.Core.Path.{◌≡◌, refl, sym, ap, ◌∙◌, subst}
 use mathlib.Core.Bool.{true, false, not, ◌||◌}
 use mathlib.Core.List.{List, [], ◌∷◌, ◌++◌}
@@ -9,7 +10,7 @@ use lib.Dec.{eqb, ltb}
 use borrow.Author.Tests.{eq-eqb, ne_eqb, eqb-true, eqb-false, ltb-true, not-true, not-false}
 use Rattle.base_lists.proofs.Bools.{by, clash}
 use Rattle.base_lists.proofs.Lists.{All}
-use Rattle.rules.specs.Text.{if◌then◌else◌, one_of}
+use Rattle.rules.specs.Text.{one_of}
 use Rattle.rules.specs.Tokens.{Token, tokens_refusal}
 use Rattle.rules.specs.Meaning.{Rule}
 use Rattle.rules.specs.State.{before_order, in_order, after_order, in_block, Subject, OrderLine, Chain, State, Outcome, gives, with_ordered}

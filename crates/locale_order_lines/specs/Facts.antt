@@ -1,6 +1,6 @@
 -- What is told of the subject of an order line, and the refusal that follows.
-use Rattle.std.specs.Prelude.{◌≡◌, Bool, true, false, not, ◌||◌, List, ℕ, ◌+◌, ◌-◌, ◌*◌, ◌/◌, ◌≤◌, ◌<◌, length, eqb, leb}
-use Rattle.rules.specs.Text.{if◌then◌else◌, one_of, lower}
+use Rattle.std.specs.Prelude.{◌≡◌, Bool, true, false, not, ◌||◌, List, ℕ, ◌+◌, ◌-◌, ◌*◌, ◌/◌, ◌≤◌, ◌<◌, length, eqb, leb, if◌then◌else◌}
+use Rattle.rules.specs.Text.{one_of, lower}
 use Rattle.rules.specs.Names.{is_character}
 use Rattle.rules.specs.Tokens.{operands, tokens_refusal}
 use Rattle.rules.specs.Meaning.{Rule}

@@ -1,7 +1,8 @@
 // An order line: what is told of its subject, its refusal, and where it comes to stand, in the order or in a block.
 #![tactic(auto)]
-ghost use Rattle.std.specs.Prelude.{◌≡◌, true, false, not, ◌&&◌, ◌||◌, [], ◌∷◌, ◌+◌, ◌-◌, ◌*◌, ◌/◌, ◌≤◌, ◌<◌, length, eqb, leb, ltb};
-ghost use Rattle.rules.specs.Text.{if◌then◌else◌, ◌unless◌, bytes, lowest};
+
+ghost use Rattle.std.specs.Prelude.{◌≡◌, true, false, not, ◌&&◌, ◌||◌, [], ◌∷◌, ◌+◌, ◌-◌, ◌*◌, ◌/◌, ◌≤◌, ◌<◌, length, eqb, leb, ltb, if◌then◌else◌};
+ghost use Rattle.rules.specs.Text.{◌unless◌, bytes, lowest};
 ghost use Rattle.rules.specs.Lines.{in_plain};
 ghost use Rattle.rules.specs.Tokens.{operands};
 ghost use Rattle.rules.specs.State.{in_order, in_block, undefined};

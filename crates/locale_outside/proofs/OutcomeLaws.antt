@@ -1,4 +1,5 @@
 -- What the paper makes of a line outside every category (Rattle.rules.specs.Source), by its tokens.
+use Rattle.std.specs.Prelude.{if◌then◌else◌}
 use mathlib.Core.Path.{◌≡◌, refl, sym, ap, ◌∙◌}
 use mathlib.Core.Bool.{Bool, true, false, not, ◌&&◌, and-false, false≢true}
 use mathlib.Core.List.{List, [], ◌∷◌}
@@ -8,7 +9,7 @@ use lib.ListN.{length, get_or}
 use lib.Dec.{eqb}
 use borrow.Author.Tests.{leb-true, lt-leb, ne_eqb, not-true}
 use Rattle.base_lists.proofs.Bools.{by, cond_both, and_left}
-use Rattle.rules.specs.Text.{if◌then◌else◌, bytes, within, every, same, is, begins, ◌unless◌, lower, lowest}
+use Rattle.rules.specs.Text.{bytes, within, every, same, is, begins, ◌unless◌, lower, lowest}
 use Rattle.rules.specs.Names.{names_refusal}
 use Rattle.rules.specs.Tokens.{is_text, word, name, as_is, Token, token, token_at, single, tokens_of, operands, tokens_refusal}
 use Rattle.rules.specs.Lines.{Chars, is_sign, sign_refusal, sign_set}

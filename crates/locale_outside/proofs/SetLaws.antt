@@ -1,4 +1,5 @@
 -- A line that sets one of the two characters, with the byte that is taken as it stands: from spots of the source to the paper's outcome.
+use Rattle.std.specs.Prelude.{if◌then◌else◌}
 use mathlib.Core.Path.{◌≡◌, sym, ap, ◌∙◌, subst}
 use mathlib.Core.Bool.{Bool, true, false, not, ◌&&◌, ◌||◌, and-false}
 use mathlib.Core.List.{List, [], ◌∷◌, ◌++◌}
@@ -8,7 +9,7 @@ use lib.ListN.{length}
 use lib.Dec.{eqb, ltb}
 use borrow.Author.Tests.{ne_eqb, ltb-true, ltb-false}
 use Rattle.base_lists.proofs.Bools.{by, and_left, and_right}
-use Rattle.rules.specs.Text.{if◌then◌else◌, bytes, within, every, ◌unless◌}
+use Rattle.rules.specs.Text.{bytes, within, every, ◌unless◌}
 use Rattle.rules.specs.Names.{is_blank, is_visible}
 use Rattle.rules.specs.Tokens.{is_text, word, as_is, Token, token, tokens_of, operands, single}
 use Rattle.rules.specs.Lines as paper

@@ -1,7 +1,7 @@
 -- One line of a locale source outside every category: what the paper makes of it (Rattle.rules.specs.Source), for every state in which the
 -- line may stand.
-use Rattle.std.specs.Prelude.{◌≡◌, Bool, true, false, ◌&&◌, ◌||◌, List, [], ℕ, ◌+◌, ◌≤◌, ◌<◌, length, drop}
-use Rattle.rules.specs.Text.{if◌then◌else◌, bytes, within, every, is, begins}
+use Rattle.std.specs.Prelude.{◌≡◌, Bool, true, false, ◌&&◌, ◌||◌, List, [], ℕ, ◌+◌, ◌≤◌, ◌<◌, length, drop, if◌then◌else◌}
+use Rattle.rules.specs.Text.{bytes, within, every, is, begins}
 use Rattle.rules.specs.Lines.{line_of}
 use Rattle.rules.specs.State.{before_categories, in_other_category, before_order, State, with_chars, with_place, in_phase, is_outside, gives}
 use Rattle.rules.specs.Source.{is_capital, line_outcome, signs}

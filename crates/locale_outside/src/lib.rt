@@ -1,5 +1,6 @@
 // The lines of a locale source outside every category: one of them, and all up to LC_COLLATE or to the end.
 #![tactic(auto)]
+
 ghost use Rattle.std.specs.Prelude.{◌≡◌, ◌≤◌, ◌<◌, ◌+◌, length};
 ghost use Rattle.rules.specs.Text.{begins};
 ghost use Rattle.rules.specs.Lines.{in_plain};

@@ -1,4 +1,5 @@
 -- How many order lines there can be: no more than there are rows.
+use Rattle.std.specs.Prelude.{if◌then◌else◌}
 use mathlib.Core.Path.{◌≡◌}
 use mathlib.Core.List.{List, [], ◌∷◌}
 use Prim.Native.Nat.{ℕ, zero, suc, ◌+◌, ◌/◌, ◌≤◌, ◌<◌}
@@ -8,7 +9,6 @@ use lib.Dec.{eqb}
 use borrow.Author.Tests.{eqb-true, eqb-false}
 use Rattle.base_lists.proofs.Bools.{cond_both, cond-by}
 use Rattle.base_lists.proofs.Lists.{All}
-use Rattle.rules.specs.Text.{if◌then◌else◌}
 use Rattle.rules.specs.Meaning.{Rule}
 use Rattle.rules.specs.State.{Declaration, OrderLine}
 use Rattle.text_lines.specs.declared.Signs.{Signs}

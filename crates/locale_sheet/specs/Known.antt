@@ -1,8 +1,8 @@
 -- What the lines so far have declared and ordered (Rattle.rules.specs.State), as the work area holds it: what is declared stands in the store
 -- (Rattle.work_store), the order lines in their list (Rattle.work_order), and their weights are read again from the source.
-use Rattle.std.specs.Prelude.{◌≡◌, Bool, true, false, ◌&&◌, ◌||◌, List, [], ◌∷◌, map, ℕ, ◌+◌, ◌*◌, ◌/◌, ◌%◌, ◌≤◌, ◌<◌, length, leb, eqb}
+use Rattle.std.specs.Prelude.{◌≡◌, Bool, true, false, ◌&&◌, ◌||◌, List, [], ◌∷◌, map, ℕ, ◌+◌, ◌*◌, ◌/◌, ◌%◌, ◌≤◌, ◌<◌, length, leb, eqb, if◌then◌else◌}
 use Rattle.base_lists.proofs.Lists.{All}
-use Rattle.rules.specs.Text.{if◌then◌else◌, one_of}
+use Rattle.rules.specs.Text.{one_of}
 use Rattle.rules.specs.Tokens.{Token, operands, tokens_refusal}
 use Rattle.rules.specs.Lines.{in_plain}
 use Rattle.rules.specs.Meaning.{Rule}

@@ -1,6 +1,6 @@
 -- The paper's state inside LC_COLLATE (Rattle.rules.specs.State), as the work area and a sheet hold it, and what a line does to it.
-use Rattle.std.specs.Prelude.{◌≡◌, Bool, true, false, ◌||◌, List, [], ◌∷◌, ◌++◌, map, ℕ, ◌+◌, ◌*◌, ◌/◌, ◌≤◌, ◌<◌, length, get_or, eqb}
-use Rattle.rules.specs.Text.{if◌then◌else◌, one_of}
+use Rattle.std.specs.Prelude.{◌≡◌, Bool, true, false, ◌||◌, List, [], ◌∷◌, ◌++◌, map, ℕ, ◌+◌, ◌*◌, ◌/◌, ◌≤◌, ◌<◌, length, get_or, eqb, if◌then◌else◌}
+use Rattle.rules.specs.Text.{one_of}
 use Rattle.rules.specs.Tokens.{operands}
 use Rattle.rules.specs.Meaning.{Rule}
 use Rattle.rules.specs.State.{before_order, after_order, in_block, between_categories, Chain, Subject, State, in_collate, to_phase, Outcome, gives}

@@ -1,5 +1,6 @@
 // What is known between two lines in LC_COLLATE, in the work area and beside it, and what a line may do to it: the contract of every line function.
 #![tactic(auto)]
+
 use base_units::Refusal;
 use text_lines::LineEnd;
 use work_order::Order;

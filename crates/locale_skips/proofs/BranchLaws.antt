@@ -1,4 +1,5 @@
 -- The lines of an unused branch: what each kind of line does there, and the turns of the loop over them.
+use Rattle.std.specs.Prelude.{if◌then◌else◌}
 use mathlib.Core.Path.{◌≡◌, refl, sym, ap, ◌∙◌, subst}
 use mathlib.Core.Bool.{Bool, true, false, and-false, or-true, true≢false}
 use mathlib.Core.List.{List, [], ◌∷◌}
@@ -8,7 +9,7 @@ use lib.ListN.{length, get_or, drop}
 use lib.Dec.{eqb, ltb}
 use borrow.Author.Tests.{leb-true, lt-ltb, le-ltb, eq-eqb, ne_eqb}
 use Rattle.base_lists.proofs.Bools.{cond-true, cond-false}
-use Rattle.rules.specs.Text.{if◌then◌else◌, is, ◌unless◌}
+use Rattle.rules.specs.Text.{is, ◌unless◌}
 use Rattle.rules.specs.Tokens.{plain_marks, words_of}
 use Rattle.rules.specs.State.{before_order, between_categories, in_other_category, Chain, State, with_blocks, in_phase, in_collate, Outcome, gives}
 use Rattle.rules.specs.Conditionals.{blocks, chain, is_unused}

@@ -1,4 +1,5 @@
 -- The lines of another category: the END line of its name, and the turns of the loop to it.
+use Rattle.std.specs.Prelude.{if◌then◌else◌}
 use mathlib.Core.Path.{◌≡◌, refl, sym, subst, ◌∙◌}
 use mathlib.Core.Bool.{Bool, true, false}
 use mathlib.Core.List.{List}
@@ -7,7 +8,7 @@ use native.Mathlib.Omega.{arith}
 use lib.ListN.{length}
 use borrow.Author.Tests.{eqb-true, ne_eqb, lt-leb}
 use Rattle.base_lists.proofs.Bools.{cond-true}
-use Rattle.rules.specs.Text.{if◌then◌else◌, is}
+use Rattle.rules.specs.Text.{is}
 use Rattle.rules.specs.State.{between_categories, in_other_category, State, in_phase, to_phase, gives}
 use Rattle.rules.specs.Conditionals.{is_unused}
 use Rattle.rules.specs.Source.{signs, other_line, unused_line, whole_line, line_outcome}

@@ -1,7 +1,7 @@
 -- The words of a line that is passed over (Rattle.rules.specs.Tokens), as code reads them from a spot on: its marks with no escape before
 -- them, and runs of those between blanks.
-use Rattle.std.specs.Prelude.{◌≡◌, Bool, false, ◌&&◌, List, [], ◌∷◌, ℕ, ◌≤◌, ◌<◌, length, get_or, eqb}
-use Rattle.rules.specs.Text.{if◌then◌else◌, same}
+use Rattle.std.specs.Prelude.{◌≡◌, Bool, false, ◌&&◌, List, [], ◌∷◌, ℕ, ◌≤◌, ◌<◌, length, get_or, eqb, if◌then◌else◌}
+use Rattle.rules.specs.Text.{same}
 use Rattle.rules.specs.Names.{is_blank}
 use Rattle.rules.specs.Tokens.{without_blanks, plain_marks, words_of}
 use Rattle.text_lines.specs.declared.Signs.{Signs}

@@ -1,5 +1,6 @@
 // The lines that are passed over: an unused branch, another category; the words of such a line.
 #![tactic(auto)]
+
 ghost use Rattle.std.specs.Prelude.{◌≡◌, ◌≤◌, ◌<◌, length};
 ghost use Rattle.rules.specs.Text.{same};
 ghost use Rattle.locale_skips.specs.Words.{plain_left, words_left, first_word, are_two, PlainIs, Skips, ComparedIs};

@@ -1,5 +1,6 @@
 // All lines of a locale source: those before LC_COLLATE, its own, and those after it.
 #![tactic(auto)]
+
 ghost use Rattle.text_specials.specs.Signed.{Visible};
 ghost use Rattle.locale_outside.specs.Outside.{signs_of};
 ghost use Rattle.locale_skips.specs.Passing.{Begins};

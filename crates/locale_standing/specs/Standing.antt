@@ -1,6 +1,6 @@
 -- What stands, by what the work area holds as declared (Rattle.work_store.specs.Store): the paper's stands is over its own declarations.
-use Rattle.std.specs.Prelude.{◌≡◌, Bool, true, List, [], ◌∷◌, map, ℕ, ◌≤◌, length, eqb}
-use Rattle.rules.specs.Text.{if◌then◌else◌, every}
+use Rattle.std.specs.Prelude.{◌≡◌, Bool, true, List, [], ◌∷◌, map, ℕ, ◌≤◌, length, eqb, if◌then◌else◌}
+use Rattle.rules.specs.Text.{every}
 use Rattle.rules.specs.Names.{is_character}
 use Rattle.rules.specs.Lines.{in_name, quoted}
 use Rattle.rules.specs.Tokens.{name, quote}

@@ -1,5 +1,6 @@
 // The operands of an order line: whether what they name stands (a character, or a declared name), their refusal, and how many there are.
 #![tactic(auto)]
+
 ghost use Rattle.std.specs.Prelude.{◌≡◌, true, false, [], ◌≤◌, length};
 ghost use Rattle.rules.specs.Lines.{in_plain, quoted};
 ghost use Rattle.rules.specs.Tokens.{operands};

@@ -1,5 +1,6 @@
 // The line `collating-symbol <name>`, from the spot after its first word on: its name, whether that is new, and its declaration.
 #![tactic(auto)]
+
 ghost use Rattle.std.specs.Prelude.{◌≡◌, true, false, ◌≤◌, length};
 ghost use Rattle.rules.specs.Lines.{in_plain};
 ghost use Rattle.rules.specs.Tokens.{operands};

@@ -1,4 +1,5 @@
 -- The paper's five lines that name a toggle, from what `name_toggle` tells of their operand.
+use Rattle.std.specs.Prelude.{if◌then◌else◌}
 use mathlib.Core.Path.{◌≡◌, sym, ap, ◌∙◌}
 use mathlib.Core.Logic.{◌⊎◌, inl, inr}
 use mathlib.Core.Bool.{Bool, true, false, not, ◌&&◌, ◌||◌}
@@ -6,7 +7,7 @@ use mathlib.Core.List.{List, ◌∷◌}
 use Prim.Native.Nat.{ℕ}
 use lib.ListN.{length, drop}
 use lib.Dec.{ltb}
-use Rattle.rules.specs.Text.{if◌then◌else◌, lower, ◌unless◌}
+use Rattle.rules.specs.Text.{lower, ◌unless◌}
 use Rattle.rules.specs.Tokens.{Token, token_at, tokens_refusal}
 use Rattle.rules.specs.State.{Chain, Toggle, State, with_blocks, Outcome, gives}
 use Rattle.rules.specs.Conditionals.{is_on, turned, toggle_refusal, blocks, chain, inmost, define_line, if_line, elif_line}

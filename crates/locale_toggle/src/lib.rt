@@ -1,5 +1,6 @@
 // The operand of `define T`, `undef T`, `ifdef T`, `ifndef T` and `elif T`: the toggle T is looked up, and kept from then on.
 #![tactic(auto)]
+
 ghost use Rattle.std.specs.Prelude.{◌≡◌};
 ghost use Rattle.rules.specs.Tokens.{operands};
 ghost use Rattle.text_tokens.specs.Left.{tokens_left};

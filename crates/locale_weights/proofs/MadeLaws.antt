@@ -1,5 +1,6 @@
 -- What the tokens of a line are made of: only a name and quotes have names; a word has any bytes, a separator none, what else there is at
 -- most one.
+use Rattle.std.specs.Prelude.{if◌then◌else◌}
 use mathlib.Core.Path.{◌≡◌, refl, sym, ap, ◌∙◌}
 use mathlib.Core.Bool.{Bool, true, false, ◌&&◌, ◌||◌}
 use mathlib.Core.List.{List, [], ◌∷◌}
@@ -10,7 +11,7 @@ use lib.Dec.{eqb, leb}
 use borrow.Author.Tests.{eqb-true, leb-true}
 use Rattle.base_lists.proofs.Bools.{cond_both, and_intro, and_left, and_right}
 use Rattle.base_lists.proofs.Lists.{length-zero}
-use Rattle.rules.specs.Text.{if◌then◌else◌, every}
+use Rattle.rules.specs.Text.{every}
 use Rattle.rules.specs.Tokens.{gap, semi, comma, word, Token, token, is_solid, without_gaps}
 use Rattle.rules.specs.OrderLines.{is_names}
 use Rattle.rules.proofs.TextLaws.{every-head, every-tail}

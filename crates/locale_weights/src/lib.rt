@@ -1,5 +1,6 @@
 // The operands of an order line: what stands between `;` and `;`, read one by one from a spot on with nothing kept.
 #![tactic(auto)]
+
 ghost use Rattle.std.specs.Prelude.{◌≡◌, ◌≤◌, length};
 ghost use Rattle.rules.specs.Lines.{in_plain};
 ghost use Rattle.locale_weights.specs.Weights.{TailIs, WeightIs};

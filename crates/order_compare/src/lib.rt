@@ -1,6 +1,7 @@
 // The public step and comparison. A comparison goes level after level, then by code points; it cuts the strings into elements as far as
 // the first level takes it, where that is walked forward.
 #![tactic(auto)]
+
 ghost use Rattle.std.specs.Prelude.{◌≡◌, [], ◌∷◌, ◌*◌, ◌≤◌, length};
 ghost use Rattle.rules.specs.Order.{sign_ℕ, codes, answer_from, compare_of};
 ghost use Rattle.rules.specs.Table.{meaning_in};

@@ -1,4 +1,5 @@
 -- The first weight of a part, and the answer of the directory, refusal by refusal.
+use Rattle.std.specs.Prelude.{if◌then◌else◌}
 use mathlib.Core.Path.{◌≡◌, sym, ap, ◌∙◌}
 use mathlib.Core.Bool.{Bool, true, false, not, ◌&&◌, ◌||◌}
 use mathlib.Core.List.{List, map}
@@ -9,7 +10,7 @@ use lib.Seq.{length-take-le}
 use lib.Dec.{leb, ltb}
 use borrow.Author.Tests.{lt-ltb, le-ltb, le-leb, lt-leb, leb-true, not-true, not-false}
 use Rattle.base_lists.proofs.Bools.{and_left, and_right}
-use Rattle.rules.specs.Text.{if◌then◌else◌, every, granted, refused}
+use Rattle.rules.specs.Text.{every, granted, refused}
 use Rattle.rules.specs.Meaning as meaning
 use Rattle.rules.specs.Table.{accepted, meaning_in}
 use Rattle.rules.specs.Order.{good_string}

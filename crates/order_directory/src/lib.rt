@@ -1,5 +1,6 @@
 // The directory of an A to Z page: which heading each topic belongs to, by the first weights that their strings have at level 1.
 #![tactic(auto)]
+
 ghost use Rattle.std.specs.Prelude.{◌≡◌, true, ◌&&◌, map, ◌≤◌, ◌<◌, length};
 ghost use Rattle.rules.specs.Text.{every};
 ghost use Rattle.rules.specs.Table.{accepted, meaning_in};

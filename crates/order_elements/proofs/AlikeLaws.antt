@@ -1,5 +1,6 @@
 -- What begins alike is alike, of the definitions alone: four characters have one element, and an element gives two walks that stand level the
 -- same entries.
+use Rattle.std.specs.Prelude.{if◌then◌else◌}
 use mathlib.Core.Path.{◌≡◌, refl, ap, ◌∙◌}
 use mathlib.Core.Bool.{Bool, true, ◌&&◌}
 use mathlib.Core.List.{List, [], ◌∷◌, ◌++◌}
@@ -7,7 +8,7 @@ use Prim.Native.Nat.{ℕ, suc, ◌+◌, ◌≤◌}
 use native.Mathlib.Omega.{arith}
 use lib.ListN.{length}
 use lib.Dec.{leb}
-use Rattle.rules.specs.Text.{if◌then◌else◌, every, begins}
+use Rattle.rules.specs.Text.{every, begins}
 use Rattle.rules.specs.Meaning.{Item, count_all, good_item}
 use Rattle.rules.specs.Order.{Step, longest, undefined_from, step_of, Entry, entries_from}
 use Rattle.rules.proofs.TextLaws.{every-head, every-tail}

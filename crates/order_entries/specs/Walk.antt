@@ -1,7 +1,6 @@
 -- What a walk over a level's entries has still to come, and what its operations give.
-use Rattle.std.specs.Prelude.{◌≡◌, Bool, true, ◌&&◌, List, [], ◌∷◌, map, reverse, ℕ, ◌+◌, ◌≤◌, ◌<◌, length, take, drop, eqb}
+use Rattle.std.specs.Prelude.{◌≡◌, Bool, true, ◌&&◌, List, [], ◌∷◌, map, reverse, ℕ, ◌+◌, ◌≤◌, ◌<◌, length, take, drop, eqb, if◌then◌else◌}
 use Rattle.base_lists.proofs.Lists.{All}
-use Rattle.rules.specs.Text.{if◌then◌else◌}
 use Rattle.rules.specs.Meaning.{Rule}
 use Rattle.rules.specs.Table.{accepted, meaning_in}
 use Rattle.rules.specs.Order as order

@@ -1,5 +1,6 @@
 // The entries of a level, one after the other in the direction of its rule, and the comparison of two such lists.
 #![tactic(auto)]
+
 ghost use Rattle.std.specs.Prelude.{◌≡◌, cond, true, min, ◌≤◌, ◌<◌, length, get_or};
 ghost use Rattle.rules.specs.Order.{sign_entry};
 ghost use Rattle.base_units.specs.Numbers.{sign_of};

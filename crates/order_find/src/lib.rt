@@ -6,6 +6,7 @@
 // does not come before the next four characters. It is the element if the string begins with all of it; else no item that stands there is longer
 // than what the two share, and the search goes on for that beginning. Most places need no search, none more than four.
 #![tactic(auto)]
+
 ghost use Rattle.std.specs.Prelude.{◌≡◌, true, [], ◌+◌, ◌≤◌, ◌<◌, length, get_or, take, drop};
 ghost use Rattle.rules.specs.Text.{every};
 ghost use Rattle.rules.specs.Names.{is_character};

@@ -2,6 +2,7 @@
 // elements is kept: the string is cut again for each level. A level that is walked backward is written from its end towards its beginning, since the
 // string is cut from its beginning on, where elements are matched.
 #![tactic(auto)]
+
 ghost use Rattle.std.specs.Prelude.{◌≡◌, true, [], ◌+◌, ◌*◌, ◌≤◌, ◌<◌, length};
 ghost use Rattle.base_lists.proofs.Runs.{run};
 ghost use Rattle.rules.specs.Meaning.{count_all};

@@ -1,6 +1,7 @@
 // What the pairs program prints, as bytes: numbers, and the lines made of them, each written into a lent buffer from a place on. Every
 // function answers the place behind what it wrote.
 #![tactic(auto)]
+
 ghost use Rattle.std.specs.Prelude.{◌≡◌, [], ◌∷◌, ◌+◌, ◌≤◌, length};
 ghost use Rattle.rules.specs.Pairs.{digits_in, decimal, sign_byte, compared_line, refused_line, file_line};
 ghost use Rattle.base_units.specs.Numbers.{sign_of};

@@ -1,6 +1,5 @@
 -- What is still to be printed, from what is kept of the input so far and the bytes to come; and what the functions that take a piece give.
-use Rattle.std.specs.Prelude.{◌≡◌, List, [], ◌∷◌, ◌++◌, map, ℕ, zero, suc, ◌+◌, ◌-◌, ◌≤◌, ◌<◌, length, take, drop, eqb}
-use Rattle.rules.specs.Text.{if◌then◌else◌}
+use Rattle.std.specs.Prelude.{◌≡◌, List, [], ◌∷◌, ◌++◌, map, ℕ, zero, suc, ◌+◌, ◌-◌, ◌≤◌, ◌<◌, length, take, drop, eqb, if◌then◌else◌}
 use Rattle.rules.specs.Meaning.{Meaning}
 use Rattle.rules.specs.Pairs.{texts_from, text_of, pair_line, pair_lines, all_pairs}
 use Rattle.order_keys.specs.Writing.{Puts}

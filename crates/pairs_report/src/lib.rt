@@ -1,6 +1,7 @@
 // The report of the pairs program, from its input as it arrives in pieces: of each text the first 4,097 bytes are kept, which decide it, and
 // a pair is printed when its second text ends.
 #![tactic(auto)]
+
 ghost use Rattle.std.specs.Prelude.{◌≡◌, true, [], ◌+◌, ◌≤◌, ◌<◌, length, take};
 ghost use Rattle.rules.specs.Text.{granted};
 ghost use Rattle.rules.specs.Table.{accepted, meaning_in};

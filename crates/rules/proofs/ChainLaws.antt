@@ -1,4 +1,5 @@
 -- Conditional chains (specs/Conditionals), 01: "Of one chain at most one branch is used, the first whose test holds. No branch may follow `else`."
+use Rattle.std.specs.Prelude.{if◌then◌else◌}
 use mathlib.Core.Path.{◌≡◌, refl, sym, ap, ◌∙◌}
 use mathlib.Core.Bool.{Bool, true, false, not, ◌&&◌, ◌||◌, and-true, or-true, false≢true}
 use mathlib.Core.List.{List, [], ◌∷◌, map}
@@ -8,7 +9,6 @@ use lib.ListN.{length, drop}
 use lib.Dec.{eqb, ltb, lit<}
 use borrow.Author.Tests.{lt-ltb, not-true}
 use Rattle.base_lists.proofs.Bools.{and_right}
-use Rattle.rules.specs.Text.{if◌then◌else◌}
 use Rattle.rules.specs.Tokens.{Token, token_at}
 use Rattle.rules.specs.State.{Chain, State, Outcome}
 use Rattle.rules.specs.Conditionals.{is_on, if_line, elif_line, else_line, inmost, is_unused}

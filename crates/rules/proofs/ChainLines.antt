@@ -1,4 +1,5 @@
 -- Conditional chains in a source, line after line (specs/Source): a line changes at most the inmost chain, and of one chain at most one branch is used.
+use Rattle.std.specs.Prelude.{if◌then◌else◌}
 use mathlib.Core.Path.{◌≡◌, refl, sym, ap, ◌∙◌}
 use mathlib.Core.Bool.{Bool, true, false, not, ◌&&◌, ◌||◌, and-true, or-true, false≢true}
 use mathlib.Core.List.{List, [], ◌∷◌}
@@ -8,7 +9,7 @@ use lib.ListN.{length, get_or, drop}
 use lib.Dec.{eqb}
 use borrow.Author.Tests.{eq-eqb, ne_eqb}
 use Rattle.base_lists.proofs.Bools.{and_right, by, cond-true, cond-false, cond_both}
-use Rattle.rules.specs.Text.{if◌then◌else◌, is, same}
+use Rattle.rules.specs.Text.{is, same}
 use Rattle.rules.specs.Tokens.{word, name, Token, the_name, tokens_of, operands, tokens_refusal, plain_marks, words_of}
 use Rattle.rules.specs.State.{in_other_category, Chain, Subject, undefined, State, in_phase, in_collate, Outcome, gives}
 use Rattle.rules.specs.Conditionals.{define_line, if_line, elif_line, endif_line, no_chain, inmost, is_unused}

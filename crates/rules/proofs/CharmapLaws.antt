@@ -1,4 +1,5 @@
 -- Laws of a charmap's 512 numbers (specs/Charmap): they are an accepted area, each byte decodes as written, the first byte of a code encodes it.
+use Rattle.std.specs.Prelude.{if◌then◌else◌}
 use mathlib.Core.Path.{◌≡◌, refl, sym, ap, ◌∙◌}
 use mathlib.Core.Bool.{true, false, not, ◌&&◌, ◌||◌, or-true}
 use mathlib.Core.List.Memᴰ
@@ -11,7 +12,7 @@ use lib.Dec.{ltb, eqb}
 use lib.Seq.{take_at, drop_at, get_or-append-add}
 use borrow.Author.Tests.{eqb-true, eqb-false, eq-eqb, ne_eqb}
 use Rattle.base_lists.proofs.Bools.{and_intro, by, cond-true}
-use Rattle.rules.specs.Text.{if◌then◌else◌, every, one_of, granted}
+use Rattle.rules.specs.Text.{every, one_of, granted}
 use Rattle.rules.specs.Charmap.{map_start, Given, MapEnded, no_code, gives_byte, map_lines_from, code_given, first_byte, encodes, numbers_from, area_of, charmap_of}
 use Rattle.rules.specs.Coding.{is_code, good_ones, ones_of, one_each, area_accepted, byte_at}
 use Rattle.rules.proofs.ResultLaws.{granted-else, granted-unique}

@@ -1,4 +1,5 @@
 -- The elements of a string: the size and the place of a step, which item it takes, and what is left of the string after it.
+use Rattle.std.specs.Prelude.{if◌then◌else◌}
 use mathlib.Core.Path.{◌≡◌, refl, sym, ap, ◌∙◌}
 use mathlib.Core.Bool.{Bool, true, not, ◌&&◌, false≢true}
 use mathlib.Core.List.{List, [], ◌∷◌}
@@ -11,7 +12,7 @@ use lib.Dec.{leb, eqb, eqb-suc-zero}
 use borrow.Author.Tests.{leb-true, le-leb, eqb-true, eq-eqb, not-true}
 use Rattle.base_lists.proofs.Bools.{and_left, and_right, by, cond-true, cond-false}
 use Rattle.base_lists.proofs.Lists.{All, drop-pred, length-zero}
-use Rattle.rules.specs.Text.{if◌then◌else◌, one_of, same, begins}
+use Rattle.rules.specs.Text.{one_of, same, begins}
 use Rattle.rules.specs.Meaning.{Item, has_chars, no_two_alike}
 use Rattle.rules.specs.Order.{no_item, Step, longest, undefined_from, step_of, elements}
 use Rattle.rules.proofs.TextLaws.{same_refl, one_of-get_d}

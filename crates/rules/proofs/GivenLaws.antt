@@ -1,4 +1,5 @@
 -- Laws of what a charmap's lines give (specs/Charmap): each byte is below 256, each code is a character, no byte is given twice.
+use Rattle.std.specs.Prelude.{if◌then◌else◌}
 use mathlib.Core.Path.{◌≡◌, refl, sym, ap, ◌∙◌}
 use mathlib.Core.Bool.{Bool, true, false, not, ◌&&◌}
 use mathlib.Core.List.Memᴰ
@@ -10,7 +11,7 @@ use lib.ListN.{length, drop}
 use lib.Dec.{ltb, leb, eqb}
 use borrow.Author.Tests.{leb-true, leb-false, le-leb, lt-leb, lt-ltb, eqb-true, eqb-false, eq-eqb, ne_eqb, not-true}
 use Rattle.base_lists.proofs.Bools.{and_left, and_right, and_intro, or-false-left, or-false-right, or-false-intro, clash, by, cond_both}
-use Rattle.rules.specs.Text.{if◌then◌else◌, every, one_of, is, ◌unless◌, lowest}
+use Rattle.rules.specs.Text.{every, one_of, is, ◌unless◌, lowest}
 use Rattle.rules.specs.Names.{names_refusal, hex_value, char_shaped, code_of, is_character, is_char_name}
 use Rattle.rules.specs.Tokens.{is_text, Token, token_at, the_name, tokens_of, operands, is_range, is_entry}
 use Rattle.rules.specs.Lines.{Scan, line_of}

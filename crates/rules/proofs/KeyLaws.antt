@@ -1,4 +1,5 @@
 -- Keys: their byte order is the order of the comparison, their bytes are bytes, and how long they are.
+use Rattle.std.specs.Prelude.{if◌then◌else◌}
 use mathlib.Core.Path.{◌≡◌, refl, sym, ap, ◌∙◌}
 use mathlib.Core.Bool.{Bool, true, false, not}
 use mathlib.Core.List.{List, [], ◌∷◌, ◌++◌}
@@ -9,7 +10,7 @@ use lib.Dec.{ltb, leb}
 use borrow.Author.Tests.{lt-ltb, leb-true}
 use Rattle.base_lists.proofs.Bools.{and_left, and_right, and_intro}
 use Rattle.base_lists.proofs.Lists.{All}
-use Rattle.rules.specs.Text.{if◌then◌else◌, every, within}
+use Rattle.rules.specs.Text.{every, within}
 use Rattle.rules.specs.Names.{is_character}
 use Rattle.rules.specs.Meaning.{Rule, Item, Meaning, good_item, good}
 use Rattle.rules.specs.Order.{good_string, Entry, Sign, or_else, sign_ℕ, sign_entry, sign_list, compare_of, codes, codes_key, level_key, levels_key, key_of, levels_of, levels_from, level_entries, two, three, sign_bytes, elements}

@@ -1,4 +1,5 @@
 -- Laws of subjects and ranks (specs/OrderLines): the rank of a subject is the place of its line, and 0 where it has none.
+use Rattle.std.specs.Prelude.{if◌then◌else◌}
 use mathlib.Core.Path.{◌≡◌, refl, ap}
 use mathlib.Core.Bool.{Bool, true, false, not, false≢true}
 use mathlib.Core.List.{List, [], ◌∷◌, ◌++◌}
@@ -8,7 +9,7 @@ use lib.ListN.{length}
 use lib.Dec.{eqb}
 use borrow.Author.Tests.{eq-eqb, eqb-true, ne_eqb}
 use Rattle.base_lists.proofs.Bools.{by, clash}
-use Rattle.rules.specs.Text.{if◌then◌else◌, one_of}
+use Rattle.rules.specs.Text.{one_of}
 use Rattle.rules.specs.State.{Subject, character, named, undefined, OrderLine}
 use Rattle.rules.specs.OrderLines.{same_subject, rank_from}
 use Rattle.rules.proofs.TextLaws.{same_true, same_refl}

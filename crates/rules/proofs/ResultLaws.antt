@@ -1,9 +1,10 @@
 -- Laws of an operation's result (specs/Text): a chain of tests that grants has passed each.
+use Rattle.std.specs.Prelude.{if◌then◌else◌}
 use mathlib.Core.Path.{◌≡◌, refl}
 use mathlib.Core.Bool.{Bool, true, false}
 use Prim.Native.Nat.{ℕ}
 use native.Mathlib.Omega.{arith}
-use Rattle.rules.specs.Text.{if◌then◌else◌, Result, granted, refused}
+use Rattle.rules.specs.Text.{Result, granted, refused}
 
 -- one answer only
 pub granted-unique : {A : Type 0} {x y : A} → granted x ≡ granted y → x ≡ y

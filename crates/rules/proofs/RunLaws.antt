@@ -1,4 +1,5 @@
 -- Laws of runs over a source, line by line (specs/Lines, Source, Charmap): what a run from a place is, for the loops of readers.
+use Rattle.std.specs.Prelude.{if◌then◌else◌}
 use mathlib.Core.Path.{◌≡◌, refl, ap, ◌∙◌}
 use mathlib.Core.Bool.{true, false}
 use mathlib.Core.List.{List, [], ◌∷◌}
@@ -10,7 +11,6 @@ use lib.Seq.{drop-drop}
 use lib.Dec.{eqb}
 use borrow.Author.Tests.{eq-eqb, ne_eqb}
 use Rattle.base_lists.proofs.Bools.{cond-true, cond-false, cond_both}
-use Rattle.rules.specs.Text.{if◌then◌else◌}
 use Rattle.rules.specs.Lines.{Signs, Scan, scan, scan_start, line_from, line_of, takes_as_is, opens_comment, ends_entry, scan_escaped, in_plain, in_comment}
 use Rattle.rules.specs.State.{State, Outcome}
 use Rattle.rules.specs.Source.{ended, at_end, signs, line_outcome, lines_from}

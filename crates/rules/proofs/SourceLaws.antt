@@ -1,4 +1,5 @@
 -- Every line that is not refused keeps what holds between two lines (StateLaws), so the lines of a source that is not refused do (specs/Source).
+use Rattle.std.specs.Prelude.{if◌then◌else◌}
 use mathlib.Core.Path.{◌≡◌, refl, sym}
 use mathlib.Core.Bool.{Bool, true, false, not, ◌&&◌, ◌||◌, false≢true}
 use mathlib.Core.List.{List, [], ◌∷◌}
@@ -8,7 +9,7 @@ use lib.Dec.{eqb, lit<}
 use native.Mathlib.Omega.{arith}
 use borrow.Author.Tests.{eq-eqb, eqb-true, le-leb, ne_eqb}
 use Rattle.base_lists.proofs.Bools.{and_left, and_right, clash, by, cond_both, cond-by}
-use Rattle.rules.specs.Text.{if◌then◌else◌, within, is, same}
+use Rattle.rules.specs.Text.{within, is, same}
 use Rattle.rules.specs.Tokens.{word, name, Token, token_at, the_name, single, tokens_of, operands, tokens_refusal, plain_marks, words_of}
 use Rattle.rules.specs.Lines.{line_of}
 use Rattle.rules.specs.State.{between_categories, in_other_category, before_order, in_order, after_order, in_block, undefined, Subject, State, start, with_ordered, in_phase, to_phase, in_collate, gives}

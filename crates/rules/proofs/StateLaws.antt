@@ -1,4 +1,5 @@
 -- What holds of the state between two lines of a locale source (specs/State), and that each declaration and order line keeps it.
+use Rattle.std.specs.Prelude.{if◌then◌else◌}
 use mathlib.Core.Path.{◌≡◌, refl, ap, ◌∙◌}
 use mathlib.Core.Bool.{Bool, true, false, not, ◌&&◌, ◌||◌, or-true}
 use mathlib.Core.List.{List, [], ◌∷◌, ◌++◌, map}
@@ -8,7 +9,7 @@ use lib.ListN.{length, length-map, length-append}
 use lib.Dec.{eqb, leb, ltb, lit<, lit≤}
 use borrow.Author.Tests.{leb-true, ltb-true, not-true}
 use Rattle.base_lists.proofs.Bools.{and_left, and_right, and_intro, or-false-intro, not-intro, clash, by, cond-by}
-use Rattle.rules.specs.Text.{if◌then◌else◌, within, every, one_of, is}
+use Rattle.rules.specs.Text.{within, every, one_of, is}
 use Rattle.rules.specs.Names.{code_of, is_character, is_char_name, char_shaped}
 use Rattle.rules.specs.Tokens.{semi, Token, token_at, the_name}
 use Rattle.rules.specs.Meaning.{Rule}

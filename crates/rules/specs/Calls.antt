@@ -2,8 +2,8 @@
 -- holds afterwards. "Every public operation on a table checks this itself"; "Calls on tables and charmap areas test 11, 12, 14, 13, the
 -- first string before the second"; "All other answers in a refusal are 0. Lent areas but the work area stay unchanged; on success so
 -- does what lies past the result." The directory of 02, K2, stands last.
-use Rattle.std.specs.Prelude.{not, ◌&&◌, List, [], ◌++◌, ℕ, length, drop, replicate, ltb}
-use Rattle.rules.specs.Text.{if◌then◌else◌, Result, granted, refused}
+use Rattle.std.specs.Prelude.{not, ◌&&◌, List, [], ◌++◌, ℕ, length, drop, replicate, ltb, if◌then◌else◌}
+use Rattle.rules.specs.Text.{Result, granted, refused}
 use Rattle.rules.specs.Meaning.{Meaning, size_of}
 use Rattle.rules.specs.Compile.{compile_of}
 use Rattle.rules.specs.Order.{good_string, Step, step_of, Answer, compare_of, key_of, equal}

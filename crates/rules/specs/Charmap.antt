@@ -1,6 +1,6 @@
 -- 01, "Charmaps": a charmap source to its 512 numbers, or a refusal and its line.
-use Rattle.std.specs.Prelude.{Bool, true, false, not, ◌&&◌, List, [], ◌∷◌, ◌++◌, map, ℕ, zero, suc, pred, ◌+◌, ◌-◌, length, drop, ltb, leb, eqb}
-use Rattle.rules.specs.Text.{if◌then◌else◌, every, one_of, is, begins, ◌unless◌, lower, lowest, Result, granted, refused}
+use Rattle.std.specs.Prelude.{Bool, true, false, not, ◌&&◌, List, [], ◌∷◌, ◌++◌, map, ℕ, zero, suc, pred, ◌+◌, ◌-◌, length, drop, ltb, leb, eqb, if◌then◌else◌}
+use Rattle.rules.specs.Text.{every, one_of, is, begins, ◌unless◌, lower, lowest, Result, granted, refused}
 use Rattle.rules.specs.Names.{names_refusal, hex_value, code_of, is_char_name}
 use Rattle.rules.specs.Tokens.{is_text, word, Token, token_at, the_name, single, without_blanks, tokens_of, operands, is_range, is_entry}
 use Rattle.rules.specs.Lines.{Signs, Scan, line_of, Chars, defaults, sign_refusal, sign_set}

@@ -1,6 +1,6 @@
 -- 01, "Charmaps" (an area given back) and "Refusals in order": decoding and encoding by an area of 512 numbers.
-use Rattle.std.specs.Prelude.{Bool, true, false, not, ◌&&◌, ◌||◌, List, [], ◌∷◌, map, ℕ, suc, ◌+◌, length, get_or, take, drop, ltb, leb, eqb}
-use Rattle.rules.specs.Text.{if◌then◌else◌, within, every, Result, granted, refused}
+use Rattle.std.specs.Prelude.{Bool, true, false, not, ◌&&◌, ◌||◌, List, [], ◌∷◌, map, ℕ, suc, ◌+◌, length, get_or, take, drop, ltb, leb, eqb, if◌then◌else◌}
+use Rattle.rules.specs.Text.{within, every, Result, granted, refused}
 use Rattle.rules.specs.Names.{is_character}
 use Rattle.rules.specs.Order.{good_string}
 use Rattle.rules.specs.Charmap.{no_code}

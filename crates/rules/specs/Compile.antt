@@ -1,6 +1,6 @@
 -- 01, "Inside LC_COLLATE" (ranks and weights) and "Refusals in order": from the lines of a source to the meaning of its table, or a refusal.
-use Rattle.std.specs.Prelude.{Bool, not, ◌&&◌, List, [], ◌∷◌, ◌++◌, map, ℕ, suc, ◌+◌, length, ltb, leb, eqb}
-use Rattle.rules.specs.Text.{if◌then◌else◌, every, same, lower, Result, granted, refused}
+use Rattle.std.specs.Prelude.{Bool, not, ◌&&◌, List, [], ◌∷◌, ◌++◌, map, ℕ, suc, ◌+◌, length, ltb, leb, eqb, if◌then◌else◌}
+use Rattle.rules.specs.Text.{every, same, lower, Result, granted, refused}
 use Rattle.rules.specs.Meaning.{Rule, Item, item, Meaning, size_of}
 use Rattle.rules.specs.State.{Declaration, symbol, element, Subject, character, named, undefined, OrderLine, State, start}
 use Rattle.rules.specs.OrderLines.{is_symbol, rank_of}

@@ -1,6 +1,6 @@
 -- 01, "Inside LC_COLLATE": "`define T`, `undef T`, `ifdef T`, `ifndef T`, `elif T`, `else`, `endif` .. may stand anywhere."
-use Rattle.std.specs.Prelude.{Bool, true, false, not, ◌&&◌, ◌||◌, List, [], ◌∷◌, ℕ, length, get_or, drop, ltb, leb, eqb}
-use Rattle.rules.specs.Text.{if◌then◌else◌, within, every, one_of, same, ◌unless◌, lower, lowest}
+use Rattle.std.specs.Prelude.{Bool, true, false, not, ◌&&◌, ◌||◌, List, [], ◌∷◌, ℕ, length, get_or, drop, ltb, leb, eqb, if◌then◌else◌}
+use Rattle.rules.specs.Text.{within, every, one_of, same, ◌unless◌, lower, lowest}
 use Rattle.rules.specs.Tokens.{word, Token, token_at, single}
 use Rattle.rules.specs.State.{Chain, Toggle, Blocks, State, with_blocks, Outcome, gives}
 

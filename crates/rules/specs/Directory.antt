@@ -1,6 +1,6 @@
 -- 02, K2, "The directory itself": which heading of an A to Z page each topic belongs to, over a table's meaning.
-use Rattle.std.specs.Prelude.{Bool, true, false, not, ◌&&◌, ◌||◌, List, [], ◌∷◌, map, ℕ, suc, ◌+◌, length, get_or, take, drop, ltb, leb, eqb}
-use Rattle.rules.specs.Text.{if◌then◌else◌, every, Result, granted, refused}
+use Rattle.std.specs.Prelude.{Bool, true, false, not, ◌&&◌, ◌||◌, List, [], ◌∷◌, map, ℕ, suc, ◌+◌, length, get_or, take, drop, ltb, leb, eqb, if◌then◌else◌}
+use Rattle.rules.specs.Text.{every, Result, granted, refused}
 use Rattle.rules.specs.Meaning.{Rule, Meaning}
 use Rattle.rules.specs.Table.{meaning_in, accepted}
 use Rattle.rules.specs.Order.{good_string, Entry, levels_of}

@@ -1,6 +1,6 @@
 -- 01, "Reading lines", its first two paragraphs: from bytes to joined lines, and the two characters that rule them.
-use Rattle.std.specs.Prelude.{Bool, true, false, not, ◌&&◌, ◌||◌, List, [], ◌∷◌, ◌++◌, ℕ, suc, ◌+◌, length, get_or, drop, eqb}
-use Rattle.rules.specs.Text.{if◌then◌else◌, bytes, within, every, is, begins, ◌unless◌}
+use Rattle.std.specs.Prelude.{Bool, true, false, not, ◌&&◌, ◌||◌, List, [], ◌∷◌, ◌++◌, ℕ, suc, ◌+◌, length, get_or, drop, eqb, if◌then◌else◌}
+use Rattle.rules.specs.Text.{bytes, within, every, is, begins, ◌unless◌}
 use Rattle.rules.specs.Names.{is_blank, is_visible}
 use Rattle.rules.specs.Tokens.{name, as_is, Token, token_at, the_name, single, without_blanks, tokens_of, without_gaps, is_entry}
 

@@ -1,6 +1,6 @@
 -- 01, "Reading lines", its third paragraph: names, and the names that are characters.
-use Rattle.std.specs.Prelude.{Bool, false, not, ◌&&◌, ◌||◌, List, [], ◌∷◌, map, ℕ, ◌+◌, ◌-◌, ◌*◌, length, drop, leb, eqb}
-use Rattle.rules.specs.Text.{if◌then◌else◌, within, every, ◌unless◌, lower, lowest}
+use Rattle.std.specs.Prelude.{Bool, false, not, ◌&&◌, ◌||◌, List, [], ◌∷◌, map, ℕ, ◌+◌, ◌-◌, ◌*◌, length, drop, leb, eqb, if◌then◌else◌}
+use Rattle.rules.specs.Text.{within, every, ◌unless◌, lower, lowest}
 
 -- "Blanks (space, tab)"
 abbrev pub is_blank : ℕ → Bool

@@ -1,6 +1,6 @@
 -- 01, "Order of two strings": elements, entries, comparison and keys, over a table's meaning.
-use Rattle.std.specs.Prelude.{Bool, true, false, ◌&&◌, List, [], ◌∷◌, ◌++◌, map, reverse, ℕ, zero, suc, pred, ◌+◌, ◌/◌, ◌%◌, length, get_or, ltb, leb, eqb}
-use Rattle.rules.specs.Text.{if◌then◌else◌, every, begins}
+use Rattle.std.specs.Prelude.{Bool, true, false, ◌&&◌, List, [], ◌∷◌, ◌++◌, map, reverse, ℕ, zero, suc, pred, ◌+◌, ◌/◌, ◌%◌, length, get_or, ltb, leb, eqb, if◌then◌else◌}
+use Rattle.rules.specs.Text.{every, begins}
 use Rattle.rules.specs.Names.{is_character}
 use Rattle.rules.specs.Meaning.{Rule, Item, Meaning}
 

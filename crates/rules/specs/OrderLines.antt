@@ -1,6 +1,6 @@
 -- 01, "Inside LC_COLLATE": order_start and its rules, the order lines and their weights.
-use Rattle.std.specs.Prelude.{Bool, true, false, not, ◌&&◌, ◌||◌, List, [], ◌∷◌, ◌++◌, map, ℕ, suc, ◌+◌, length, ltb, leb, eqb}
-use Rattle.rules.specs.Text.{if◌then◌else◌, within, every, one_of, same, is, ◌unless◌, lowest}
+use Rattle.std.specs.Prelude.{Bool, true, false, not, ◌&&◌, ◌||◌, List, [], ◌∷◌, ◌++◌, map, ℕ, suc, ◌+◌, length, ltb, leb, eqb, if◌then◌else◌}
+use Rattle.rules.specs.Text.{within, every, one_of, same, is, ◌unless◌, lowest}
 use Rattle.rules.specs.Names.{char_shaped, code_of, is_character}
 use Rattle.rules.specs.Tokens.{semi, comma, word, name, quote, Token, token_at, the_name, single, is_solid}
 use Rattle.rules.specs.Meaning.{Rule}

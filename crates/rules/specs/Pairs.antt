@@ -1,7 +1,7 @@
 -- 01, "Proved and run examples", the pairs program: what it writes, from the bytes of its two files and of its input. An absent file
 -- is an empty one.
-use Rattle.std.specs.Prelude.{List, [], ◌∷◌, ◌++◌, map, ℕ, zero, suc, ◌+◌, ◌/◌, ◌%◌, length, ltb, eqb}
-use Rattle.rules.specs.Text.{if◌then◌else◌, bytes, Result, granted, refused}
+use Rattle.std.specs.Prelude.{List, [], ◌∷◌, ◌++◌, map, ℕ, zero, suc, ◌+◌, ◌/◌, ◌%◌, length, ltb, eqb, if◌then◌else◌}
+use Rattle.rules.specs.Text.{bytes, Result, granted, refused}
 use Rattle.rules.specs.Meaning.{Meaning}
 use Rattle.rules.specs.Compile.{compile_of}
 use Rattle.rules.specs.Order.{Answer, Sign, less, equal, greater, compare_of}

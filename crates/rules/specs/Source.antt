@@ -1,6 +1,6 @@
 -- 01, "Reading lines" (categories), "Inside LC_COLLATE" (which line is which; passed-over lines): a locale source, line after line.
-use Rattle.std.specs.Prelude.{Bool, true, false, not, ◌&&◌, ◌||◌, List, [], ◌∷◌, ℕ, zero, suc, pred, ◌+◌, length, get_or, ltb, eqb}
-use Rattle.rules.specs.Text.{if◌then◌else◌, bytes, within, every, same, is, begins, ◌unless◌, lower}
+use Rattle.std.specs.Prelude.{Bool, true, false, not, ◌&&◌, ◌||◌, List, [], ◌∷◌, ℕ, zero, suc, pred, ◌+◌, length, get_or, ltb, eqb, if◌then◌else◌}
+use Rattle.rules.specs.Text.{bytes, within, every, same, is, begins, ◌unless◌, lower}
 use Rattle.rules.specs.Tokens.{is_text, word, name, Token, token_at, the_name, single, tokens_of, operands, tokens_refusal, plain_marks, words_of}
 use Rattle.rules.specs.Lines.{Signs, Scan, line_of, sign_refusal, sign_set}
 use Rattle.rules.specs.State.{before_categories, between_categories, in_other_category, before_order, in_order, after_order, undefined, Blocks, State, with_chars, with_place, with_blocks, in_phase, to_phase, is_outside, in_collate, Outcome, gives}

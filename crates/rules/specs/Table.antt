@@ -6,10 +6,10 @@
 --   I        starts: two in each number, how many items have a smaller bucket, for buckets 0 to 2 x I - 1
 --   L        rules
 --   W        weights
-use Rattle.std.specs.Prelude.{Bool, false, ◌&&◌, ◌||◌, ℕ, zero, suc, pred, ◌+◌, ◌-◌, ◌*◌, length, get_or, take, drop, ltb, leb, eqb}
+use Rattle.std.specs.Prelude.{Bool, false, ◌&&◌, ◌||◌, ℕ, zero, suc, pred, ◌+◌, ◌-◌, ◌*◌, length, get_or, take, drop, ltb, leb, eqb, if◌then◌else◌}
 use mathlib.Core.List.{List, [], ◌∷◌, ◌++◌, map, flatten}
 use Rattle.std.specs.Int.Bits.{bit_and}
-use Rattle.rules.specs.Text.{if◌then◌else◌, begins}
+use Rattle.rules.specs.Text.{begins}
 use Rattle.rules.specs.Meaning.{Rule, Item, item, Meaning, weight_count, good}
 
 -- ## Rules and weights

@@ -1,14 +1,9 @@
 -- What every page of these definitions uses: a text as its bytes, tests on lists, and refusals as numbers.
-use Rattle.std.specs.Prelude.{Bool, true, false, cond, ◌&&◌, ◌||◌, List, [], ◌∷◌, ℕ, ltb, leb, eqb}
+use Rattle.std.specs.Prelude.{Bool, true, false, cond, ◌&&◌, ◌||◌, List, [], ◌∷◌, ℕ, ltb, leb, eqb, if◌then◌else◌}
 use Prim.Native.String.{String, [] as empty, ◌∷◌ as ◌then◌}
 use Prim.Native.Char.{code}
 
-infix 4 if◌then◌else◌
 infix 68 ◌unless◌
--- the library's choice between two, as it is read aloud
-abbrev pub if◌then◌else◌ {ℓ} : {A : Type ℓ} → Bool → A → A → A
-if◌then◌else◌ t a b = cond t a b
-
 -- ## Bytes
 
 -- a text's bytes; a byte above 7E is written as the character of that code

@@ -2,8 +2,8 @@
 -- A line's marks (Lines) are its bytes in order, without comments and joins. A byte after an escape inside `<..>` or quotes, and
 -- the c of a comment_char or escape_char line, is 256 + b: that byte, as it stands. A byte after any other escape is 512 + b, and so is
 -- an escape that ends the source.
-use Rattle.std.specs.Prelude.{Bool, false, not, ◌&&◌, ◌||◌, List, [], ◌∷◌, ◌++◌, ℕ, ◌-◌, ◌%◌, length, get_or, drop, leb, eqb}
-use Rattle.rules.specs.Text.{if◌then◌else◌, within, every, same, is, ◌unless◌, lowest}
+use Rattle.std.specs.Prelude.{Bool, false, not, ◌&&◌, ◌||◌, List, [], ◌∷◌, ◌++◌, ℕ, ◌-◌, ◌%◌, length, get_or, drop, leb, eqb, if◌then◌else◌}
+use Rattle.rules.specs.Text.{within, every, same, is, ◌unless◌, lowest}
 use Rattle.rules.specs.Names.{is_blank, names_refusal, is_any_hex}
 
 -- any other is a "byte outside 20 to 7E, tab and LF" (2), also after an escape

@@ -1,7 +1,7 @@
 -- The check of a table as straight passes over its parts, in the shape of the code. That it decides acceptance as the paper defines it is
 -- the law `accepted-checks` (proofs/CheckLaws); no public contract cites this file.
-use Rattle.std.specs.Prelude.{◌≡◌, ℕ, zero, suc, ◌+◌, ◌-◌, ◌*◌, ◌%◌, ◌<◌, Bool, true, ◌&&◌, List, [], ◌∷◌, map, length, take, drop, ◌==◌, nat_le, slice_index, slice_index_or}
-use Rattle.rules.specs.Text.{if◌then◌else◌, within, every}
+use Rattle.std.specs.Prelude.{◌≡◌, ℕ, zero, suc, ◌+◌, ◌-◌, ◌*◌, ◌%◌, ◌<◌, Bool, true, ◌&&◌, List, [], ◌∷◌, map, length, take, drop, ◌==◌, nat_le, slice_index, slice_index_or, if◌then◌else◌}
+use Rattle.rules.specs.Text.{within, every}
 use Rattle.rules.specs.Names.{is_character}
 use Rattle.rules.specs.Table.{pad, before, mask}
 use Rattle.table_layout.specs.Parts.{chars_part, listing_part, starts_part, rules_part, weights_part}

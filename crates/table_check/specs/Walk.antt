@@ -1,6 +1,6 @@
 -- The walk along the listing, item by item: which places may come next, and how many starts are told then.
-use Rattle.std.specs.Prelude.{◌≡◌, ℕ, suc, ◌-◌, ◌*◌, ◌≤◌, Bool, true, ◌&&◌, ◌||◌, List, [], ◌∷◌, map, ◌==◌}
-use Rattle.rules.specs.Text.{if◌then◌else◌, within, every}
+use Rattle.std.specs.Prelude.{◌≡◌, ℕ, suc, ◌-◌, ◌*◌, ◌≤◌, Bool, true, ◌&&◌, ◌||◌, List, [], ◌∷◌, map, ◌==◌, if◌then◌else◌}
+use Rattle.rules.specs.Text.{within, every}
 use Rattle.rules.specs.Table.{before}
 use Rattle.table_layout.specs.Starts.{bucket_in, key_in, start_all, told}
 use Rattle.table_check.specs.Checks.{rises_in}

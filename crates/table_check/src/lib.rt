@@ -1,5 +1,6 @@
 // The check of a table: straight passes over its parts, before any operation reads them. docs/TABLE.md has the layout.
 #![tactic(auto)]
+
 ghost use Rattle.std.specs.Prelude.{◌≡◌, ◌+◌, ◌-◌, ◌*◌, ◌/◌, ◌%◌, ◌<◌, ◌≤◌, not, ◌&&◌, ◌||◌, length, take, drop, ◌==◌, slice_index, slice_range};
 ghost use Rattle.rules.specs.Text.{within, every};
 ghost use Rattle.rules.specs.Names.{is_character};

@@ -1,4 +1,5 @@
 -- The items of all order lines and their weights, counted along the list.
+use Rattle.std.specs.Prelude.{if◌then◌else◌}
 use mathlib.Core.Path.{◌≡◌, refl, sym, ap, ◌∙◌, subst}
 use mathlib.Core.Bool.{Bool, true, false, ◌&&◌, and_assoc}
 use mathlib.Core.List.{List, [], ◌∷◌}
@@ -6,7 +7,7 @@ use Prim.Native.Nat.{ℕ, ◌+◌, ◌-◌, ◌*◌, ◌/◌, ◌≤◌, ◌<◌
 use native.Mathlib.Omega.{arith}
 use lib.ListN.{length}
 use Rattle.base_lists.proofs.Lists.{All, length-zero}
-use Rattle.rules.specs.Text.{if◌then◌else◌, every, lower}
+use Rattle.rules.specs.Text.{every, lower}
 use Rattle.rules.specs.State.{Subject}
 use Rattle.rules.specs.Meaning.{count_all, weight_count}
 use Rattle.text_lines.specs.declared.Signs.{Signs}

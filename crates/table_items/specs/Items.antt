@@ -1,8 +1,8 @@
 -- The items that the order lines give, by the marks of the lines (Rattle.work_order.specs.Links): which lines give one, and whether each of their
 -- weights has a rank.
-use Rattle.std.specs.Prelude.{◌≡◌, Bool, true, false, not, ◌||◌, List, [], ◌∷◌, ℕ, ◌*◌, ◌≤◌, length, eqb, leb}
+use Rattle.std.specs.Prelude.{◌≡◌, Bool, true, false, not, ◌||◌, List, [], ◌∷◌, ℕ, ◌*◌, ◌≤◌, length, eqb, leb, if◌then◌else◌}
 use Rattle.base_lists.proofs.Lists.{All}
-use Rattle.rules.specs.Text.{if◌then◌else◌, every, lower}
+use Rattle.rules.specs.Text.{every, lower}
 use Rattle.rules.specs.Meaning.{Item, item, weight_count}
 use Rattle.rules.specs.State.{Subject}
 use Rattle.text_lines.specs.declared.Signs.{Signs}

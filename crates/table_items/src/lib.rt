@@ -1,7 +1,8 @@
 // The items that the order lines give: which lines give one; how many there are, and their weights; and all of them written into a table's area.
 #![tactic(auto)]
-ghost use Rattle.std.specs.Prelude.{◌≡◌, ◌&&◌, length, ◌+◌, ◌*◌, ◌/◌, ◌≤◌};
-ghost use Rattle.rules.specs.Text.{if◌then◌else◌, lower};
+
+ghost use Rattle.std.specs.Prelude.{◌≡◌, ◌&&◌, length, ◌+◌, ◌*◌, ◌/◌, ◌≤◌, if◌then◌else◌};
+ghost use Rattle.rules.specs.Text.{lower};
 ghost use Rattle.work_rows.specs.Cells.{cell};
 ghost use Rattle.work_order.specs.Links.{line_number};
 ghost use Rattle.table_records.specs.Writing.{CharsReady};

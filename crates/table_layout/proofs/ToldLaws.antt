@@ -1,5 +1,6 @@
 -- The linear test of the starts, along the listing: each start is right as its bucket is reached, and at the end all are told. With the test of
 -- the listing it holds exactly of the listing and the starts that a table must store, where no two items are alike and one is UNDEFINED.
+use Rattle.std.specs.Prelude.{if◌then◌else◌}
 use mathlib.Core.Path.{◌≡◌, refl, sym, ap, ◌∙◌}
 use mathlib.Core.Logic.{◌⊎◌, inl, inr}
 use mathlib.Core.Bool.{Bool, true, false, ◌&&◌, false≢true, or-true}
@@ -10,7 +11,7 @@ use lib.ListN.{length, get_or, length-map}
 use lib.Dec.{ltb, eqb}
 use borrow.Author.Tests.{lt-ltb, le-ltb, ltb-true, ltb-false, eq-eqb, eqb-true}
 use Rattle.base_lists.proofs.Bools.{by, and_left, and_right, and_intro, cond_both}
-use Rattle.rules.specs.Text.{if◌then◌else◌, one_of, same}
+use Rattle.rules.specs.Text.{one_of, same}
 use Rattle.rules.specs.Meaning.{Item, item, has_chars, no_two_alike}
 use Rattle.rules.specs.Table.{Placed, before, inserted, sorted}
 use Rattle.rules.proofs.StorableLaws.{AllStored}

@@ -1,8 +1,7 @@
 -- Buckets and their starts as they are read: the bucket of an item whose numbers stand in a table, the start of a bucket, and the test that the
 -- starts are right, along the listing.
-use Rattle.std.specs.Prelude.{◌≡◌, Bool, true, ◌&&◌, List, [], ◌∷◌, ℕ, zero, suc, pred, ◌+◌, ◌-◌, ◌*◌, ◌/◌, ◌%◌, ◌≤◌, length, get_or, take, drop, eqb}
+use Rattle.std.specs.Prelude.{◌≡◌, Bool, true, ◌&&◌, List, [], ◌∷◌, ℕ, zero, suc, pred, ◌+◌, ◌-◌, ◌*◌, ◌/◌, ◌%◌, ◌≤◌, length, get_or, take, drop, eqb, if◌then◌else◌}
 use Rattle.std.specs.Int.Bits.{bit_and}
-use Rattle.rules.specs.Text.{if◌then◌else◌}
 use Rattle.rules.specs.Table.{pad, mask}
 
 -- ## Buckets

@@ -1,5 +1,6 @@
 // The layout of a table (docs/TABLE.md): where each part stands, and the readers of an accepted table. Offsets and strides are known here alone.
 #![tactic(auto)]
+
 ghost use Rattle.std.specs.Prelude.{◌≡◌, true, [], ◌∷◌, ◌+◌, ◌*◌, ◌/◌, ◌≤◌, ◌<◌, length, get_or, drop};
 ghost use Rattle.rules.specs.Table.{mask, bucket, accepted, meaning_in};
 ghost use Rattle.rules.specs.Order.{weights_at};

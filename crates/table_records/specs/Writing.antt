@@ -1,8 +1,7 @@
 -- What stands in a table's area after one item was written.
-use Rattle.std.specs.Prelude.{◌≡◌, ℕ, ◌+◌, ◌-◌, ◌/◌, ◌%◌, ◌≤◌, ◌<◌, length, get_or, set, drop, eqb, leb}
+use Rattle.std.specs.Prelude.{◌≡◌, ℕ, ◌+◌, ◌-◌, ◌/◌, ◌%◌, ◌≤◌, ◌<◌, length, get_or, set, drop, eqb, leb, if◌then◌else◌}
 use mathlib.Core.List.{List, [], ◌∷◌, flatten}
 use Rattle.std.proofs.lemmas.List.Edits.{sets}
-use Rattle.rules.specs.Text.{if◌then◌else◌}
 use Rattle.rules.specs.Lines.{quoted}
 use Rattle.rules.specs.Meaning.{count_all}
 use Rattle.rules.specs.Table.{pad, padded, sums, counts}

@@ -1,6 +1,6 @@
 -- The weights of an order line as code reads them, one operand after the other.
-use Rattle.std.specs.Prelude.{◌≡◌, Bool, true, false, List, [], ◌∷◌, map, ℕ, suc, ◌+◌, ◌*◌, ◌≤◌, length, leb, eqb}
-use Rattle.rules.specs.Text.{if◌then◌else◌, every}
+use Rattle.std.specs.Prelude.{◌≡◌, Bool, true, false, List, [], ◌∷◌, map, ℕ, suc, ◌+◌, ◌*◌, ◌≤◌, length, leb, eqb, if◌then◌else◌}
+use Rattle.rules.specs.Text.{every}
 use Rattle.rules.specs.Lines.{in_plain, quoted}
 use Rattle.rules.specs.Tokens.{name, quote, Token, operands, tokens_refusal}
 use Rattle.rules.specs.Meaning.{count_all}

@@ -1,5 +1,6 @@
 // The weights of an order line, read again from the source as ranks: how many there are, and whether each has one.
 #![tactic(auto)]
+
 ghost use Rattle.std.specs.Prelude.{◌≡◌, true, ◌&&◌, ◌≤◌, length};
 ghost use Rattle.rules.specs.Lines.{quoted};
 ghost use Rattle.text_tokens.specs.Left.{is_inside};

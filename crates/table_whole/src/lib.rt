@@ -1,5 +1,6 @@
 // The whole table: its size, its front, the rules of its levels, its items, UNDEFINED where it is supplied, the listing and the starts.
 #![tactic(auto)]
+
 ghost use Rattle.std.specs.Prelude.{◌≡◌, map, ◌+◌, ◌*◌, ◌≤◌, ◌<◌, length, replicate};
 ghost use Rattle.std.proofs.lemmas.List.Edits.{sets};
 ghost use Rattle.rules.specs.Table.{rule_number};

@@ -1,6 +1,6 @@
 -- What is told of the name at a spot right after its `<`: its bytes are name_in of the marks still to come (Rattle.text_tokens.specs.Left).
-use Rattle.std.specs.Prelude.{◌≡◌, Bool, true, false, ◌&&◌, ◌||◌, List, [], ◌∷◌, ℕ, ◌+◌, ◌*◌, ◌%◌, ◌≤◌, length, eqb}
-use Rattle.rules.specs.Text.{if◌then◌else◌, every}
+use Rattle.std.specs.Prelude.{◌≡◌, Bool, true, false, ◌&&◌, ◌||◌, List, [], ◌∷◌, ℕ, ◌+◌, ◌*◌, ◌%◌, ◌≤◌, length, eqb, if◌then◌else◌}
+use Rattle.rules.specs.Text.{every}
 use Rattle.rules.specs.Names.{is_hex, digit, hex_value, char_shaped, code_of}
 use Rattle.rules.specs.Lines.{quoted, quoted_name}
 use Rattle.text_lines.specs.declared.Signs.{Signs}

@@ -1,6 +1,6 @@
 -- The shape of a name, as six bytes from its first on tell it where none of them is an escape.
-use Rattle.std.specs.Prelude.{Bool, not, ◌&&◌, ◌||◌, List, [], ◌∷◌, ℕ, ◌+◌, length, get_or, ltb, leb, eqb}
-use Rattle.rules.specs.Text.{if◌then◌else◌, within, every}
+use Rattle.std.specs.Prelude.{Bool, not, ◌&&◌, ◌||◌, List, [], ◌∷◌, ℕ, ◌+◌, length, get_or, ltb, leb, eqb, if◌then◌else◌}
+use Rattle.rules.specs.Text.{within, every}
 use Rattle.rules.specs.Names.{is_visible, is_hex, hex_value}
 
 -- a byte of a name that is meant as it stands: visible, and no escape

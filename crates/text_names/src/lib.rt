@@ -1,5 +1,6 @@
 // Names in a source, each from the spot right after its `<`: beside other bytes, as a character by its code, as a hash, packed into eight numbers.
 #![tactic(auto)]
+
 ghost use Rattle.std.specs.Prelude.{◌≡◌, true, ◌+◌, ◌*◌, ◌%◌, ◌^◌, ◌≤◌, ◌<◌, length, drop, replicate};
 ghost use Rattle.rules.specs.Text.{same};
 ghost use Rattle.text_tokens.specs.Left.{is_inside};

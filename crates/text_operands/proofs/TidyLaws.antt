@@ -1,4 +1,5 @@
 -- The tokens of marks are tidy: neither gaps nor words have names, and a word has a byte.
+use Rattle.std.specs.Prelude.{if◌then◌else◌}
 use mathlib.Core.Path.{◌≡◌, refl}
 use mathlib.Core.Bool.{Bool, true, ◌&&◌}
 use mathlib.Core.List.{List, []}
@@ -7,7 +8,7 @@ use lib.ListN.{length}
 use lib.Dec.{eqb, leb}
 use borrow.Author.Tests.{le-leb}
 use Rattle.base_lists.proofs.Bools.{and_intro}
-use Rattle.rules.specs.Text.{if◌then◌else◌, every}
+use Rattle.rules.specs.Text.{every}
 use Rattle.rules.specs.Tokens.{gap, word, Token, no_part, tokens_from}
 use Rattle.text_operands.proofs.EachLaws.{OfEach, each-token}
 

@@ -1,5 +1,6 @@
 // What follows a line's first token: its operands, read from a spot on with nothing kept.
 #![tactic(auto)]
+
 ghost use Rattle.std.specs.Prelude.{◌≡◌, true, false, ◌≤◌, length, eqb};
 ghost use Rattle.rules.specs.Lines.{in_plain};
 ghost use Rattle.rules.specs.Tokens.{operands, tokens_refusal};

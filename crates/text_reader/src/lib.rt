@@ -1,6 +1,7 @@
 // A reader of lines: the source that it was lent and the place that it has reached, and thin functions over it. What there is to do is done by
 // functions over a slice and a place.
 #![tactic(auto)]
+
 ghost use Rattle.std.specs.Prelude.{◌≡◌, ◌+◌, ◌^◌, ◌≤◌, ◌<◌, length, leb};
 ghost use Rattle.text_lines.specs.Stream.{line_start, LineIs};
 

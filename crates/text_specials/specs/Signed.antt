@@ -1,6 +1,6 @@
 -- A line outside every category: a plain one, or one with a byte that is taken as it stands.
-use Rattle.std.specs.Prelude.{◌≡◌, Bool, true, false, List, [], ◌∷◌, ◌++◌, ℕ, ◌+◌, ◌≤◌, ◌<◌, length, drop, eqb}
-use Rattle.rules.specs.Text.{if◌then◌else◌, bytes, every, same}
+use Rattle.std.specs.Prelude.{◌≡◌, Bool, true, false, List, [], ◌∷◌, ◌++◌, ℕ, ◌+◌, ◌≤◌, ◌<◌, length, drop, eqb, if◌then◌else◌}
+use Rattle.rules.specs.Text.{bytes, every, same}
 use Rattle.rules.specs.Names.{is_blank}
 use Rattle.rules.specs.Lines as paper
 use Rattle.rules.specs.Lines.{in_plain, is_word_line, line_of}

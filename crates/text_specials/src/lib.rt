@@ -1,5 +1,6 @@
 // The comment and the escape character: which bytes may be one, the two in force, and a line that sets one, whose c is taken as it stands.
 #![tactic(auto)]
+
 ghost use Rattle.std.specs.Prelude.{◌≡◌, ◌||◌, ◌≤◌, length};
 ghost use Rattle.rules.specs.Text.{within, ◌unless◌};
 ghost use Rattle.rules.specs.Lines.{is_sign, defaults, sign_refusal, sign_set};

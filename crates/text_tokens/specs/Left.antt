@@ -1,6 +1,6 @@
 -- The tokens of a line as code reads them: what is still to come at a spot is the paper's own list (Rattle.rules.specs.Tokens).
-use Rattle.std.specs.Prelude.{◌≡◌, Bool, true, false, ◌&&◌, ◌||◌, not, List, [], ◌∷◌, ◌++◌, ℕ, suc, ◌+◌, ◌%◌, ◌≤◌, ◌<◌, length, get_or, take, drop, eqb, leb}
-use Rattle.rules.specs.Text.{if◌then◌else◌, every, one_of, ◌unless◌, lower}
+use Rattle.std.specs.Prelude.{◌≡◌, Bool, true, false, ◌&&◌, ◌||◌, not, List, [], ◌∷◌, ◌++◌, ℕ, suc, ◌+◌, ◌%◌, ◌≤◌, ◌<◌, length, get_or, take, drop, eqb, leb, if◌then◌else◌}
+use Rattle.rules.specs.Text.{every, one_of, ◌unless◌, lower}
 use Rattle.rules.specs.Names.{is_visible, name_refusal, names_refusal}
 use Rattle.rules.specs.Lines as lines
 use Rattle.rules.specs.Lines.{in_plain, in_name, quoted, quoted_name}

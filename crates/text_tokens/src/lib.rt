@@ -1,5 +1,6 @@
 // The tokens of a line, read from a spot on with nothing kept.
 #![tactic(auto)]
+
 ghost use Rattle.std.specs.Prelude.{◌≡◌, true, ◌&&◌, ◌≤◌, length, leb};
 ghost use Rattle.rules.specs.Text.{◌unless◌, lower, same};
 ghost use Rattle.rules.specs.Names.{is_visible};

@@ -1,4 +1,5 @@
 -- A line that leaves the list, and one that comes to stand after another: what the list is then.
+use Rattle.std.specs.Prelude.{if◌then◌else◌}
 use mathlib.Core.Path.{◌≡◌, refl, sym, ap, ◌∙◌, subst}
 use mathlib.Core.Bool.{true, false, false≢true}
 use mathlib.Core.List.{List, [], ◌∷◌}
@@ -9,7 +10,7 @@ use lib.Dec.{eqb}
 use borrow.Author.Tests.{eq-eqb, ne_eqb, eqb-true}
 use Rattle.base_lists.proofs.Bools.{by, cond-true, cond-false, cond_both}
 use Rattle.base_lists.proofs.Lists.{All}
-use Rattle.rules.specs.Text.{if◌then◌else◌, one_of}
+use Rattle.rules.specs.Text.{one_of}
 use Rattle.work_rows.specs.Cells.{cell_at, cell}
 use Rattle.work_rows.proofs.CellLaws.{Apart, cell-told, cell_other, cell_apart}
 use Rattle.work_order.specs.declared.Order.{Order}

@@ -37,14 +37,28 @@ ranking-start w o s = record {
   area = λ vs k. ap (ranked w 1) (linked-one w o.first vs s.marks k.linked s.lines.linked);
 }
 
-module _ (w₀ : List ℕ) (o : Order) (w : List ℕ) (v rank : ℕ) (r : Ranking w₀ o w v rank) where
-  -- a line is left
-  first-row : (left : List ℕ) → Linked w v left → o.count ≡ rank + length left → rank < o.count → Row w v
-  first-row [] k c h = absurd (omega (arith, c, h))
-  first-row (u ∷ us) (goes x n) c h = x
+-- a line is left
+first-row : (w : List ℕ) (o : Order) (rank v : ℕ) (left : List ℕ) → Linked w v left → o.count ≡ rank + length left → rank < o.count → Row w v
+first-row w o rank v [] k c h = absurd (omega (arith, c, h))
+first-row w o rank v (u ∷ us) (goes x n) c h = x
 
+-- the turn of a line that is left
+more_of : (w₀ : List ℕ) (o : Order) (w : List ℕ) (rank v : ℕ) (left : List ℕ) → length w ≡ length w₀ → Linked w v left
+    → o.count ≡ rank + length left → ((vs : List ℕ) → Lines w₀ o vs → ranked w₀ 1 vs ≡ ranked w (suc rank) left) → rank < o.count
+    → Ranking w₀ o (set w (cell_at v rank_number) (rank + 1)) (cell w v next_number) (rank + 1)
+unfolding ranked
+more_of w₀ o w rank v [] l k c a h = absurd (omega (arith, c, h))
+more_of w₀ o w rank v (u ∷ us) l (goes x n) c a h = record {
+  left = us;
+  linked = linked-other w u rank_number (rank + 1) (cell w u next_number) us (omega arith) (λ e. omega (arith, e)) n;
+  count = omega (arith, c);
+  long = length-set w (cell_at u rank_number) (rank + 1) ∙ l;
+  area = λ vs k. a vs k ∙ rw (add-one rank);
+}
+
+module _ (w₀ : List ℕ) (o : Order) (w : List ℕ) (v rank : ℕ) (r : Ranking w₀ o w v rank) where
   pub ranking-row : rank < o.count → 8 * (v / 16) + 8 ≤ length w
-  ranking-row h = (first-row r.left r.linked r.count h).inside
+  ranking-row h = (first-row w o rank v r.left r.linked r.count h).inside
 
   -- also after the rank is written
   pub ranking-row-next : (w₁ : List ℕ) → rank < o.count → w₁ ≡ set w (cell_at v rank_number) (rank + 1) → 8 * (v / 16) + 8 ≤ length w₁
@@ -53,23 +67,10 @@ module _ (w₀ : List ℕ) (o : Order) (w : List ℕ) (v rank : ℕ) (r : Rankin
       let l : length w₁ ≡ length w = ap length e ∙ length-set w (cell_at v rank_number) (rank + 1) in
       omega (arith, i, l)
 
-  more_of : (left : List ℕ) → Linked w v left → o.count ≡ rank + length left
-      → ((vs : List ℕ) → Lines w₀ o vs → ranked w₀ 1 vs ≡ ranked w (suc rank) left) → rank < o.count
-      → Ranking w₀ o (set w (cell_at v rank_number) (rank + 1)) (cell w v next_number) (rank + 1)
-  unfolding ranked
-  more_of [] k c a h = absurd (omega (arith, c, h))
-  more_of (u ∷ us) (goes x n) c a h = record {
-    left = us;
-    linked = linked-other w u rank_number (rank + 1) (cell w u next_number) us (omega arith) (λ e. omega (arith, e)) n;
-    count = omega (arith, c);
-    long = length-set w (cell_at u rank_number) (rank + 1) ∙ r.long;
-    area = λ vs k. a vs k ∙ rw (add-one rank);
-  }
-
   pub ranking-more : (w₁ : List ℕ) (x : ℕ) → rank < o.count → w₁ ≡ set w (cell_at v rank_number) (rank + 1) → x ≡ cell w₁ v next_number
       → Ranking w₀ o w₁ x (rank + 1)
   ranking-more w₁ x h e f =
-      let m = more_of r.left r.linked r.count r.area h in
+      let m = more_of w₀ o w rank v r.left r.long r.linked r.count r.area h in
       let n : x ≡ cell w v next_number =
       f ∙ ap (λ (y : List ℕ). cell y v next_number) e ∙ cell_other w v rank_number v next_number (rank + 1) (omega arith) (omega arith) (λ z. omega (arith, z)) in
       subst (λ (y : List ℕ). Ranking w₀ o y x (rank + 1)) (sym e)

@@ -1,7 +1,7 @@
 -- The used order lines in their order: a list of marks, linked through the rows of the work area (Rattle.work_rows.specs.Cells).
-use Rattle.std.specs.Prelude.{◌≡◌, true, List, [], ◌∷◌, ℕ, suc, ◌+◌, ◌-◌, ◌*◌, ◌/◌, ◌≤◌, length, set, eqb}
+use Rattle.std.specs.Prelude.{◌≡◌, true, List, [], ◌∷◌, ℕ, suc, ◌+◌, ◌-◌, ◌*◌, ◌/◌, ◌≤◌, length, set, eqb, if◌then◌else◌}
 use Rattle.base_lists.proofs.Lists.{All}
-use Rattle.rules.specs.Text.{if◌then◌else◌, one_of}
+use Rattle.rules.specs.Text.{one_of}
 use Rattle.work_rows.specs.Cells.{cell_at, cell}
 use Rattle.work_rows.proofs.CellLaws.{Apart}
 use Rattle.work_order.specs.declared.Order.{Order}

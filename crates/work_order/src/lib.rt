@@ -1,8 +1,8 @@
 // The used order lines in their order: a list linked through the rows of the work area, so that a line can be put between two others: each line
 // is linked to the next one, and, until ranks are given, back to the one before.
 #![tactic(auto)]
-ghost use Rattle.std.specs.Prelude.{◌≡◌, ◌<◌, eqb};
-ghost use Rattle.rules.specs.Text.{if◌then◌else◌};
+
+ghost use Rattle.std.specs.Prelude.{◌≡◌, ◌<◌, eqb, if◌then◌else◌};
 ghost use Rattle.work_order.specs.Links.{Row, Reached, SomeLines, linked_to, numbered, longer, with_line, Among, unlinked, shorter, Between, linked_between, with_line_after, longer_after, Ranks};
 
 use work_rows::{tell, told};

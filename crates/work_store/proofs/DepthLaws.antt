@@ -1,4 +1,5 @@
 -- How deep a way can go: 259 at most, whatever is declared.
+use Rattle.std.specs.Prelude.{if◌then◌else◌}
 use mathlib.Core.Path.{◌≡◌, refl, sym, ap, ◌∙◌}
 use mathlib.Core.Bool.{true, ◌&&◌}
 use mathlib.Core.List.{List, [], ◌∷◌}
@@ -7,7 +8,7 @@ use native.Mathlib.Omega.{arith}
 use lib.Dec.{eqb, leb}
 use borrow.Author.Tests.{eq-eqb, eqb-true, leb-true, leb-false}
 use Rattle.base_lists.proofs.Bools.{by, and_left, and_right, and_intro, clash, cond_both}
-use Rattle.rules.specs.Text.{if◌then◌else◌, same}
+use Rattle.rules.specs.Text.{same}
 use Rattle.rules.proofs.TextLaws.{same_true, same_refl}
 use Rattle.work_subjects.specs.Keys.{Key, same_key}
 use Rattle.work_subjects.specs.Numbers.{is_declarable, kind_of, numbers_of, bit_of}

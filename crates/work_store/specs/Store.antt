@@ -1,7 +1,6 @@
 -- What is declared, as a list, latest first, and how the work area holds it. key gives what stands at a mark of the source
 -- (Rattle.work_subjects.specs.Keys), len is the source's length.
-use Rattle.std.specs.Prelude.{◌≡◌, Bool, true, false, ◌&&◌, List, [], ◌∷◌, ℕ, zero, suc, ◌+◌, ◌-◌, ◌*◌, ◌/◌, ◌%◌, ◌≤◌, ◌<◌, length, get_or, set, eqb}
-use Rattle.rules.specs.Text.{if◌then◌else◌}
+use Rattle.std.specs.Prelude.{◌≡◌, Bool, true, false, ◌&&◌, List, [], ◌∷◌, ℕ, zero, suc, ◌+◌, ◌-◌, ◌*◌, ◌/◌, ◌%◌, ◌≤◌, ◌<◌, length, get_or, set, eqb, if◌then◌else◌}
 use Rattle.work_rows.specs.Cells.{cell_at, cell}
 use Rattle.work_subjects.specs.Keys.{Key, same_key, hash_key}
 use Rattle.work_subjects.specs.Numbers.{is_declarable, kind_of, width_of, numbers_of, bit_of}

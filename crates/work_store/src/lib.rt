@@ -3,6 +3,7 @@
 // right, times 64, with its tag: the kind of what is declared in those bytes, and the last four bits of its mark (Rattle.work_subjects); 3 to 7 are the five numbers of
 // crate work_rows. A head or a link is 0, or one more than a row. The numbers of what is declared are kept in its row, or in the row before. Behind the rows nothing is touched.
 #![tactic(auto)]
+
 ghost use Rattle.std.specs.Prelude.{◌≡◌, ◌+◌, ◌-◌, ◌*◌, ◌/◌, ◌%◌, ◌^◌, ◌≤◌, ◌<◌, ◌&&◌, length, get_or, set, replicate, eqb};
 ghost use Rattle.work_subjects.specs.Keys.{key_at};
 ghost use Rattle.work_subjects.specs.Numbers.{width_of};

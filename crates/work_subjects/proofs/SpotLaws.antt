@@ -1,5 +1,6 @@
 -- What is read from a spot in a name or in quotes does not depend on whether a blank stands before it, nor a name's bytes on whether it
 -- stands in quotes: so a spot's place, with its tag, is enough.
+use Rattle.std.specs.Prelude.{if◌then◌else◌}
 use mathlib.Core.Path.{◌≡◌, refl, sym, ap, ◌∙◌}
 use mathlib.Core.Bool.{Bool, true, false}
 use mathlib.Core.List.{List, [], ◌∷◌, map}
@@ -9,7 +10,6 @@ use lib.ListN.{drop}
 use lib.Dec.{eqb}
 use borrow.Author.Tests.{ne_eqb, eqb-true, eqb-false}
 use Rattle.base_lists.proofs.Bools.{by}
-use Rattle.rules.specs.Text.{if◌then◌else◌}
 use Rattle.rules.specs.Names.{is_blank}
 use Rattle.rules.specs.Lines.{in_plain, in_name, quoted, quoted_name, in_comment, after, Scan, fed, opens_comment, ends_entry, scan_escaped, scan, line_from}
 use Rattle.rules.specs.OrderLines.{subject_of}

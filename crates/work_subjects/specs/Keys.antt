@@ -1,7 +1,7 @@
 -- What stands at a mark of the source. A mark v is a tagged place: 2 * place for a name, the place right after its `<`; 2 * place + 1 for
 -- quotes, the place right after the opening `"`.
-use Rattle.std.specs.Prelude.{◌≡◌, Bool, false, List, [], ◌∷◌, map, ℕ, ◌/◌, ◌%◌, ◌≤◌, length, eqb}
-use Rattle.rules.specs.Text.{if◌then◌else◌, same}
+use Rattle.std.specs.Prelude.{◌≡◌, Bool, false, List, [], ◌∷◌, map, ℕ, ◌/◌, ◌%◌, ◌≤◌, length, eqb, if◌then◌else◌}
+use Rattle.rules.specs.Text.{same}
 use Rattle.rules.specs.Names.{char_shaped, code_of}
 use Rattle.rules.specs.Lines.{in_name, quoted, quoted_name}
 use Rattle.rules.specs.State.{Subject, character, named, undefined}

@@ -1,7 +1,7 @@
 -- The eight numbers of what can be declared, and their bits, by which its way goes in the store. A name has seven of them, so that they find room in one row of the
 -- work area; a character one, an element's characters four.
-use Rattle.std.specs.Prelude.{◌≡◌, Bool, true, false, ◌&&◌, List, [], ◌∷◌, ℕ, suc, ◌+◌, ◌*◌, ◌/◌, ◌%◌, ◌^◌, ◌≤◌, length, get_or, set, replicate, eqb, leb, ltb}
-use Rattle.rules.specs.Text.{if◌then◌else◌, every}
+use Rattle.std.specs.Prelude.{◌≡◌, Bool, true, false, ◌&&◌, List, [], ◌∷◌, ℕ, suc, ◌+◌, ◌*◌, ◌/◌, ◌%◌, ◌^◌, ◌≤◌, length, get_or, set, replicate, eqb, leb, ltb, if◌then◌else◌}
+use Rattle.rules.specs.Text.{every}
 use Rattle.rules.specs.State.{character, named, undefined}
 use Rattle.text_names.specs.Packed.{packed, is_plain}
 use Rattle.work_subjects.specs.Keys.{Key, item, chars, hash_key}

@@ -1,5 +1,6 @@
 // What stands at a mark of the source: a name's subject, or the characters of quotes; and the numbers that tell it from all others of its kind.
 #![tactic(auto)]
+
 ghost use Rattle.std.specs.Prelude.{◌≡◌, true, ◌/◌, ◌≤◌, ◌<◌, length, replicate};
 ghost use Rattle.rules.specs.Lines.{quoted};
 ghost use Rattle.rules.specs.State.{character};

@@ -1,4 +1,5 @@
 -- The candidate of a word, and what a decision for one more toggle changes: nothing but the candidate of that one.
+use Rattle.std.specs.Prelude.{if◌then◌else◌}
 use mathlib.Core.Path.{◌≡◌, refl, sym, ap, ◌∙◌, subst}
 use mathlib.Core.Bool.{Bool, true, false, ◌&&◌, false≢true}
 use mathlib.Core.List.{List, [], ◌∷◌}
@@ -9,7 +10,7 @@ use lib.ListN.{length, get_or}
 use lib.Dec.{eqb}
 use borrow.Author.Tests.{eq-eqb, ne_eqb}
 use Rattle.base_lists.proofs.Bools.{by, and_intro, cond-true, cond-false, cond_both}
-use Rattle.rules.specs.Text.{if◌then◌else◌, every}
+use Rattle.rules.specs.Text.{every}
 use Rattle.rules.specs.Conditionals.{is_toggle_byte}
 use Rattle.rules.proofs.TextLaws.{every-head, every-tail}
 use Rattle.work_toggles.specs.declared.Parting.{Parting}

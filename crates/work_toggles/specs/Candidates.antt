@@ -1,7 +1,6 @@
 -- Which of the toggles that are kept a word can be. For each toggle a number decides by one byte of the word between it and one toggle that came
 -- before it, so that a word is compared with one toggle only.
-use Rattle.std.specs.Prelude.{◌≡◌, Bool, ◌&&◌, List, ℕ, zero, suc, ◌+◌, ◌*◌, ◌/◌, ◌%◌, ◌<◌, length, get_or, eqb}
-use Rattle.rules.specs.Text.{if◌then◌else◌}
+use Rattle.std.specs.Prelude.{◌≡◌, Bool, ◌&&◌, List, ℕ, zero, suc, ◌+◌, ◌*◌, ◌/◌, ◌%◌, ◌<◌, length, get_or, eqb, if◌then◌else◌}
 use Rattle.work_toggles.specs.declared.Parting.{Parting}
 
 -- ## Decisions

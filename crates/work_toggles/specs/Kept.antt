@@ -1,6 +1,6 @@
 -- The toggles of the paper (Rattle.rules.specs.Conditionals) as a lent area keeps them, and what is told of them.
-use Rattle.std.specs.Prelude.{◌≡◌, Bool, true, false, ◌&&◌, ◌||◌, List, [], ◌∷◌, map, ℕ, ◌+◌, ◌*◌, ◌/◌, ◌%◌, ◌≤◌, ◌<◌, length, get_or, take, drop, eqb, leb, ltb}
-use Rattle.rules.specs.Text.{if◌then◌else◌, every, one_of, ◌unless◌, lowest}
+use Rattle.std.specs.Prelude.{◌≡◌, Bool, true, false, ◌&&◌, ◌||◌, List, [], ◌∷◌, map, ℕ, ◌+◌, ◌*◌, ◌/◌, ◌%◌, ◌≤◌, ◌<◌, length, get_or, take, drop, eqb, leb, ltb, if◌then◌else◌}
+use Rattle.rules.specs.Text.{every, one_of, ◌unless◌, lowest}
 use Rattle.rules.specs.State.{Toggle}
 use Rattle.rules.specs.Conditionals.{is_toggle_byte, is_toggle, turned}
 use Rattle.text_lines.specs.declared.Signs.{Signs}

@@ -3,6 +3,7 @@
 // which tell by single bytes the one toggle that a word can be: a lookup compares the word with that one's spelling and passes over all others,
 // however long they are spelled.
 #![tactic(auto)]
+
 ghost use Rattle.std.specs.Prelude.{◌≡◌, [], ◌+◌, ◌/◌, ◌≤◌, ◌<◌, length};
 ghost use Rattle.text_lines.specs.Stream.{line_start};
 ghost use Rattle.rules.specs.Text.{same, one_of};

@@ -1,6 +1,8 @@
-// The C interface: every public operation, over slices and numbers. include/zeharmeku.h says what each means to a caller in C. No function has
-// a `requires`: what the paper says of an operation holds of every call, and an answer array that is too short gets what it has room for.
+// The C interface: every public operation, over slices and numbers. include/zeharmeku.h says what each means to a caller in C, for whom
+// zeharmeku_c exports each under its name. No function has a `requires`: what the paper says of an operation holds of every call, and an
+// answer array that is too short gets what it has room for.
 #![tactic(auto)]
+
 ghost use Rattle.std.specs.Prelude.{◌≡◌, [], ◌∷◌, set};
 ghost use Rattle.rules.specs.Calls.{compile_call, check_call, step_call, compare_call, key_call, charmap_call, area_call, decode_call, encode_call, directory_call};
 ghost use Rattle.base_units.specs.Numbers.{number_of, sign_of};
@@ -67,13 +69,7 @@ fn sign_number(s: Sign) -> u64
 }
 
 // A locale source to its table in front of the area: refusal, line, size. The work area is all zero afterwards.
-#[unsafe(no_mangle)]
-pub extern "C" fn zeharmeku_compile(
-    source: &[u8],
-    area: &mut [u32],
-    work: &mut [u32],
-    answer: &mut [u64],
-)
+pub fn zeharmeku_compile(source: &[u8], area: &mut [u32], work: &mut [u32], answer: &mut [u64])
     ensures { CompiledIs (compile_call source.now area.old work.old) answer.old answer.new area.new work.new }
 {
     let c = locale_compile::compile(source, area, work);
@@ -88,8 +84,7 @@ pub extern "C" fn zeharmeku_compile(
 }
 
 // Whether an area begins with an accepted table: refusal, levels, items, size.
-#[unsafe(no_mangle)]
-pub extern "C" fn zeharmeku_check(table: &[u32], answer: &mut [u64])
+pub fn zeharmeku_check(table: &[u32], answer: &mut [u64])
     ensures { answer.new ≡ told (checked_numbers (check_call table.now)) answer.old }
 {
     let v = table_check::check(table);
@@ -104,8 +99,7 @@ pub extern "C" fn zeharmeku_check(table: &[u32], answer: &mut [u64])
 }
 
 // The element that begins at a place of a string: refusal, its item's place, its length.
-#[unsafe(no_mangle)]
-pub extern "C" fn zeharmeku_step(table: &[u32], string: &[u32], at: usize, answer: &mut [u64])
+pub fn zeharmeku_step(table: &[u32], string: &[u32], at: usize, answer: &mut [u64])
     ensures { answer.new ≡ told (stepped_numbers (step_call table.now string.now at)) answer.old }
 {
     let s = order_compare::step(table, string, at);
@@ -120,8 +114,7 @@ pub extern "C" fn zeharmeku_step(table: &[u32], string: &[u32], at: usize, answe
 }
 
 // How two strings compare: refusal, sign, deciding level, agreed entries.
-#[unsafe(no_mangle)]
-pub extern "C" fn zeharmeku_compare(table: &[u32], a: &[u32], b: &[u32], answer: &mut [u64])
+pub fn zeharmeku_compare(table: &[u32], a: &[u32], b: &[u32], answer: &mut [u64])
     ensures { answer.new ≡ told (compared_numbers (compare_call table.now a.now b.now)) answer.old }
 {
     let c = order_compare::compare(table, a, b);
@@ -143,8 +136,7 @@ pub extern "C" fn zeharmeku_compare(table: &[u32], a: &[u32], b: &[u32], answer:
 }
 
 // The key of a string, in front of the room: refusal, size.
-#[unsafe(no_mangle)]
-pub extern "C" fn zeharmeku_key(table: &[u32], string: &[u32], room: &mut [u8], answer: &mut [u64])
+pub fn zeharmeku_key(table: &[u32], string: &[u32], room: &mut [u8], answer: &mut [u64])
     ensures { WrittenIs (key_call table.now string.now room.old) answer.old answer.new room.new }
 {
     let k = order_keys::key(table, string, room);
@@ -159,8 +151,7 @@ pub extern "C" fn zeharmeku_key(table: &[u32], string: &[u32], room: &mut [u8], 
 }
 
 // A charmap's source to 512 numbers in front of the area: refusal, line.
-#[unsafe(no_mangle)]
-pub extern "C" fn zeharmeku_charmap(source: &[u8], area: &mut [u32], answer: &mut [u64])
+pub fn zeharmeku_charmap(source: &[u8], area: &mut [u32], answer: &mut [u64])
     ensures { MappedIs (charmap_call source.now area.old) answer.old answer.new area.new }
 {
     let m = charmap_read::read(source, area);
@@ -175,8 +166,7 @@ pub extern "C" fn zeharmeku_charmap(source: &[u8], area: &mut [u32], answer: &mu
 }
 
 // Whether an area begins with an accepted charmap: the refusal, 0 for none.
-#[unsafe(no_mangle)]
-pub extern "C" fn zeharmeku_area(area: &[u32]) -> u32
+pub fn zeharmeku_area(area: &[u32]) -> u32
     ensures { result ≡ area_call area.now }
 {
     let v = charmap_coding::check_area(area);
@@ -187,8 +177,7 @@ pub extern "C" fn zeharmeku_area(area: &[u32]) -> u32
 }
 
 // The characters of bytes, in front of the room: refusal, size.
-#[unsafe(no_mangle)]
-pub extern "C" fn zeharmeku_decode(area: &[u32], bytes: &[u8], room: &mut [u32], answer: &mut [u64])
+pub fn zeharmeku_decode(area: &[u32], bytes: &[u8], room: &mut [u32], answer: &mut [u64])
     ensures { WrittenIs (decode_call area.now bytes.now room.old) answer.old answer.new room.new }
 {
     let d = charmap_coding::decode(area, bytes, room);
@@ -203,13 +192,7 @@ pub extern "C" fn zeharmeku_decode(area: &[u32], bytes: &[u8], room: &mut [u32],
 }
 
 // The bytes of a string, in front of the room: refusal, size.
-#[unsafe(no_mangle)]
-pub extern "C" fn zeharmeku_encode(
-    area: &[u32],
-    string: &[u32],
-    room: &mut [u8],
-    answer: &mut [u64],
-)
+pub fn zeharmeku_encode(area: &[u32], string: &[u32], room: &mut [u8], answer: &mut [u64])
     ensures { WrittenIs (encode_call area.now string.now room.old) answer.old answer.new room.new }
 {
     let e = charmap_coding::encode(area, string, room);
@@ -224,8 +207,7 @@ pub extern "C" fn zeharmeku_encode(
 }
 
 // The heading of each topic of a page, in front of the list: the refusal, 0 for none.
-#[unsafe(no_mangle)]
-pub extern "C" fn zeharmeku_directory(
+pub fn zeharmeku_directory(
     table: &[u32],
     run: &[u32],
     headings: &[u64],

@@ -1,4 +1,6 @@
 -- `charmap_coding::decode` meets its contract: one law for each return.
+use mathlib.Core.Path.{ap}
+use mathlib.Core.Bool.{not}
 use Rattle.charmap_coding.proofs.AcceptLaws.{not-denied}
 use Rattle.charmap_coding.proofs.DecodeLaws.{decode-unaccepted, decode-long, decode-unmapped, decode-short, decode-written}
 use Rattle.charmap_coding.proofs.decode.Goals as goal
@@ -28,9 +30,9 @@ returns c =
     _
     _
     c.accepts-ok.ensures
-    c.if-not-ok.false
+    (ap not c.if-not-ok.false)
     c.if-bytes-gt4096.false
     c.all_mapped-mapped.ensures
-    c.if-not-mapped.false
+    (ap not c.if-not-mapped.false)
     c.if-room-bytes.false
     c.write_codes.ensures

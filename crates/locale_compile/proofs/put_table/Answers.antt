@@ -13,4 +13,4 @@ pub returns-then-area-size : goal.returns-then-area-size
 returns-then-area-size c = search short-answer
 
 pub fill_table-requires : goal.fill_table-requires
-fill_table-requires c = ((search rules, search rules), search table_fits)
+fill_table-requires c = record { ranks_given = (search rules, search rules); table_fits = search table_fits }

@@ -25,13 +25,13 @@ pub returns-in-Endif : goal.returns-in-Endif
 returns-in-Endif c = search branch-endif
 
 pub symbol_step-requires : goal.symbol_step-requires
-symbol_step-requires c = (search opened-symbol, search word_sound)
+symbol_step-requires c = record { opened = search opened-symbol; sound = search word_sound }
 
 pub returns-in-Symbol : goal.returns-in-Symbol
 returns-in-Symbol c = search writes-step
 
 pub element_step-requires : goal.element_step-requires
-element_step-requires c = (search opened-element, search word_sound)
+element_step-requires c = record { opened = search opened-element; sound = search word_sound }
 
 pub returns-in-Element : goal.returns-in-Element
 returns-in-Element c = search writes-step
@@ -52,7 +52,7 @@ pub undefined_line-requires : goal.undefined_line-requires
 undefined_line-requires c = (search word_some, search undefined-word, search word-few)
 
 pub reorder_after_line-requires : goal.reorder_after_line-requires
-reorder_after_line-requires c = (search opened_after, search word-holding)
+reorder_after_line-requires c = record { opened = search opened_after; holding = search word-holding }
 
 pub returns-in-ReorderAfter : goal.returns-in-ReorderAfter
 returns-in-ReorderAfter c = search writes-step

@@ -14,7 +14,7 @@ pub returns-in-Other-t : goal.returns-in-Other-t
 returns-in-Other-t c = search element-unformed
 
 pub element_fault-f-requires : goal.element_fault-f-requires
-element_fault-f-requires c = ((search head-within, search head-inside), ((search tail-to, search tail-mode), (search tail-many, search rules)))
+element_fault-f-requires c = record { at_in_bounds = (search head-within, search head-inside); at_in_bounds_2 = (search tail-to, search tail-mode); s_len = search tail-many; sound = search rules }
 
 pub overflow_mul-result : goal.overflow_mul-result
 overflow_mul-result c = search head-fits

@@ -4,7 +4,7 @@ use borrow.Author.Rules.{rules}
 use Rattle.locale_elements.proofs.declare_both.Goals as goal
 
 pub declare-requires-2 : goal.declare-requires-2
-declare-requires-2 c = (search rules, search both-roomy)
+declare-requires-2 c = record { v_in_bounds = search rules; roomy = search both-roomy }
 
 pub overflow_cast-q : goal.overflow_cast-q
 overflow_cast-q c = search both-fits

@@ -8,7 +8,7 @@ pub returns-in-Refused : goal.returns-in-Refused
 returns-in-Refused c = (search element-not, search rules)
 
 pub declare_both-requires : goal.declare_both-requires
-declare_both-requires c = ((search name-within, search quotes-within, search quotes-later), search sound-roomy)
+declare_both-requires c = record { v_in_bounds = (search name-within, search quotes-within, search quotes-later); roomy = search sound-roomy }
 
 pub returns-in-Declared : goal.returns-in-Declared
 returns-in-Declared c = (search element-marks, search rules)

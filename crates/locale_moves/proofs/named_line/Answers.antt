@@ -11,7 +11,7 @@ pub none_left-requires : goal.none_left-requires
 none_left-requires c = (search head-to, search head_plain)
 
 pub line_of-f-requires : goal.line_of-f-requires
-line_of-f-requires c = ((search head-within, search head-inside), search rules)
+line_of-f-requires c = record { at_in_bounds = (search head-within, search head-inside); holding = search rules }
 
 pub returns-then-none_left : goal.returns-then-none_left
 returns-then-none_left c = search named-alone

@@ -1,4 +1,5 @@
 -- `locale_opening::refusal_with` meets its contract.
+use mathlib.Core.Path.{◌∙◌}
 use Rattle.locale_opening.proofs.OpenLaws.{with-within}
 use Rattle.locale_opening.proofs.refusal_with.Goals as goal
 

@@ -7,7 +7,7 @@ pub take_out-left-requires : goal.take_out-left-requires
 take_out-left-requires c = search out-among
 
 pub put_after-o-requires : goal.put_after-o-requires
-put_after-o-requires c = ((search moved-among, search moved_row), (search last-small, search rules, search rules, search rules, search moved-few))
+put_after-o-requires c = record { among = (search moved-among, search moved_row); a_bound = (search last-small, search rules, search rules, search rules, search moved-few) }
 
 pub returns : goal.returns
 returns c = search lists-moved

@@ -10,7 +10,7 @@ pub is_again-again-requires : goal.is_again-again-requires
 is_again-again-requires c = search open-rowed
 
 pub own_refusal-o-requires : goal.own_refusal-o-requires
-own_refusal-o-requires c = ((search name-next, search name-plain), search some_known)
+own_refusal-o-requires c = record { at_in_bounds = (search name-next, search name-plain); some_known = search some_known }
 
 pub returns : goal.returns
 returns c = search name-reads

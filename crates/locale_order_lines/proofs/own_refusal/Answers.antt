@@ -5,7 +5,7 @@ use borrow.Author.Rules.{rules}
 use Rattle.locale_order_lines.proofs.own_refusal.Goals as goal
 
 pub weights_refusal-c-requires : goal.weights_refusal-c-requires
-weights_refusal-c-requires c = (search rules, search known-sound)
+weights_refusal-c-requires c = record { at_in_bounds = search rules; sound = search known-sound }
 
 pub returns-then-f-eq3 : goal.returns-then-f-eq3
 returns-then-f-eq3 c = search own-three

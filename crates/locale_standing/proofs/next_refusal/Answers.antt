@@ -13,7 +13,7 @@ pub returns-in-Empty : goal.returns-in-Empty
 returns-in-Empty c = search turn_end
 
 pub one_refusal-f-requires : goal.one_refusal-f-requires
-one_refusal-f-requires c = ((search turn-to, search turn-token), search rules)
+one_refusal-f-requires c = record { at_in_bounds = (search turn-to, search turn-token); sound = search rules }
 
 pub returns-then-more-2 : goal.returns-then-more-2
 returns-then-more-2 c = search turn_one

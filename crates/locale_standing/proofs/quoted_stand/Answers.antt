@@ -9,7 +9,7 @@ pub returns-in-Close : goal.returns-in-Close
 returns-in-Close c = search standing-end
 
 pub stands_at-requires : goal.stands_at-requires
-stands_at-requires c = ((search standing-to, search standing-inside), search rules)
+stands_at-requires c = record { at_in_bounds = (search standing-to, search standing-inside); sound = search rules }
 
 pub end_of_name-c-requires : goal.end_of_name-c-requires
 end_of_name-c-requires c = (search standing-to, search standing-inside)

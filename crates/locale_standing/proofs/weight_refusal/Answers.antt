@@ -16,7 +16,7 @@ pub returns-then-t-gt6 : goal.returns-then-t-gt6
 returns-then-t-gt6 c = search refused-high
 
 pub names_stand-requires : goal.names_stand-requires
-names_stand-requires c = (search token-inside, search rules)
+names_stand-requires c = record { inside = search token-inside; sound = search rules }
 
 pub returns-then-t-le8 : goal.returns-then-t-le8
 returns-then-t-le8 c = search refused_none

@@ -16,7 +16,7 @@ pub returns-then-none_left : goal.returns-then-none_left
 returns-then-none_left c = search counts-empty
 
 pub weights_left-requires : goal.weights_left-requires
-weights_left-requires c = ((search counts-to, search counts-mode), search rules)
+weights_left-requires c = record { at_in_bounds = (search counts-to, search counts-mode); sound = search rules }
 
 pub returns-in-Operands : goal.returns-in-Operands
 returns-in-Operands c = search counts-from

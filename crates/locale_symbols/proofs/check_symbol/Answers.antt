@@ -10,7 +10,7 @@ pub none_left-requires : goal.none_left-requires
 none_left-requires c = (search head-to, search head_plain)
 
 pub is_new-requires : goal.is_new-requires
-is_new-requires c = ((search head-within, search head-inside), search rules)
+is_new-requires c = record { at_in_bounds = (search head-within, search head-inside); sound = search rules }
 
 pub overflow_mul-result : goal.overflow_mul-result
 overflow_mul-result c = search head-fits

@@ -7,7 +7,7 @@ pub returns-in-Refused : goal.returns-in-Refused
 returns-in-Refused c = (search symbol-refused, search rules)
 
 pub declare-requires : goal.declare-requires
-declare-requires c = (search symbol-within, search sound-roomy)
+declare-requires c = record { v_in_bounds = search symbol-within; roomy = search sound-roomy }
 
 pub returns-in-Declared : goal.returns-in-Declared
 returns-in-Declared c = (search symbol-mark, search rules)

@@ -13,7 +13,7 @@ slice_bounds-write-end c = search ranked-count
 pub write-requires : goal.write-requires
 write-requires c =
     let page = c.requires in
-    (ranked-ready _ _ _ _ _ _ page, (ranked-rising _ _ _ _ _ _ page c.count-m.ensures, search rules))
+    record { ready = ranked-ready _ _ _ _ _ _ page; rising = ranked-rising _ _ _ _ _ _ page c.count-m.ensures; topics_in_bounds = search rules }
 
 pub returns : goal.returns
 returns c = search ranked-written

@@ -10,5 +10,4 @@ returns-then-not-rise c = search page-falls
 
 pub list_rising-requires : goal.list_rising-requires
 list_rising-requires c =
-    let asked = c.requires in
-    search (page-ranked _ _ _ _ asked.0 _ c.weigh-rise.ensures, asked.1)
+    search (page-ranked _ _ _ _ c.requires.page _ c.weigh-rise.ensures, c.requires.in_bounds)

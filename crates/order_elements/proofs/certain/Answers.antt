@@ -15,7 +15,7 @@ search-requires c = search (rules, certain-inside)
 
 pub returns-then-left-ge4 : goal.returns-then-left-ge4
 returns-then-left-ge4 c =
-    certain-four _ _ _ _ c.requires.0.0 c.requires.1.0 c.requires.1.1 (omega (arith, c.if-left-ge4.true)) c.search.ensures
+    certain-four _ _ _ _ c.requires.t_value.0 c.requires.left_nonzero.0 c.requires.left_nonzero.1 (omega (arith, c.if-left-ge4.true)) c.search.ensures
 
 pub returns : goal.returns
 returns c = search certain-none

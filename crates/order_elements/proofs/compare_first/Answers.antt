@@ -9,12 +9,12 @@ loop-n-init c = search comparing-none
 pub together-pair-requires : goal.together-pair-requires
 together-pair-requires c =
     let v = c.loop-n.invariant in
-    (v.first.ready, (v.second.ready, (v.first.sound, (v.second.sound, omega (arith, v.few)))))
+    record { ready = v.first.ready; ready_2 = v.second.ready; sound = v.first.sound; sound_2 = v.second.sound; agreed_bound = omega (arith, v.few) }
 
 pub next_meeting-met-requires : goal.next_meeting-met-requires
 next_meeting-met-requires c =
     let v = comparing-on c.loop-n.invariant (search rules) (search rules) c.together-pair.ensures in
-    (v.first.ready, (v.second.ready, (v.first.sound, v.second.sound)))
+    record { ready = v.first.ready; ready_2 = v.second.ready; sound = v.first.sound; sound_2 = v.second.sound }
 
 pub returns-in-Before : goal.returns-in-Before
 returns-in-Before c =

@@ -6,7 +6,7 @@ use Rattle.order_entries.specs.Walk.{entries_left}
 use Rattle.order_entries.proofs.compare_level.Given as goal
 
 abbrev pub invariant-loop-e : goal.invariant-loop-e
-invariant-loop-e l = Comparing l.t l.a l.b l.level (rule_as l.rule) (record { l.x = l.x; l.y = l.y; l.agreed = l.agreed })
+invariant-loop-e l = Comparing l.t l.a l.b l.level (rule_as l.rule) (record { x = l.x; y = l.y; agreed = l.agreed })
 
 abbrev pub decreases-loop-e : goal.decreases-loop-e
 decreases-loop-e l = length (entries_left l.t l.a l.level (rule_as l.rule) l.x)

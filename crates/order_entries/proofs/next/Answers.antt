@@ -4,10 +4,10 @@ use native.Mathlib.Omega.{arith}
 use Rattle.order_entries.proofs.next.Goals as goal
 
 pub weight-rank-requires : goal.weight-rank-requires
-weight-rank-requires c = omega (arith, c.requires.1.inside c.if-left-gt0.true)
+weight-rank-requires c = omega (arith, c.requires.sound.inside c.if-left-gt0.true)
 
 pub overflow_add-result : goal.overflow_add-result
-overflow_add-result c = omega (arith, c.requires.1.inside c.if-left-gt0.true)
+overflow_add-result c = omega (arith, c.requires.sound.inside c.if-left-gt0.true)
 
 pub returns-then-left-gt0 : goal.returns-then-left-gt0
 returns-then-left-gt0 c = search left-more

@@ -7,10 +7,10 @@ pub overflow_add-next : goal.overflow_add-next
 overflow_add-next c = let w = c.requires in omega (arith, indexed-sizes w, next-bucket w _ c.bucket_in-bucket.ensures)
 
 pub start_in-lo-requires : goal.start_in-lo-requires
-start_in-lo-requires c = let w = c.requires in (w, omega (arith, next-bucket w _ c.bucket_in-bucket.ensures))
+start_in-lo-requires c = let w = c.requires in record { indexed = w; b_bound = omega (arith, next-bucket w _ c.bucket_in-bucket.ensures) }
 
 pub start_in-hi-requires : goal.start_in-hi-requires
-start_in-hi-requires c = let w = c.requires in (w, next-bucket w _ c.bucket_in-bucket.ensures)
+start_in-hi-requires c = let w = c.requires in record { indexed = w; b_bound = next-bucket w _ c.bucket_in-bucket.ensures }
 
 pub loop-lo-init : goal.loop-lo-init
 loop-lo-init c = search halving-start

@@ -7,7 +7,7 @@ pub loop-size-init : goal.loop-size-init
 loop-size-init c = search seeking-start
 
 pub look-near-requires : goal.look-near-requires
-look-near-requires c = let v = c.loop-size.invariant in (v.indexed, seeking-ahead v c.loop-size-test.true)
+look-near-requires c = let v = c.loop-size.invariant in record { indexed = v.indexed; ahead = seeking-ahead v c.loop-size-test.true }
 
 pub returns-in-Element : goal.returns-in-Element
 returns-in-Element c = search seeking-found
@@ -22,7 +22,7 @@ pub overflow_sub-n : goal.overflow_sub-n
 overflow_sub-n c = omega (arith, search-some c.loop-size.invariant.indexed)
 
 pub item_at-last-requires : goal.item_at-last-requires
-item_at-last-requires c = let w = c.loop-size.invariant.indexed in (w, omega (arith, search-some w))
+item_at-last-requires c = let w = c.loop-size.invariant.indexed in record { indexed = w; k_lt = omega (arith, search-some w) }
 
 pub returns : goal.returns
 returns c = search seeking-none

@@ -1,13 +1,13 @@
 use borrow.Author.Rules.{rules}
-use mathlib.Core.Logic.{⊎_elim}
 use Rattle.table_items.proofs.SumLaws.{summing-none, summing-row, summing-chars, summing-inside, summing-small, summing-fits, summing-item, summing-other, summing-unranked, summing-all}
 use Rattle.table_items.proofs.measure_lines.Goals as goal
+use Rattle.table_items.proofs.measure_lines.Goals.{then-is_item, else-is_item}
 
 pub loop-left-init : goal.loop-left-init
 loop-left-init c = search summing-none
 
 pub measure_item-m-requires : goal.measure_item-m-requires
-measure_item-m-requires c = (search summing-row, search rules)
+measure_item-m-requires c = record { row_ready = search summing-row; sound = search rules }
 
 pub least_line-line-requires : goal.least_line-line-requires
 least_line-line-requires c = search summing-inside
@@ -25,7 +25,7 @@ pub told-requires : goal.told-requires
 told-requires c = (search rules, search summing-inside)
 
 pub loop-left-preserved : goal.loop-left-preserved
-loop-left-preserved c = ⊎_elim (λ w. search summing-item) (λ w. search summing-other) c.if-is_item.branch
+loop-left-preserved c = elim c.if-is_item.branch [ then-is_item w ↦ search summing-item | else-is_item w ↦ search summing-other ]
 
 pub returns-then-whole : goal.returns-then-whole
 returns-then-whole c = search summing-all

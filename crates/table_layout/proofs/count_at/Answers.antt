@@ -6,7 +6,7 @@ use Rattle.table_layout.proofs.count_at.Goals as goal
 pub weights_before-before-requires : goal.weights_before-before-requires
 weights_before-before-requires c =
     let a = c.args in
-    (within_first a.t.now a.place a.level c.requires, (c.levels-l.ensures, omega (arith, c.requires.in-levels)))
+    record { within = within_first a.t.now a.place a.level c.requires; levels_value = (c.levels-l.ensures, omega (arith, c.requires.in-levels)) }
 
 pub overflow_add-level : goal.overflow_add-level
 overflow_add-level c =
@@ -15,7 +15,7 @@ overflow_add-level c =
 pub weights_before-to-requires : goal.weights_before-to-requires
 weights_before-to-requires c =
     let a = c.args in
-    (within_first a.t.now a.place a.level c.requires, (c.levels-l.ensures, omega (arith, c.requires.in-levels)))
+    record { within = within_first a.t.now a.place a.level c.requires; levels_value = (c.levels-l.ensures, omega (arith, c.requires.in-levels)) }
 
 pub overflow_sub-result : goal.overflow_sub-result
 overflow_sub-result c =

@@ -14,7 +14,7 @@ pub write_chars-requires : goal.write_chars-requires
 write_chars-requires c = search (rules, item-chars)
 
 pub write_line-requires : goal.write_line-requires
-write_line-requires c = (search row_line, (search rules, search item_room))
+write_line-requires c = record { readable = search row_line; sound = search rules; line_room = search item_room }
 
 pub shape_of-area : goal.shape_of-area
 shape_of-area c = search (rules, item-same)

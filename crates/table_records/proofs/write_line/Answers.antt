@@ -6,7 +6,7 @@ pub loop-left-init : goal.loop-left-init
 loop-left-init c = search filling-none
 
 pub write_level-next-requires : goal.write_level-next-requires
-write_level-next-requires c = (search rules, (search rules, ((search filling-slot, search filling-room), (search rules, search filling-small))))
+write_level-next-requires c = record { part_fits = search rules; sound = search rules; slot_in_bounds = (search filling-slot, search filling-room); base_le_at = (search rules, search filling-small) }
 
 pub loop-left-preserved : goal.loop-left-preserved
 loop-left-preserved c = search filling-more

@@ -10,7 +10,7 @@ pub told-requires-2 : goal.told-requires-2
 told-requires-2 c = search (rules, row_inside)
 
 pub measure_line-requires : goal.measure_line-requires
-measure_line-requires c = (search row_line, search rules)
+measure_line-requires c = record { readable = search row_line; sound = search rules }
 
 pub returns : goal.returns
 returns c = search row-measured

@@ -7,7 +7,7 @@ pub write_front-requires : goal.write_front-requires
 write_front-requires c = (search head-front, search rules)
 
 pub write_rules-requires : goal.write_rules-requires
-write_rules-requires c = (search rules, search head-rules)
+write_rules-requires c = record { at_in_bounds = search rules; rules_fit = search head-rules }
 
 pub returns : goal.returns
 returns c = search head-written

@@ -11,6 +11,6 @@ pub returns-else-figure-lt10 : goal.returns-else-figure-lt10
 returns-else-figure-lt10 c =
     let w = c.wide-x.ensures in
     elim c.if-letter-lt6.branch [
-      then-letter-lt6 y ↦ y.r-is ∙ hex-letter _ _ w y.if-letter-lt6.true
-    | else-letter-lt6 y ↦ y.r-is ∙ hex-none _ _ w c.if-figure-lt10.false y.if-letter-lt6.false
+      | then-letter-lt6 y ↦ y.r-is ∙ hex-letter _ _ w y.if-letter-lt6.true
+      | else-letter-lt6 y ↦ y.r-is ∙ hex-none _ _ w c.if-figure-lt10.false y.if-letter-lt6.false
     ]

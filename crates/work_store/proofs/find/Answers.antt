@@ -4,7 +4,7 @@ use borrow.Author.Rules.{rules}
 use Rattle.work_store.proofs.find.Goals as goal
 
 pub find_from-requires : goal.find_from-requires
-find_from-requires c = (search sought-some, search rules)
+find_from-requires c = record { some_sought = search sought-some; h_in_bounds = search rules }
 
 pub returns-then-k : goal.returns-then-k
 returns-then-k c = search sought-found
