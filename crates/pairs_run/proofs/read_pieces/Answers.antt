@@ -9,7 +9,10 @@ pub returns-then-n-eq0 : goal.returns-then-n-eq0
 returns-then-n-eq0 g c = search reading-ended
 
 pub consume-g-requires : goal.consume-g-requires
-consume-g-requires g c = ((search reading-checked, search reading-room), search (rules, reading-ready))
+consume-g-requires g c = record {
+  t_value = (search reading-checked, search reading-room);
+  ready = search (rules, reading-ready);
+}
 
 pub loop-pieces-preserved : goal.loop-pieces-preserved
 loop-pieces-preserved g c = search reading-more
