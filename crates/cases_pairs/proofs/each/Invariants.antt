@@ -4,7 +4,7 @@ use lib.ListN.{length}
 use Rattle.cases_pairs.proofs.each.Given as goal
 
 abbrev pub invariant-loop-at : goal.invariant-loop-at
-invariant-loop-at l = l.at ≤ length l.b
+invariant-loop-at g l = l.at ≤ length l.b
 
 abbrev pub decreases-loop-at : goal.decreases-loop-at
-decreases-loop-at l = length l.b - l.at
+decreases-loop-at g l = length l.b - l.at

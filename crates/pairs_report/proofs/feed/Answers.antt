@@ -12,7 +12,10 @@ pub returns-then-out-g-lt80 : goal.returns-then-out-g-lt80
 returns-then-out-g-lt80 c = search feeding-full
 
 pub feed_run-g-requires : goal.feed_run-g-requires
-feed_run-g-requires c = (search (rules, feeding-ready), search (rules, feeding-room))
+feed_run-g-requires c = record {
+  t_value = search (rules, feeding-ready);
+  at_in_bounds = search (rules, feeding-room);
+}
 
 pub loop-g-smaller : goal.loop-g-smaller
 loop-g-smaller c = search feeding-less

@@ -13,7 +13,10 @@ pub slice_bounds-pair_second-end-in-Written : goal.slice_bounds-pair_second-end-
 slice_bounds-pair_second-end-in-Written c = search text-length
 
 pub pair_second-requires : goal.pair_second-requires
-pair_second-requires c = (search rules, search (text-string, rules))
+pair_second-requires c = record {
+  t_value = search rules;
+  x_value = search (text-string, rules);
+}
 
 pub returns-in-Written : goal.returns-in-Written
 returns-in-Written c = search first-granted

@@ -13,7 +13,10 @@ pub slice_bounds-pair_strings-end-in-Written : goal.slice_bounds-pair_strings-en
 slice_bounds-pair_strings-end-in-Written c = search text-length
 
 pub pair_strings-requires : goal.pair_strings-requires
-pair_strings-requires c = (search rules, search (rules, text-string))
+pair_strings-requires c = record {
+  t_value = search rules;
+  a_value = search (rules, text-string);
+}
 
 pub returns-in-Written : goal.returns-in-Written
 returns-in-Written c = search second-granted

@@ -3,22 +3,22 @@ use Rattle.pairs_run.proofs.PieceLaws.{consuming-none, consuming-ready, fed-insi
 use Rattle.pairs_run.proofs.consume.Goals as goal
 
 pub loop-g-init : goal.loop-g-init
-loop-g-init c = search consuming-none
+loop-g-init g c = search consuming-none
 
 pub feed-h-requires : goal.feed-h-requires
-feed-h-requires c = search (rules, consuming-ready)
+feed-h-requires g c = search (rules, consuming-ready)
 
 pub slice_bounds-write_all-end : goal.slice_bounds-write_all-end
-slice_bounds-write_all-end c = search fed-inside
+slice_bounds-write_all-end g c = search fed-inside
 
 pub slice_bounds-write_all-end-in-loop-g : goal.slice_bounds-write_all-end-in-loop-g
-slice_bounds-write_all-end-in-loop-g c = search fed-length
+slice_bounds-write_all-end-in-loop-g g c = search fed-length
 
 pub loop-g-smaller : goal.loop-g-smaller
-loop-g-smaller c = search consuming-less
+loop-g-smaller g c = search consuming-less
 
 pub loop-g-preserved : goal.loop-g-preserved
-loop-g-preserved c = search consuming-more
+loop-g-preserved g c = search consuming-more
 
 pub returns : goal.returns
-returns c = search consuming-all
+returns g c = search consuming-all

@@ -3,16 +3,19 @@ use Rattle.pairs_run.proofs.PieceLaws.{reading-none, reading-checked, reading-ro
 use Rattle.pairs_run.proofs.read_pieces.Goals as goal
 
 pub loop-pieces-init : goal.loop-pieces-init
-loop-pieces-init c = search reading-none
+loop-pieces-init g c = search reading-none
 
 pub returns-then-n-eq0 : goal.returns-then-n-eq0
-returns-then-n-eq0 c = search reading-ended
+returns-then-n-eq0 g c = search reading-ended
 
 pub consume-g-requires : goal.consume-g-requires
-consume-g-requires c = ((search reading-checked, search reading-room), search (rules, reading-ready))
+consume-g-requires g c = record {
+  t_value = (search reading-checked, search reading-room);
+  ready = search (rules, reading-ready);
+}
 
 pub loop-pieces-preserved : goal.loop-pieces-preserved
-loop-pieces-preserved c = search reading-more
+loop-pieces-preserved g c = search reading-more
 
 pub returns : goal.returns
-returns c = search reading-ended
+returns g c = search reading-ended

@@ -4,7 +4,7 @@ use native.Mathlib.Omega.{arith}
 use Rattle.pairs_run.proofs.read_with.Goals as goal
 
 pub read_input-requires : goal.read_input-requires
-read_input-requires c = record {
+read_input-requires g c = record {
   checked = search rules;
   out-room = search rules;
   piece-room = omega arith;

@@ -4,7 +4,7 @@ use lib.ListN.{length}
 use Rattle.cases_compile.proofs.show.entries.Given as goal
 
 abbrev pub invariant-loop-i : goal.invariant-loop-i
-invariant-loop-i l = l.i ≤ length l.t
+invariant-loop-i g l = l.i ≤ length l.t
 
 abbrev pub decreases-loop-i : goal.decreases-loop-i
-decreases-loop-i l = length l.t - l.i
+decreases-loop-i g l = length l.t - l.i
