@@ -114,7 +114,7 @@ module _ (s : State) (number : ℕ) (w : List ℕ) (ts : List Token) where
         c.no-elif,
         c.no-else,
         c.no-endif,
-        l.no_symbol_lem,
+        l.no-symbol,
         l.no-element,
         l.no-order-start,
         l.no-order-end,

@@ -16,7 +16,7 @@ pub record NotConditional (w : List ℕ) : Type 0 where
 
 -- It is none of the others.
 pub record NotLater (w : List ℕ) : Type 0 where
-  pub no_symbol_lem : is w "collating-symbol" ≡ false
+  pub no-symbol : is w "collating-symbol" ≡ false
   pub no-element : is w "collating-element" ≡ false
   pub no-order-start : is w "order_start" ≡ false
   pub no-order-end : is w "order_end" ≡ false

@@ -41,7 +41,7 @@ pub returns : goal.returns
 unfolding bytes
 returns c =
     record {
-      no_symbol_lem = search (other_text "collating-symbol");
+      no-symbol = search (other_text "collating-symbol");
       no-element = search (other_text "collating-element");
       no-order-start = search (other_text "order_start");
       no-order-end = search (other_text "order_end");
