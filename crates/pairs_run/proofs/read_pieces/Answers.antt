@@ -8,14 +8,14 @@ loop-pieces-init g c = search reading-none
 pub returns-then-n-eq0 : goal.returns-then-n-eq0
 returns-then-n-eq0 g c = search reading-ended
 
-pub consume-g-requires : goal.consume-g-requires
-consume-g-requires g c = record {
+pub consume-requires : goal.consume-requires
+consume-requires g c = record {
   t_value = (search reading-checked, search reading-room);
   ready = search (rules, reading-ready);
 }
 
 pub loop-pieces-preserved : goal.loop-pieces-preserved
-loop-pieces-preserved g c = search reading-more
+loop-pieces-preserved g c = search (rules, reading-more, c.in_ok-g.ensures)
 
 pub returns : goal.returns
 returns g c = search reading-ended
