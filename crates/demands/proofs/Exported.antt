@@ -1,5 +1,5 @@
--- What is proved of the code of each exported function: run on any arguments, it ends, and it leaves the paper's answer told in numbers, and the areas as the
--- paper has them (Rattle.zeharmeku.specs.Told). It asks nothing of the caller, and no second answer meets what it promises. `Wired` is as in `Contracts`.
+-- What is proved of the code of each function of zeharmeku, which zeharmeku_c exports with the same clause: run on any arguments, it ends, and it leaves the
+-- paper's answer told in numbers, and the areas as the paper has them (Rattle.zeharmeku.specs.Told). It asks nothing of the caller, and no second answer meets what it promises. `Wired` is as in `Contracts`.
 use mathlib.Core.Path.{◌≡◌, sym, ◌∙◌}
 use mathlib.Core.List.{List}
 use Prim.Native.Nat.{ℕ}

@@ -2,7 +2,7 @@
 // (`open_files`, and `feed` and `finish` of report); the others read and write.
 #![tactic(auto)]
 
-ghost use Rattle.std.specs.Prelude.{◌≡◌, true, ◌≤◌, length, take, IfOk};
+ghost use Rattle.std.specs.Prelude.{◌≡◌, true, ◌≤◌, length, take, IfOk, IfErr, MatchResult, IsUtf8};
 ghost use Rattle.rules.specs.Table.{accepted};
 ghost use Rattle.std.specs.Io.{ReadsAtMost};
 ghost use Rattle.pairs_report.specs.Feeding.{Ready};
@@ -285,7 +285,7 @@ fn read_full(file: &mut impl Read, room: &mut [u8]) -> usize
 
 // A file's name as text, which a path is. Fails where it is not UTF-8.
 pub fn path_of(name: &[u8]) -> io::Result<&str>
-    ensures { IfOk result (λ path. path.now ≡ name.now) }
+    ensures { MatchResult result (λ path. path.now ≡ name.now) (λ _. ¬ (IsUtf8 name.now)) }
 {
     match str::from_utf8(name) {
         Ok(path) => Ok(path),
@@ -293,9 +293,10 @@ pub fn path_of(name: &[u8]) -> io::Result<&str>
     }
 }
 
-// A file by name, as much of it as the room has place for; one that cannot be opened is empty. Fails where the name is not UTF-8.
+// A file by name, as much of it as the room has place for; one that cannot be opened is empty. Fails where the name is not UTF-8, and only there.
 fn load(rt: &impl Files, name: &[u8], room: &mut [u8]) -> io::Result<usize>
-    ensures { ReadsAtMost result room.new }
+    ensures read { ReadsAtMost result room.new }
+    ensures err { IfErr result (λ _. ¬ (IsUtf8 name.now) × (room.new ≡ room.old)) }
 {
     match fs::open(rt, path_of(name)?) {
         Ok(mut file) => Ok(read_full(&mut file, room)),
