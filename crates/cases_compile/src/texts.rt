@@ -2,7 +2,8 @@
 ghost use Rattle.std.specs.Prelude.{◌≤◌, ◌<◌, length, IfOk};
 
 use crate::show::compiled;
-use cases_words::{mark, read_full};
+use base_reading::read_full;
+use cases_words::mark;
 use std::io;
 
 // One case; the place of the next one, or the end.

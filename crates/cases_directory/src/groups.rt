@@ -3,7 +3,8 @@
 ghost use Rattle.std.specs.Prelude.{◌≤◌, ◌<◌, ◌+◌, length, IfOk};
 
 use crate::texts::page;
-use cases_words::{mark, read_full};
+use base_reading::read_full;
+use cases_words::mark;
 use std::io;
 
 // One page; the place of the next one, or the end.

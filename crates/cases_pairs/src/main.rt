@@ -4,7 +4,8 @@
 
 ghost use Rattle.std.specs.Prelude.{◌≤◌, ◌<◌, length, IfOk};
 
-use cases_words::{mark, read_full};
+use base_reading::read_full;
+use cases_words::mark;
 use pairs_run::path_of;
 use std::rt::Files;
 use std::{fs, io};

@@ -1,11 +1,10 @@
 // What the programs of cases share: words of their lines, and marks of their input.
 #![tactic(auto)]
 
-ghost use Rattle.std.specs.Prelude.{◌≡◌, ◌≤◌, length, take};
+ghost use Rattle.std.specs.Prelude.{◌≤◌, length};
 
 use base_units::Refusal;
 use std::io;
-use std::io::Read;
 
 pub fn end_line(rt: &impl Print) -> io::Result<()> {
     rt.write_all(b"\n")
@@ -71,31 +70,6 @@ pub fn untouched(room: &[u8]) -> bool {
         i += 1;
     }
     true
-}
-
-// One read, and how many bytes it put in front of the room; none where it fails.
-fn read_some(file: &mut impl Read, room: &mut [u8]) -> usize
-    ensures { (result ≤ length room.new) × (result ≡ length (take result room.new)) }
-{
-    match file.read(room) {
-        Ok(n) => n,
-        Err(_) => 0,
-    }
-}
-
-// Reads until the room is full, the file ends or a read fails; how many bytes stand in front of the room then.
-pub fn read_full(file: &mut impl Read, room: &mut [u8]) -> usize
-    ensures { (result ≤ length room.new) × (result ≡ length (take result room.new)) }
-{
-    let mut done = 0;
-    while done < room.len() {
-        let n = read_some(file, &mut room[done..]);
-        if n == 0 {
-            return done;
-        }
-        done += n;
-    }
-    done
 }
 
 // The place of the next byte of this value, or the end.

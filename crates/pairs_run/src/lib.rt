@@ -2,13 +2,14 @@
 // (`open_files`, and `feed` and `finish` of report); the others read and write.
 #![tactic(auto)]
 
-ghost use Rattle.std.specs.Prelude.{◌≡◌, true, ◌≤◌, length, take, IfOk, IfErr, MatchResult, IsUtf8};
+ghost use Rattle.std.specs.Prelude.{◌≡◌, true, ◌≤◌, length, IfOk, IfErr, MatchResult, IsUtf8};
 ghost use Rattle.rules.specs.Table.{accepted};
 ghost use Rattle.std.specs.Io.{ReadsAtMost};
 ghost use Rattle.pairs_report.specs.Feeding.{Ready};
 ghost use Rattle.pairs_run.specs.Opening.{LocaleIs, CharmapIs, CharmapOpens, FilesOpen};
 ghost use Rattle.pairs_run.specs.Pieces.{Rooms, Consumed, Ended};
 
+use base_reading::{read_full, read_some};
 use base_units::Refusal;
 use charmap_read::Mapped;
 use locale_compile::Compiled;
@@ -118,16 +119,6 @@ fn consume(
         };
     }
     Ok(g)
-}
-
-// One read, and how many bytes it put in front of the room; none where it fails.
-fn read_some(input: &mut impl Read, room: &mut [u8]) -> usize
-    ensures { (result ≤ length room.new) × (result ≡ length (take result room.new)) }
-{
-    match input.read(room) {
-        Ok(n) => n,
-        Err(_) => 0,
-    }
 }
 
 // The input, piece by piece, to its end, or to a read that fails. The count of pieces is there because a loop has to end: no input has so many.
@@ -266,21 +257,6 @@ fn run_texts(
     run_within(
         rt, locale, charmap, input, &mut table, &mut work, &mut area, &mut out,
     )
-}
-
-// Reads until the room is full, the file ends or a read fails. How many bytes stand in front of the room then.
-fn read_full(file: &mut impl Read, room: &mut [u8]) -> usize
-    ensures { (result ≤ length room.new) × (result ≡ length (take result room.new)) }
-{
-    let mut done = 0;
-    while done < room.len() {
-        let n = read_some(file, &mut room[done..]);
-        if n == 0 {
-            return done;
-        }
-        done += n;
-    }
-    done
 }
 
 // A file's name as text, which a path is. Fails where it is not UTF-8.
