@@ -9,10 +9,7 @@ use std::io::Read;
 pub fn read_some(file: &mut impl Read, room: &mut [u8]) -> usize
     ensures { (result ≤ length room.new) × (result ≡ length (take result room.new)) }
 {
-    match file.read(room) {
-        Ok(n) => n,
-        Err(_) => 0,
-    }
+    file.read(room).unwrap_or(0)
 }
 
 // Reads until the room is full, the file ends or a read fails. How many bytes stand in front of the room then.
@@ -21,11 +18,10 @@ pub fn read_full(file: &mut impl Read, room: &mut [u8]) -> usize
 {
     let mut done = 0;
     while done < room.len() {
-        let n = read_some(file, &mut room[done..]);
-        if n == 0 {
-            return done;
+        match read_some(file, &mut room[done..]) {
+            0 => break,
+            n => done += n,
         }
-        done += n;
     }
     done
 }

@@ -1,3 +1,4 @@
 pub mod CharLaws
 pub mod NumberLaws
 pub mod Fields
+pub mod LowerLaws

@@ -5,8 +5,8 @@ use Prim.Native.Nat.{ℕ}
 use native.Mathlib.Omega.{arith}
 use lib.Dec.{eqb}
 use Rattle.base_units.specs.Numbers.{number_of, sign_of}
-use Rattle.base_units.specs.declared.Sign.{Sign}
-use Rattle.base_units.specs.declared.Sign.TheVariants.{Less, Equal, Greater}
+use Rattle.std.specs.declared.cmp.Ordering.{Ordering}
+use Rattle.std.specs.declared.cmp.Ordering.TheVariants.{Less, Equal, Greater}
 use Rattle.base_units.specs.declared.Refusal.{Refusal}
 use Rattle.base_units.specs.declared.Refusal.TheVariants.{TooLong, BadByte, Malformed, BadRule, Twice, Unknown, TooMany, Unranked, ShortArea, ByteTwice, NotAccepted, BadString, NoRoom, NotMapped, NotRising, NotPlain, BadPart}
 use Rattle.rules.specs.Order as order
@@ -64,16 +64,16 @@ number_of-some NotPlain e = omega arith
 number_of-some BadPart e = omega arith
 
 -- the sign of a sign on the paper
-sign_back : order.Sign → Sign
+sign_back : order.Sign → Ordering
 sign_back order.less = Less
 sign_back order.equal = Equal
 sign_back order.greater = Greater
 
-sign-back : (s : Sign) → sign_back (sign_of s) ≡ s
+sign-back : (s : Ordering) → sign_back (sign_of s) ≡ s
 unfolding sign_back
 sign-back Less = refl
 sign-back Equal = refl
 sign-back Greater = refl
 
-pub sign_of-unique : (s t : Sign) → sign_of s ≡ sign_of t → s ≡ t
+pub sign_of-unique : (s t : Ordering) → sign_of s ≡ sign_of t → s ≡ t
 sign_of-unique s t e = sym (sign-back s) ∙ ap sign_back e ∙ sign-back t

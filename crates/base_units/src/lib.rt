@@ -1,32 +1,25 @@
 // The units of the product: what must not be mixed up, and what answers are made of. A number of the paper for each is in specs/.
 #![tactic(auto)]
 
-ghost use Rattle.std.specs.Prelude.{◌≡◌, cond, ◌<◌, ◌≤◌};
+ghost use Rattle.std.specs.Prelude.{◌≡◌, ◌<◌, ◌≤◌};
 ghost use Rattle.rules.specs.Names.{is_character};
 ghost use Rattle.rules.specs.Order.{good_string};
-ghost use Rattle.base_units.specs.Numbers.{number_of};
+ghost use Rattle.rules.specs.Text.{lower};
+ghost use Rattle.base_units.specs.Numbers.{number_of, number_or_none};
 
 // The place of an order line among the used ones, from 1: what a weight is.
-#[derive(Clone, Copy)]
+#[derive(Clone, Copy, PartialEq, Eq, PartialOrd, Ord)]
 pub struct Rank(pub u32);
 
 // A character of a string, a name or a charmap, by its code: `is_character` tells whether it is one. 110000 hex stands for none.
-#[derive(Clone, Copy)]
+#[derive(Clone, Copy, PartialEq, Eq, PartialOrd, Ord)]
 pub struct CodePoint(pub u32);
 
-// How the first of two strings stands to the second.
-#[derive(Clone, Copy)]
-pub enum Sign {
-    Less,
-    Equal,
-    Greater,
-}
-
 // Why an operation gives no answer, in the order of the paper's numbers from 1.
-#[derive(Clone, Copy)]
+#[derive(Clone, Copy, PartialEq, Eq)]
 pub enum Refusal {
     // a source that is too long, or a work area that is too short
-    TooLong,
+    TooLong = 1,
     // a byte that no source may hold
     BadByte,
     // a malformed or misplaced line, a missing end
@@ -66,38 +59,21 @@ pub fn is_character(c: CodePoint) -> bool
     ensures { result ≡ is_character c.0 }
 {
     let n = c.0;
-    if 0x10FFFF < n {
-        return false;
-    }
-    if n < 0xD800 {
-        return true;
-    }
-    0xDFFF < n
+    n <= 0x10FFFF && !(0xD800..=0xDFFF).contains(&n)
 }
 
-// 1 for a code that is no character's, else 0: what a string has of them is a sum.
-fn strange(n: u32) -> u32
-    ensures { result ≡ cond (is_character n) 0 1 }
-{
-    let character = is_character(CodePoint(n));
-    if character {
-        return 0;
-    }
-    1
-}
-
-// Whether a string is not too long, and each of its numbers is a character.
+// Whether a string is not too long, and each of its numbers is a character. The loop has no other way out than its end, so that it can be made 16 bytes wide.
 pub fn good_string(s: &[u32]) -> bool
     ensures { result ≡ good_string s.now }
 {
     if 4096 < s.len() {
         return false;
     }
-    let mut i = 0;
     let mut bad: u32 = 0;
-    while i < s.len() {
-        bad += strange(s[i]);
-        i += 1;
+    for &n in s {
+        if !is_character(CodePoint(n)) {
+            bad += 1;
+        }
     }
     bad == 0
 }
@@ -106,64 +82,18 @@ pub fn good_string(s: &[u32]) -> bool
 pub fn number_of(r: Refusal) -> u32
     ensures { result ≡ number_of r }
 {
-    match r {
-        Refusal::TooLong => 1,
-        Refusal::BadByte => 2,
-        Refusal::Malformed => 3,
-        Refusal::BadRule => 4,
-        Refusal::Twice => 5,
-        Refusal::Unknown => 6,
-        Refusal::TooMany => 7,
-        Refusal::Unranked => 8,
-        Refusal::ShortArea => 9,
-        Refusal::ByteTwice => 10,
-        Refusal::NotAccepted => 11,
-        Refusal::BadString => 12,
-        Refusal::NoRoom => 13,
-        Refusal::NotMapped => 14,
-        Refusal::NotRising => 15,
-        Refusal::NotPlain => 16,
-        Refusal::BadPart => 17,
-    }
+    r as u32
 }
 
-// The refusal that a source gets for its lines or its area, by its number: what is gathered over the parts of a line is the lowest number.
-pub fn refusal_of(n: u8) -> Refusal
-    requires { (2 ≤ n) × (n ≤ 10) }
-    ensures { number_of result ≡ n }
+// The first of two refusals in the paper's order, where there is one.
+pub fn lower_of(a: Option<Refusal>, b: Option<Refusal>) -> Option<Refusal>
+    ensures { number_or_none result ≡ lower (number_or_none a) (number_or_none b) }
 {
-    if n <= 2 {
-        return Refusal::BadByte;
+    match (a, b) {
+        (None, _) => b,
+        (_, None) => a,
+        (Some(r), Some(s)) => if number_of(r) < number_of(s) { a } else { b },
     }
-    if n <= 3 {
-        return Refusal::Malformed;
-    }
-    if n <= 4 {
-        return Refusal::BadRule;
-    }
-    if n <= 5 {
-        return Refusal::Twice;
-    }
-    if n <= 6 {
-        return Refusal::Unknown;
-    }
-    if n <= 7 {
-        return Refusal::TooMany;
-    }
-    if n <= 8 {
-        return Refusal::Unranked;
-    }
-    if n <= 9 {
-        return Refusal::ShortArea;
-    }
-    Refusal::ByteTwice
-}
-
-// A number of an area as a place.
-pub fn wide(x: u32) -> usize
-    ensures { result ≡ x }
-{
-    x as usize
 }
 
 // A place as a number of an area.

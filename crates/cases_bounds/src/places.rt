@@ -234,7 +234,8 @@ fn faults_in_parts(rt: &impl Print, t: &[u32], run: &[u32]) -> io::Result<()> {
 fn faults_before(rt: &impl Print, run: &[u32]) -> io::Result<()> {
     let mut t = [0u32; 512];
     let mut work = [0u32; 1024];
-    locale_compile::compile(
+    // a table that was refused shows in every line
+    let _ = locale_compile::compile(
         b"LC_COLLATE\norder_start backward\n<U0061>\norder_end\nEND LC_COLLATE\n",
         &mut t,
         &mut work,
@@ -305,7 +306,8 @@ fn cases_by(rt: &impl Print, t: &[u32]) -> io::Result<()> {
 pub fn cases(rt: &impl Print) -> io::Result<()> {
     let mut t = [0u32; 512];
     let mut work = [0u32; 1024];
-    locale_compile::compile(
+    // a table that was refused shows in every line
+    let _ = locale_compile::compile(
         b"LC_COLLATE\ncollating-element <ch> from \"<U0063><U0068>\"\norder_start\n<U0061>\n<U0062>\n<U0063>\n<ch>\n<U0064>\norder_end\nEND LC_COLLATE\n",
         &mut t,
         &mut work,

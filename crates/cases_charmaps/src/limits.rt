@@ -32,7 +32,7 @@ fn whole_area(rt: &impl Print) -> io::Result<()> {
 // Sources that are LFs, and no more.
 fn longest_of(rt: &impl Print, src: &[u8]) -> io::Result<()> {
     if 1 <= src.len() {
-        mapped(rt, b"1,048,576 bytes:", &src[1..src.len()])?;
+        mapped(rt, b"1,048,576 bytes:", &src[1..])?;
     }
     mapped(rt, b"1,048,577 bytes:", src)
 }

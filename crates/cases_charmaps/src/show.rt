@@ -1,40 +1,37 @@
 // What the run cases write: a line for each, its name and the answer. Areas are filled with EEEE before each call.
 use base_units::Refusal;
-use cases_words::{end_line, number, others, refusal};
-use charmap_read::Mapped;
+use cases_words::{all_are, others, refusal};
 use std::io;
 
 // How many bytes have a code, how many of them encode it, and whether what lies behind is as it was.
 fn numbers(rt: &impl Print, area: &[u32]) -> io::Result<()> {
     if 512 <= area.len() {
-        number(rt, others(&area[0..256], 0x110000))?;
-        rt.write_all(b" codes,")?;
-        number(rt, others(&area[256..512], 0))?;
-        rt.write_all(b" encode")?;
-        if others(&area[512..area.len()], 0xEEEE) == 0 {
-            rt.write_all(b", rest unchanged")?;
+        let coded = others(&area[0..256], 0x110000);
+        let encoding = others(&area[256..512], 0);
+        print!(rt; " {coded} codes, {encoding} encode")?;
+        if all_are(&area[512..area.len()], 0xEEEE) {
+            print!(rt; ", rest unchanged")?;
         }
     }
-    end_line(rt)
+    println!(rt;)
 }
 
 // A refusal and its line, and whether the area is as it was.
 fn stopped(rt: &impl Print, r: Refusal, line: usize, area: &[u32]) -> io::Result<()> {
     refusal(rt, r)?;
-    rt.write_all(b" line")?;
-    number(rt, line)?;
-    if others(area, 0xEEEE) == 0 {
-        rt.write_all(b", area unchanged")?;
+    print!(rt; " line {line}")?;
+    if all_are(area, 0xEEEE) {
+        print!(rt; ", area unchanged")?;
     }
-    end_line(rt)
+    println!(rt;)
 }
 
 // A source read into an area.
 pub fn mapped_in(rt: &impl Print, name: &[u8], src: &[u8], area: &mut [u32]) -> io::Result<()> {
     rt.write_all(name)?;
     match charmap_read::read(src, area) {
-        Mapped::Done => numbers(rt, area),
-        Mapped::Refused(r, line) => stopped(rt, r, line, area),
+        Ok(()) => numbers(rt, area),
+        Err((r, line)) => stopped(rt, r, line, area),
     }
 }
 

@@ -11,9 +11,9 @@ fn case(rt: &impl Print, b: &[u8], at: usize) -> io::Result<usize>
     requires { at < length b.now }
     ensures { IfOk result (λ next. (at < next) × (next ≤ length b.now)) }
 {
-    let name = mark(b, at, 126);
+    let name = mark(b, at, b'~');
     if name < b.len() {
-        let end = mark(b, name + 1, 126);
+        let end = mark(b, name + 1, b'~');
         mapped(rt, &b[at..name], &b[name + 1..end])?;
         if end + 2 < b.len() {
             return Ok(end + 2);
@@ -24,7 +24,7 @@ fn case(rt: &impl Print, b: &[u8], at: usize) -> io::Result<usize>
 
 // All cases of a text.
 fn each(rt: &impl Print, b: &[u8]) -> io::Result<()> {
-    let mut at: usize = 0;
+    let mut at = 0;
     while at < b.len() {
         at = case(rt, b, at)?;
     }
@@ -35,7 +35,7 @@ pub fn cases(rt: &(impl Print + Input)) -> io::Result<()> {
     let mut b = [0u8; 8192];
     let n = read_full(&mut rt.reader(), &mut b);
     if n <= 8192 {
-        each(rt, &b[0..n])?;
+        each(rt, &b[..n])?;
     }
     Ok(())
 }

@@ -1,11 +1,11 @@
-// Charmaps that are read, and what they decode and encode.
+// Charmaps that are read, and what they decode and encode, which is nothing where one is refused.
 use crate::show::{decoded, decoded_own, encoded};
 use std::io;
 
 // ISO 8859-1, in ranges of four and of eight digits.
 fn latin(rt: &impl Print) -> io::Result<()> {
     let mut area = [0u32; 512];
-    charmap_read::read(
+    let _ = charmap_read::read(
         b"<comment_char> %\n<escape_char> /\nCHARMAP\n<U0000>..<U001F> /x00 controls\n<U0020>..<U007E> /x20\n<U007F> /x7f DELETE\n<U00000080>..<U0000009F> /x80\n<U00A0>..<U00FF> /xA0\nEND CHARMAP\n",
         &mut area,
     );
@@ -27,7 +27,7 @@ fn latin(rt: &impl Print) -> io::Result<()> {
 // Digits of either case.
 fn digits(rt: &impl Print) -> io::Result<()> {
     let mut area = [0u32; 512];
-    charmap_read::read(
+    let _ = charmap_read::read(
         b"CHARMAP\n<U0061> \\x4a\n<U0062> \\x4B\n<U0063> \\xfF\nEND CHARMAP\n",
         &mut area,
     );
@@ -37,13 +37,13 @@ fn digits(rt: &impl Print) -> io::Result<()> {
 // Two bytes for one character: the first encodes.
 fn hyphen(rt: &impl Print) -> io::Result<()> {
     let mut area = [0u32; 512];
-    charmap_read::read(
+    let _ = charmap_read::read(
         b"CHARMAP\n<U002D> \\x2D\n<U002D> \\x5F\nEND CHARMAP\n",
         &mut area,
     );
     decoded(rt, b"hyphen 2D, then 5F: 2D 5F:", &area, b"\x2D\x5F")?;
     encoded(rt, b"002D:", &area, &[0x2D])?;
-    charmap_read::read(
+    let _ = charmap_read::read(
         b"CHARMAP\n<U002D> \\x5F\n<U002D> \\x2D\nEND CHARMAP\n",
         &mut area,
     );

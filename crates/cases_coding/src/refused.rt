@@ -1,4 +1,4 @@
-// What is not decoded or encoded, with a charmap that gives A 41 and a 61.
+// What is not decoded or encoded, with a charmap that gives A 41 and a 61. Were it refused, each case would be too.
 use crate::show::{decoded, decoded_in, encoded, encoded_in};
 use std::io;
 
@@ -38,7 +38,7 @@ fn rooms(rt: &impl Print, area: &[u32]) -> io::Result<()> {
 // 12, by the length; 11 before it.
 fn longest(rt: &impl Print, area: &[u32], b: &[u8]) -> io::Result<()> {
     if 1 <= b.len() {
-        decoded(rt, b"4,096 bytes in a room of eight:", area, &b[1..b.len()])?;
+        decoded(rt, b"4,096 bytes in a room of eight:", area, &b[1..])?;
     }
     decoded(rt, b"4,097 bytes:", area, b)?;
     decoded(rt, b"4,097 bytes, no area:", &[], b)
@@ -59,7 +59,7 @@ fn short(rt: &impl Print, area: &[u32]) -> io::Result<()> {
         decoded(
             rt,
             b"an area of 511 numbers:",
-            &area[0..area.len() - 1],
+            &area[..area.len() - 1],
             b"A",
         )?;
     }
@@ -68,7 +68,7 @@ fn short(rt: &impl Print, area: &[u32]) -> io::Result<()> {
 
 pub fn cases(rt: &impl Print) -> io::Result<()> {
     let mut area = [0u32; 512];
-    charmap_read::read(
+    let _ = charmap_read::read(
         b"CHARMAP\n<U0041> \\x41\n<U0061> \\x61\nEND CHARMAP\n",
         &mut area,
     );

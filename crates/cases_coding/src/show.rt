@@ -1,19 +1,11 @@
 // What the run cases write: a line for each, its name and the answer. Rooms are filled with EEEE or EE before each call.
-use base_units::{Refusal, wide};
-use cases_words::{bytes, end_line, number, others, refusal, untouched};
-use charmap_coding::Coded;
+use base_units::Refusal;
+use cases_words::{all_are, bytes, refusal, untouched};
 use std::io;
 
-fn code(rt: &impl Print, c: u32) -> io::Result<()> {
-    rt.write_all(b" ")?;
-    print!(rt; "{c:04x}")
-}
-
 fn codes(rt: &impl Print, s: &[u32]) -> io::Result<()> {
-    let mut i: usize = 0;
-    while i < s.len() {
-        code(rt, s[i])?;
-        i += 1;
+    for c in s {
+        print!(rt; " {c:04x}")?;
     }
     Ok(())
 }
@@ -22,9 +14,9 @@ fn codes(rt: &impl Print, s: &[u32]) -> io::Result<()> {
 fn uncoded(rt: &impl Print, r: Refusal, same: bool) -> io::Result<()> {
     refusal(rt, r)?;
     if same {
-        rt.write_all(b", room unchanged")?;
+        print!(rt; ", room unchanged")?;
     }
-    end_line(rt)
+    println!(rt;)
 }
 
 // Bytes to characters, in a room.
@@ -37,13 +29,13 @@ pub fn decoded_in(
 ) -> io::Result<()> {
     rt.write_all(name)?;
     match charmap_coding::decode(area, b, room) {
-        Coded::Written(n) => {
+        Ok(n) => {
             if n <= room.len() {
-                codes(rt, &room[0..n])?;
+                codes(rt, &room[..n])?;
             }
-            end_line(rt)
+            println!(rt;)
         }
-        Coded::Refused(r) => uncoded(rt, r, others(room, 0xEEEE) == 0),
+        Err(r) => uncoded(rt, r, all_are(room, 0xEEEE)),
     }
 }
 
@@ -63,13 +55,13 @@ pub fn encoded_in(
 ) -> io::Result<()> {
     rt.write_all(name)?;
     match charmap_coding::encode(area, s, room) {
-        Coded::Written(n) => {
+        Ok(n) => {
             if n <= room.len() {
-                bytes(rt, &room[0..n])?;
+                bytes(rt, &room[..n])?;
             }
-            end_line(rt)
+            println!(rt;)
         }
-        Coded::Refused(r) => uncoded(rt, r, untouched(room)),
+        Err(r) => uncoded(rt, r, untouched(room)),
     }
 }
 
@@ -81,33 +73,24 @@ pub fn encoded(rt: &impl Print, name: &[u8], area: &[u32], s: &[u32]) -> io::Res
 
 // How many numbers are their own places.
 fn own(room: &[u32]) -> usize {
-    let mut n: usize = 0;
-    let mut i: usize = 0;
-    while i < room.len() {
-        if wide(room[i]) == i {
-            n += 1;
-            i += 1;
-        } else {
-            i += 1;
-        }
-    }
-    n
+    room.iter()
+        .zip(0..)
+        .filter(|(c, place)| **c == *place)
+        .count()
 }
 
 // Each byte at its own place.
 fn all_bytes(b: &mut [u8; 256]) {
-    let mut i: usize = 0;
-    while i < 256 {
+    for i in 0..256 {
         b[i] = i as u8;
-        i += 1;
     }
 }
 
-// How many of these bytes are decoded to their places.
-fn decoded_to_places(rt: &impl Print, area: &[u32], b: &[u8; 256]) -> io::Result<()> {
+// How many of these bytes are decoded to their places. A refusal leaves the room, in which no number is its own place.
+fn decoded_to_places(area: &[u32], b: &[u8; 256]) -> usize {
     let mut room = [0xEEEEu32; 256];
-    charmap_coding::decode(area, b, &mut room);
-    number(rt, own(&room))
+    let _ = charmap_coding::decode(area, b, &mut room);
+    own(&room)
 }
 
 // How many of all bytes are decoded to themselves.
@@ -115,6 +98,5 @@ pub fn decoded_own(rt: &impl Print, name: &[u8], area: &[u32]) -> io::Result<()>
     let mut b = [0u8; 256];
     all_bytes(&mut b);
     rt.write_all(name)?;
-    decoded_to_places(rt, area, &b)?;
-    end_line(rt)
+    println!(rt; " {}", decoded_to_places(area, &b))
 }

@@ -1,19 +1,9 @@
 // The longest source, and the most order lines.
-ghost use Rattle.std.specs.Prelude.{◌≤◌, ◌<◌, ◌+◌, ◌*◌, length};
+ghost use Rattle.std.specs.Prelude.{◌≤◌, ◌+◌, ◌*◌, length};
 
 use crate::show::{compiled_in, compiled_with};
+use cases_words::{put, put_lines};
 use std::io;
-
-// A text put over the bytes from a place on.
-fn put(src: &mut [u8], at: usize, text: &[u8])
-    requires { at + length text.now ≤ length src.old }
-{
-    let mut i: usize = 0;
-    while i < text.len() {
-        src[at + i] = text[i];
-        i += 1;
-    }
-}
 
 // A source with the first n numbers of a work area. The area is long enough for a table with no order line.
 fn longest_in(
@@ -46,11 +36,11 @@ fn longest_by(rt: &impl Print, name: &[u8], src: &[u8], n: usize) -> io::Result<
 // A source as long as it may be, which is accepted; then with a work area one number short; then one byte longer, with areas and with none.
 fn longest_of(rt: &impl Print, src: &[u8]) -> io::Result<()> {
     if 1 <= src.len() {
-        longest_by(rt, b"1,048,576 bytes:", &src[0..src.len() - 1], 1048640)?;
+        longest_by(rt, b"1,048,576 bytes:", &src[..src.len() - 1], 1048640)?;
         longest_by(
             rt,
             b"1,048,576 bytes, work one short:",
-            &src[0..src.len() - 1],
+            &src[..src.len() - 1],
             1048639,
         )?;
     }
@@ -73,48 +63,6 @@ fn longest(rt: &impl Print) -> io::Result<()> {
     longest_within(rt, &mut src)
 }
 
-// A hex digit put at a place.
-fn put_digit(src: &mut [u8], at: usize, n: u8)
-    requires { (at < length src.old) × (n < 16) }
-{
-    if n < 10 {
-        src[at] = 48 + n;
-    } else {
-        src[at] = 55 + n;
-    }
-}
-
-// The last four digits of a number, put from a place on.
-fn put_digits(src: &mut [u8], at: usize, n: u32)
-    requires { at + 4 ≤ length src.old }
-{
-    put_digit(src, at, (n / 4096 % 16) as u8);
-    put_digit(src, at + 1, (n / 256 % 16) as u8);
-    put_digit(src, at + 2, (n / 16 % 16) as u8);
-    put_digit(src, at + 3, (n % 16) as u8);
-}
-
-// The order line of the character 10000 hex and n more, 12 bytes with its LF.
-fn put_line(src: &mut [u8], at: usize, n: u32)
-    requires { at + 12 ≤ length src.old }
-{
-    put(src, at, b"<U00010000>\n");
-    put_digits(src, at + 6, n);
-}
-
-// n order lines, from a place on.
-fn put_lines(src: &mut [u8], from: usize, n: u32)
-    requires { from + 12 * n ≤ length src.old }
-{
-    let mut at = from;
-    let mut i: u32 = 0;
-    while i < n {
-        put_line(src, at, i);
-        at += 12;
-        i += 1;
-    }
-}
-
 // The source of n order lines: 23 bytes, 12 for each line, and a text from a place on.
 fn put_order(src: &mut [u8], n: u32, end: usize, text: &[u8])
     requires { (23 + 12 * n ≤ length src.old) × (end + length text.now ≤ length src.old) }
@@ -134,7 +82,7 @@ fn lines_in(
     work: &mut [u32],
 ) -> io::Result<()> {
     if n <= src.len() {
-        compiled_in(rt, name, &src[0..n], area, work)?;
+        compiled_in(rt, name, &src[..n], area, work)?;
     }
     Ok(())
 }

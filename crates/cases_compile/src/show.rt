@@ -1,82 +1,69 @@
 // What the run cases write: a line for each, its name and the answer. Areas are filled with EEEE before each call.
 use base_units::Refusal;
-use cases_words::{end_line, kept, number, others, refusal};
-use locale_compile::Compiled;
+use cases_words::{all_are, kept, refusal};
 use std::io;
 
-// A number of a table; a dash for 110000 hex, which is no character.
-fn entry(rt: &impl Print, x: u32) -> io::Result<()> {
-    if x == 0x110000 {
-        rt.write_all(b" -")
-    } else {
-        number(rt, x as usize)
-    }
-}
-
+// The numbers of a table; a dash for 110000 hex, which is no character.
 fn entries(rt: &impl Print, t: &[u32]) -> io::Result<()> {
-    let mut i: usize = 0;
-    while i < t.len() {
-        entry(rt, t[i])?;
-        i += 1;
+    for x in t {
+        if *x == 0x110000 {
+            print!(rt; " -")?;
+        } else {
+            print!(rt; " {x}")?;
+        }
     }
     Ok(())
 }
 
 // Whether the work area is all zeros.
 fn worked(rt: &impl Print, work: &[u32]) -> io::Result<()> {
-    if others(work, 0) == 0 {
-        rt.write_all(b", work zero")
-    } else {
-        rt.write_all(b", work touched")
-    }
+    let word = if all_are(work, 0) { "zero" } else { "touched" };
+    print!(rt; ", work {word}")
 }
 
 // Whether these numbers are a table, and no more.
 fn judged(rt: &impl Print, t: &[u32]) -> io::Result<()> {
     match table_check::check(t) {
-        table_check::Verdict::Accepted(s) => {
+        Ok(s) => {
             if s.size == t.len() {
-                rt.write_all(b", accepted")?;
+                print!(rt; ", accepted")?;
             }
             Ok(())
         }
-        table_check::Verdict::Refused(r) => refusal(rt, r),
+        Err(r) => refusal(rt, r),
     }
 }
 
 // A table's numbers; of a large one the first three, which tell how many levels, items and weights it has.
 fn numbers(rt: &impl Print, t: &[u32]) -> io::Result<()> {
-    rt.write_all(b":")?;
+    print!(rt; ":")?;
     if t.len() <= 512 {
         entries(rt, t)
     } else {
-        entries(rt, &t[0..3])
+        entries(rt, &t[..3])
     }
 }
 
 // A table of n numbers, and whether the rest of the area and the work area are as they must be.
 fn done(rt: &impl Print, n: usize, area: &[u32], work: &[u32]) -> io::Result<()> {
-    number(rt, n)?;
-    rt.write_all(b" numbers")?;
+    print!(rt; " {n} numbers")?;
     if n <= area.len() {
-        judged(rt, &area[0..n])?;
-        rt.write_all(b", rest")?;
-        kept(rt, &area[n..area.len()])?;
+        judged(rt, &area[..n])?;
+        print!(rt; ", rest")?;
+        kept(rt, &area[n..])?;
         worked(rt, work)?;
-        numbers(rt, &area[0..n])?;
+        numbers(rt, &area[..n])?;
     }
-    end_line(rt)
+    println!(rt;)
 }
 
 // A refusal and its line, and whether the area and the work area are as they must be.
 fn stopped(rt: &impl Print, r: Refusal, line: usize, area: &[u32], work: &[u32]) -> io::Result<()> {
     refusal(rt, r)?;
-    rt.write_all(b" line")?;
-    number(rt, line)?;
-    rt.write_all(b", area")?;
+    print!(rt; " line {line}, area")?;
     kept(rt, area)?;
     worked(rt, work)?;
-    end_line(rt)
+    println!(rt;)
 }
 
 // A source compiled into an area, with a work area.
@@ -89,8 +76,8 @@ pub fn compiled_in(
 ) -> io::Result<()> {
     rt.write_all(name)?;
     match locale_compile::compile(src, area, work) {
-        Compiled::Done(n) => done(rt, n, area, work),
-        Compiled::Refused(r, line) => { stopped(rt, r, line, area, work) }
+        Ok(n) => done(rt, n, area, work),
+        Err((r, line)) => stopped(rt, r, line, area, work),
     }
 }
 
@@ -104,7 +91,7 @@ pub fn compiled_with(
     n: usize,
 ) -> io::Result<()> {
     if n <= work.len() {
-        compiled_in(rt, name, src, area, &mut work[0..n])?;
+        compiled_in(rt, name, src, area, &mut work[..n])?;
     }
     Ok(())
 }

@@ -11,9 +11,9 @@ fn case(rt: &impl Print, b: &[u8], at: usize) -> io::Result<usize>
     requires { at < length b.now }
     ensures { IfOk result (λ next. (at < next) × (next ≤ length b.now)) }
 {
-    let name = mark(b, at, 126);
+    let name = mark(b, at, b'~');
     if name < b.len() {
-        let end = mark(b, name + 1, 126);
+        let end = mark(b, name + 1, b'~');
         compiled(rt, &b[at..name], &b[name + 1..end])?;
         if end + 2 < b.len() {
             return Ok(end + 2);
@@ -24,7 +24,7 @@ fn case(rt: &impl Print, b: &[u8], at: usize) -> io::Result<usize>
 
 // All cases of a text.
 fn each(rt: &impl Print, b: &[u8]) -> io::Result<()> {
-    let mut at: usize = 0;
+    let mut at = 0;
     while at < b.len() {
         at = case(rt, b, at)?;
     }
@@ -35,7 +35,7 @@ fn each(rt: &impl Print, b: &[u8]) -> io::Result<()> {
 fn cases_in(rt: &(impl Print + Input), b: &mut [u8]) -> io::Result<()> {
     let n = read_full(&mut rt.reader(), b);
     if n <= b.len() {
-        each(rt, &b[0..n])?;
+        each(rt, &b[..n])?;
     }
     Ok(())
 }

@@ -12,11 +12,11 @@ fn one(rt: &impl Print, b: &[u8], at: usize, t: &[u32]) -> io::Result<usize>
     requires { at < length b.now }
     ensures { IfOk result (λ next. (at < next) × (next ≤ length b.now)) }
 {
-    let name = mark(b, at, 126);
+    let name = mark(b, at, b'~');
     if name < b.len() {
-        let middle = mark(b, name + 1, 126);
+        let middle = mark(b, name + 1, b'~');
         if middle < b.len() {
-            let end = mark(b, middle + 1, 126);
+            let end = mark(b, middle + 1, b'~');
             page(
                 rt,
                 &b[at..name],
@@ -39,11 +39,8 @@ fn pages(rt: &impl Print, b: &[u8], from: usize, t: &[u32]) -> io::Result<usize>
 {
     let mut at = from;
     while at < b.len() {
-        if b[at] == 126 {
-            if at + 2 < b.len() {
-                return Ok(at + 2);
-            }
-            return Ok(b.len());
+        if b[at] == b'~' {
+            return Ok(b.len().min(at + 2));
         }
         at = one(rt, b, at, t)?;
     }
@@ -57,7 +54,8 @@ fn group_to(rt: &impl Print, b: &[u8], at: usize, end: usize) -> io::Result<usiz
 {
     let mut area = [0u32; 2048];
     let mut work = [0u32; 8256];
-    locale_compile::compile(&b[at..end], &mut area, &mut work);
+    // a table that was refused shows in the line of every page
+    let _ = locale_compile::compile(&b[at..end], &mut area, &mut work);
     pages(rt, b, end + 2, &area)
 }
 
@@ -66,7 +64,7 @@ fn group(rt: &impl Print, b: &[u8], at: usize) -> io::Result<usize>
     requires { at < length b.now }
     ensures { IfOk result (λ next. (at < next) × (next ≤ length b.now)) }
 {
-    let end = mark(b, at, 126);
+    let end = mark(b, at, b'~');
     if end + 2 < b.len() {
         return group_to(rt, b, at, end);
     }
@@ -75,7 +73,7 @@ fn group(rt: &impl Print, b: &[u8], at: usize) -> io::Result<usize>
 
 // All groups of a text.
 fn each(rt: &impl Print, b: &[u8]) -> io::Result<()> {
-    let mut at: usize = 0;
+    let mut at = 0;
     while at < b.len() {
         at = group(rt, b, at)?;
     }
@@ -86,7 +84,7 @@ fn each(rt: &impl Print, b: &[u8]) -> io::Result<()> {
 fn cases_in(rt: &(impl Print + Input), b: &mut [u8]) -> io::Result<()> {
     let n = read_full(&mut rt.reader(), b);
     if n <= b.len() {
-        each(rt, &b[0..n])?;
+        each(rt, &b[..n])?;
     }
     Ok(())
 }

@@ -1,54 +1,30 @@
 // Pages as texts, in which each heading and each topic ends with a bar. The run is both texts as they stand, so that the bars lie in no string.
-ghost use Rattle.std.specs.Prelude.{◌≤◌, ◌<◌, ◌+◌, ◌*◌, length};
+ghost use Rattle.std.specs.Prelude.{◌≤◌, ◌+◌, ◌*◌, length};
 
 use cases_telling::directed_in;
 use std::io;
-
-fn wide(b: u8) -> u32 {
-    b as u32
-}
 
 // The bytes of a text, put over the run from a place on.
 fn put(run: &mut [u32], at: usize, text: &[u8])
     requires { at + length text.now ≤ length run.old }
 {
-    let mut i: usize = 0;
-    while i < text.len() {
-        run[at + i] = wide(text[i]);
-        i += 1;
+    for (i, b) in text.iter().enumerate() {
+        run[at + i] = u32::from(*b);
     }
-}
-
-// A number, put at a place.
-fn put_number(places: &mut [u64], n: usize, number: usize)
-    requires { n < length places.old }
-{
-    places[n] = number as u64;
-}
-
-// A start and a length, put from a place on.
-fn put_place(places: &mut [u64], n: usize, start: usize, size: usize)
-    requires { n + 2 ≤ length places.old }
-{
-    put_number(places, n, start);
-    put_number(places, n + 1, size);
 }
 
 // The starts and lengths of the strings in a text that stands in the run from a place on, and how many numbers these are.
 fn cut(text: &[u8], at: usize, places: &mut [u64]) -> usize
     requires { (at + length text.now ≤ 512) × (2 * length text.now ≤ length places.old) }
 {
-    let mut n: usize = 0;
-    let mut start: usize = 0;
-    let mut i: usize = 0;
-    while i < text.len() {
-        if text[i] == 124 {
-            put_place(places, n, at + start, i - start);
+    let mut n = 0;
+    let mut start = 0;
+    for (i, b) in text.iter().enumerate() {
+        if *b == b'|' {
+            places[n] = (at + start) as u64;
+            places[n + 1] = (i - start) as u64;
             n += 2;
-            i += 1;
-            start = i;
-        } else {
-            i += 1;
+            start = i + 1;
         }
     }
     n
@@ -65,10 +41,8 @@ fn laid(
     topics: &[u64],
     m: usize,
 ) -> io::Result<()> {
-    if n <= headings.len() {
-        if m <= topics.len() {
-            directed_in(rt, name, t, run, &headings[0..n], &topics[0..m], m / 2 + 1)?;
-        }
+    if n <= headings.len() && m <= topics.len() {
+        directed_in(rt, name, t, run, &headings[..n], &topics[..m], m / 2 + 1)?;
     }
     Ok(())
 }
@@ -103,19 +77,17 @@ pub fn page(
     let mut run = [0u32; 512];
     let mut first = [0u64; 512];
     let mut second = [0u64; 512];
-    if headings.len() <= 256 {
-        if topics.len() <= 256 {
-            page_within(
-                rt,
-                name,
-                t,
-                headings,
-                topics,
-                &mut run,
-                &mut first,
-                &mut second,
-            )?;
-        }
+    if headings.len() <= 256 && topics.len() <= 256 {
+        page_within(
+            rt,
+            name,
+            t,
+            headings,
+            topics,
+            &mut run,
+            &mut first,
+            &mut second,
+        )?;
     }
     Ok(())
 }

@@ -21,11 +21,11 @@ fn case(rt: &(impl Print + Files), b: &[u8], at: usize) -> io::Result<usize>
     requires { at < length b.now }
     ensures { IfOk result (λ next. (at < next) × (next ≤ length b.now)) }
 {
-    let locale = mark(b, at, 32);
+    let locale = mark(b, at, b' ');
     if locale < b.len() {
-        let charmap = mark(b, locale + 1, 32);
+        let charmap = mark(b, locale + 1, b' ');
         if charmap < b.len() {
-            let end = mark(b, charmap + 1, 10);
+            let end = mark(b, charmap + 1, b'\n');
             if end < b.len() {
                 rt.write_all(&b[at..end + 1])?;
                 run(
@@ -43,7 +43,7 @@ fn case(rt: &(impl Print + Files), b: &[u8], at: usize) -> io::Result<usize>
 
 // All lines of standard input.
 fn each(rt: &(impl Print + Files), b: &[u8]) -> io::Result<()> {
-    let mut at: usize = 0;
+    let mut at = 0;
     while at < b.len() {
         at = case(rt, b, at)?;
     }
@@ -54,7 +54,7 @@ fn main(rt: HostRuntime) -> io::Result<()> {
     let mut b = [0u8; 4096];
     let n = read_full(&mut rt.reader(), &mut b);
     if n <= 4096 {
-        each(&rt, &b[0..n])?;
+        each(&rt, &b[..n])?;
     }
     Ok(())
 }

@@ -1,18 +1,19 @@
 // What the run cases write: a line for each, its name and the answer.
-use base_units::{Refusal, Sign};
-use cases_words::{bytes, end_line, number, refusal, untouched};
+use base_units::Refusal;
+use cases_words::{bytes, refusal, untouched};
+use std::cmp::Ordering;
 use std::io;
 
 fn refused(rt: &impl Print, r: Refusal) -> io::Result<()> {
     refusal(rt, r)?;
-    end_line(rt)
+    println!(rt;)
 }
 
-fn sign(rt: &impl Print, s: Sign) -> io::Result<()> {
+fn sign(s: Ordering) -> char {
     match s {
-        Sign::Less => rt.write_all(b" <"),
-        Sign::Equal => rt.write_all(b" ="),
-        Sign::Greater => rt.write_all(b" >"),
+        Ordering::Less => '<',
+        Ordering::Equal => '=',
+        Ordering::Greater => '>',
     }
 }
 
@@ -20,21 +21,15 @@ fn sign(rt: &impl Print, s: Sign) -> io::Result<()> {
 pub fn checked(rt: &impl Print, name: &[u8], t: &[u32]) -> io::Result<()> {
     rt.write_all(name)?;
     match table_check::check(t) {
-        table_check::Verdict::Accepted(s) => {
-            rt.write_all(b" accepted")?;
-            number(rt, s.levels)?;
-            number(rt, s.items)?;
-            number(rt, s.size)?;
-            end_line(rt)
-        }
-        table_check::Verdict::Refused(r) => refused(rt, r),
+        Ok(s) => println!(rt; " accepted {} {} {}", s.levels, s.items, s.size),
+        Err(r) => refused(rt, r),
     }
 }
 
 // The check of a table's first numbers.
 pub fn checked_part(rt: &impl Print, name: &[u8], t: &[u32], n: usize) -> io::Result<()> {
     if n <= t.len() {
-        checked(rt, name, &t[0..n])?;
+        checked(rt, name, &t[..n])?;
     }
     Ok(())
 }
@@ -43,12 +38,8 @@ pub fn checked_part(rt: &impl Print, name: &[u8], t: &[u32], n: usize) -> io::Re
 pub fn stepped(rt: &impl Print, name: &[u8], t: &[u32], s: &[u32], at: usize) -> io::Result<()> {
     rt.write_all(name)?;
     match order_compare::step(t, s, at) {
-        order_compare::Stepping::At(place, size) => {
-            number(rt, place)?;
-            number(rt, size)?;
-            end_line(rt)
-        }
-        order_compare::Stepping::Refused(r) => refused(rt, r),
+        Ok((place, size)) => println!(rt; " {place} {size}"),
+        Err(r) => refused(rt, r),
     }
 }
 
@@ -56,14 +47,8 @@ pub fn stepped(rt: &impl Print, name: &[u8], t: &[u32], s: &[u32], at: usize) ->
 pub fn compared(rt: &impl Print, name: &[u8], t: &[u32], a: &[u32], b: &[u32]) -> io::Result<()> {
     rt.write_all(name)?;
     match order_compare::compare(t, a, b) {
-        order_compare::Comparison::Decided(x) => {
-            let s = x.sign;
-            sign(rt, s)?;
-            number(rt, x.level)?;
-            number(rt, x.agreed)?;
-            end_line(rt)
-        }
-        order_compare::Comparison::Refused(r) => refused(rt, r),
+        Ok(x) => println!(rt; " {} {} {}", sign(x.sign), x.level, x.agreed),
+        Err(r) => refused(rt, r),
     }
 }
 
@@ -77,15 +62,15 @@ pub fn keyed(
 ) -> io::Result<()> {
     rt.write_all(name)?;
     match order_keys::key(t, s, room) {
-        order_keys::Keyed::Written(n) => {
+        Ok(n) => {
             if n <= room.len() {
-                bytes(rt, &room[0..n])?;
+                bytes(rt, &room[..n])?;
             }
-            end_line(rt)
+            println!(rt;)
         }
-        order_keys::Keyed::Refused(r) => {
+        Err(r) => {
             if untouched(room) {
-                rt.write_all(b" room unchanged,")?;
+                print!(rt; " room unchanged,")?;
             }
             refused(rt, r)
         }
@@ -102,11 +87,8 @@ pub fn key_length(
 ) -> io::Result<()> {
     rt.write_all(name)?;
     match order_keys::key(t, s, room) {
-        order_keys::Keyed::Written(n) => {
-            number(rt, n)?;
-            end_line(rt)
-        }
-        order_keys::Keyed::Refused(r) => refused(rt, r),
+        Ok(n) => println!(rt; " {n}"),
+        Err(r) => refused(rt, r),
     }
 }
 
@@ -120,7 +102,7 @@ pub fn key_length_within(
     n: usize,
 ) -> io::Result<()> {
     if n <= room.len() {
-        key_length(rt, name, t, s, &mut room[0..n])?;
+        key_length(rt, name, t, s, &mut room[..n])?;
     }
     Ok(())
 }

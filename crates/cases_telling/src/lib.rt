@@ -2,19 +2,12 @@
 #![tactic(auto)]
 
 use base_units::Refusal;
-use cases_words::{end_line, kept, number, refusal};
-use order_directory::Directed;
+use cases_words::{kept, refusal};
 use std::io;
 
-fn heading(rt: &impl Print, h: u32) -> io::Result<()> {
-    number(rt, h as usize)
-}
-
 fn numbers(rt: &impl Print, s: &[u32]) -> io::Result<()> {
-    let mut i: usize = 0;
-    while i < s.len() {
-        heading(rt, s[i])?;
-        i += 1;
+    for h in s {
+        print!(rt; " {h}")?;
     }
     Ok(())
 }
@@ -24,19 +17,19 @@ fn told(rt: &impl Print, s: &[u32]) -> io::Result<()> {
     if s.len() <= 40 {
         numbers(rt, s)
     } else {
-        numbers(rt, &s[0..3])?;
-        rt.write_all(b" ..")?;
-        numbers(rt, &s[s.len() - 3..s.len()])
+        numbers(rt, &s[..3])?;
+        print!(rt; " ..")?;
+        numbers(rt, &s[s.len() - 3..])
     }
 }
 
 // A page of n topics, and whether the rest of the list is as it was.
 fn done(rt: &impl Print, n: usize, list: &[u32]) -> io::Result<()> {
     if n <= list.len() {
-        told(rt, &list[0..n])?;
-        rt.write_all(b", rest")?;
-        kept(rt, &list[n..list.len()])?;
-        end_line(rt)?;
+        told(rt, &list[..n])?;
+        print!(rt; ", rest")?;
+        kept(rt, &list[n..])?;
+        println!(rt;)?;
     }
     Ok(())
 }
@@ -44,9 +37,9 @@ fn done(rt: &impl Print, n: usize, list: &[u32]) -> io::Result<()> {
 // A refusal, and whether the list is as it was.
 fn stopped(rt: &impl Print, r: Refusal, list: &[u32]) -> io::Result<()> {
     refusal(rt, r)?;
-    rt.write_all(b", list")?;
+    print!(rt; ", list")?;
     kept(rt, list)?;
-    end_line(rt)
+    println!(rt;)
 }
 
 // A page, its headings written into a list.
@@ -61,8 +54,8 @@ pub fn directed(
 ) -> io::Result<()> {
     rt.write_all(name)?;
     match order_directory::directory(t, run, headings, topics, list) {
-        Directed::Done => done(rt, topics.len() / 2, list),
-        Directed::Refused(r) => { stopped(rt, r, list) }
+        Ok(()) => done(rt, topics.len() / 2, list),
+        Err(r) => stopped(rt, r, list),
     }
 }
 
@@ -78,7 +71,7 @@ pub fn directed_in(
 ) -> io::Result<()> {
     let mut list = [0xEEEEu32; 1024];
     if n <= 1024 {
-        directed(rt, name, t, run, headings, topics, &mut list[0..n])?;
+        directed(rt, name, t, run, headings, topics, &mut list[..n])?;
     }
     Ok(())
 }

@@ -1,75 +1,52 @@
-// What the programs of cases share: words of their lines, and marks of their input.
+// What the programs of cases share: words of their lines, marks of their input, and sources of many order lines.
 #![tactic(auto)]
 
-ghost use Rattle.std.specs.Prelude.{◌≤◌, length};
+ghost use Rattle.std.specs.Prelude.{◌≡◌, ◌≤◌, ◌<◌, ◌+◌, ◌*◌, length};
+ghost use Rattle.std.proofs.lemmas.List.Edits.{sets};
+ghost use Rattle.cases_words.specs.Lines.{digit_byte, line_of, order_lines};
 
 use base_units::Refusal;
 use std::io;
 
-pub fn end_line(rt: &impl Print) -> io::Result<()> {
-    rt.write_all(b"\n")
-}
-
 // A blank and a number.
 pub fn number(rt: &impl Print, n: usize) -> io::Result<()> {
-    rt.write_all(b" ")?;
-    rt.print(n)
+    print!(rt; " {n}")
 }
 
 pub fn refusal(rt: &impl Print, r: Refusal) -> io::Result<()> {
-    rt.write_all(b" refused")?;
-    number(rt, base_units::number_of(r) as usize)
-}
-
-// A blank and a byte.
-fn byte(rt: &impl Print, b: u8) -> io::Result<()> {
-    rt.write_all(b" ")?;
-    print!(rt; "{b:02x}")
+    print!(rt; " refused {}", base_units::number_of(r))
 }
 
 pub fn bytes(rt: &impl Print, b: &[u8]) -> io::Result<()> {
-    let mut i: usize = 0;
-    while i < b.len() {
-        byte(rt, b[i])?;
-        i += 1;
+    for x in b {
+        print!(rt; " {x:02x}")?;
     }
     Ok(())
 }
 
 // How many numbers are not x.
 pub fn others(s: &[u32], x: u32) -> usize {
-    let mut n: usize = 0;
-    let mut i: usize = 0;
-    while i < s.len() {
-        if s[i] == x {
-            i += 1;
-        } else {
-            n += 1;
-            i += 1;
-        }
-    }
-    n
+    s.iter().filter(|y| **y != x).count()
+}
+
+// Whether each number is x.
+pub fn all_are(s: &[u32], x: u32) -> bool {
+    s.iter().all(|y| *y == x)
 }
 
 // Whether numbers that must stay are as they were, EEEE.
 pub fn kept(rt: &impl Print, s: &[u32]) -> io::Result<()> {
-    if others(s, 0xEEEE) == 0 {
-        rt.write_all(b" unchanged")
+    let word = if all_are(s, 0xEEEE) {
+        "unchanged"
     } else {
-        rt.write_all(b" touched")
-    }
+        "touched"
+    };
+    print!(rt; " {word}")
 }
 
 // Whether each byte of a room is as it was, EE.
 pub fn untouched(room: &[u8]) -> bool {
-    let mut i: usize = 0;
-    while i < room.len() {
-        if room[i] != 0xEE {
-            return false;
-        }
-        i += 1;
-    }
-    true
+    room.iter().all(|b| *b == 0xEE)
 }
 
 // The place of the next byte of this value, or the end.
@@ -77,12 +54,50 @@ pub fn mark(b: &[u8], from: usize, value: u8) -> usize
     requires { from ≤ length b.now }
     ensures { (from ≤ result) × (result ≤ length b.now) }
 {
-    let mut i = from;
-    while i < b.len() {
+    for i in from..b.len() {
         if b[i] == value {
             return i;
         }
-        i += 1;
     }
-    i
+    b.len()
+}
+
+// A text put over the bytes from a place on.
+pub fn put(src: &mut [u8], at: usize, text: &[u8])
+    requires { at + length text.now ≤ length src.old }
+    ensures { src.new ≡ sets src.old at text.now }
+{
+    src[at..at + text.len()].copy_from_slice(text);
+}
+
+// A hex digit.
+fn digit(n: u32) -> u8
+    requires { n < 16 }
+    ensures { result ≡ digit_byte n }
+{
+    let n = n as u8;
+    if n < 10 { b'0' + n } else { b'A' - 10 + n }
+}
+
+// The order line of the character 10000 hex and n more, 12 bytes with its LF; of n the last four hex digits count.
+fn put_line(src: &mut [u8], at: usize, n: u32)
+    requires { at + 12 ≤ length src.old }
+    ensures { src.new ≡ sets src.old at (line_of n) }
+{
+    let mut line = *b"<U00010000>\n";
+    line[6] = digit(n / 4096 % 16);
+    line[7] = digit(n / 256 % 16);
+    line[8] = digit(n / 16 % 16);
+    line[9] = digit(n % 16);
+    put(src, at, &line);
+}
+
+// The order lines of 0 to n - 1, from a place on.
+pub fn put_lines(src: &mut [u8], from: usize, n: u32)
+    requires { from + 12 * n ≤ length src.old }
+    ensures { src.new ≡ sets src.old from (order_lines n) }
+{
+    for i in 0..n {
+        put_line(src, from + 12 * i as usize, i);
+    }
 }

@@ -1,4 +1,5 @@
 -- What a line between CHARMAP and END CHARMAP does: an entry that is given or refused, or another line.
+use Rattle.std.specs.Prelude.{Bool, None, Option, Result, Some, ℕ, Err, Ok}
 use mathlib.Core.Path.{◌≡◌, refl, sym, ap, ◌∙◌, subst}
 use mathlib.Core.Bool.{Bool, true, false}
 use mathlib.Core.List.{List, [], ◌∷◌, ◌++◌}
@@ -11,26 +12,20 @@ use Rattle.rules.specs.Text.{every, ◌unless◌}
 use Rattle.rules.specs.Tokens.{is_text, Token, tokens_of, is_entry}
 use Rattle.rules.specs.Lines.{Chars, Scan}
 use Rattle.rules.specs.Charmap.{Given, Mapping, MapOutcome, leaves, map_ended, entry_line, body_line, map_lines_from}
-use Rattle.rules.proofs.RefusalLaws.{Bounded, bounded-low, bounded-high, bounded-names}
 use Rattle.rules.proofs.RunLaws.{map-run-at, map-run-refused}
-use Rattle.base_units.specs.Numbers.{number_of}
+use Rattle.base_units.specs.Numbers.{number_of, number_or_none}
+use Rattle.base_units.proofs.NumberLaws.{number_of-some}
 use Rattle.base_units.specs.declared.Refusal.{Refusal}
 use Rattle.text_lines.specs.declared.Signs.{Signs}
-use Rattle.text_lines.specs.Stream.{line_left, line_start}
+use Rattle.text_lines.specs.Stream.{line_left, marks_left, line_start}
 use Rattle.text_names.specs.Named.{name_left}
 use Rattle.charmap_entry.specs.declared.Parts.{Parts}
 use Rattle.charmap_entry.specs.Entered.{PartsAre, NoEntry, EntryIs}
-use Rattle.charmap_entry.specs.declared.Entry.{Entry}
-use Rattle.charmap_entry.specs.declared.Entry.TheVariants as entry
-use Rattle.charmap_body.specs.declared.BodyLine.{BodyLine}
 use Rattle.rules.specs.Names.{names_refusal}
-use Rattle.charmap_body.specs.declared.PlainLine.{PlainLine}
-use Rattle.charmap_body.specs.declared.PlainLine.TheVariants as plain
-use Rattle.charmap_body.specs.Outcomes.{Holds, Area, entry_refusal, new_of, EnterIs}
-use Rattle.charmap_body.specs.Plain.{LineTo, BlankLine, EndLine, BadLine, PlainIs}
-use Rattle.charmap_body.specs.Body.{chars_of, in_body, line_at, outcome_at, Spans, LineGoes, LineRefused, BodyIs, OtherIs}
+use Rattle.charmap_body.specs.Outcomes.{Holds, Area, entry_refusal, refusal_told, new_of, EnterIs}
+use Rattle.charmap_body.specs.Plain.{LineTo, PlainIs}
+use Rattle.charmap_body.specs.Body.{chars_of, in_body, line_at, outcome_at, Spans, LineGoes, LineRefused, BodyIs}
 use Rattle.charmap_body.proofs.OutcomeLaws.{entry-refusal, entry-mapping}
-use Rattle.charmap_body.proofs.BoundLaws.{bounded-entry}
 use Rattle.charmap_body.proofs.FirstLaws.{cons-some}
 
 -- ## A line that is no entry
@@ -48,31 +43,23 @@ module _ (g : Signs) (src : List ℕ) (at : ℕ) (e : line_at g src at ≡ line_
   plainly : (m : Mapping) → body_line m (line_at g src at).marks ≡ body_line m (line_left g src (line_start at)).marks
   plainly m = ap (λ (x : Scan). body_line m x.marks) e
 
-  module _ {k : PlainLine} (w : PlainIs g src at k) where
-    pub body-blank : (area : List ℕ) {next feeds : ℕ} → k ≡ plain.Blank next feeds → LineGoes g src at area area false next feeds
-    body-blank area {next} {feeds} f =
-        let b : BlankLine g src at next feeds = subst (PlainIs g src at) f w in
-        record {
-          line = spans b.line;
-          goes = λ c s gs h. record { given = gs; outcome = plainly (in_body (chars_of g c s) false gs) ∙ b.same (in_body (chars_of g c s) false gs); holds = h };
-        }
-
-    pub body_end : (area : List ℕ) {next feeds : ℕ} → k ≡ plain.End next feeds → LineGoes g src at area area true next feeds
-    body_end area {next} {feeds} f =
-        let b : EndLine g src at next feeds = subst (PlainIs g src at) f w in
-        record {
-          line = spans b.line;
-          goes = λ c s gs h. record { given = gs; outcome = plainly (in_body (chars_of g c s) false gs) ∙ b.closes (in_body (chars_of g c s) false gs); holds = h };
-        }
-
-    pub body-bad : (area : List ℕ) {r : Refusal} → k ≡ plain.Refused r → LineRefused g src at area area (number_of r)
-    body-bad area {r} f =
-        let b : BadLine g src at (number_of r) = subst (PlainIs g src at) f w in
-        record {
-          refusal = λ c s gs h. ap (λ (o : MapOutcome). o.refusal) (plainly (in_body (chars_of g c s) false gs)) ∙ b.refusal (in_body (chars_of g c s) false gs);
-          some = b.some;
-          untouched = refl;
-        }
+  body-other : (area : List ℕ) (k : Result (Bool × ℕ × ℕ) Refusal) → PlainIs g src at k → BodyIs g src at area area k
+  body-other area (Ok (false, next, feeds)) b =
+      record {
+        line = spans b.line;
+        goes = λ c s gs h. record { given = gs; outcome = plainly (in_body (chars_of g c s) false gs) ∙ b.same (in_body (chars_of g c s) false gs); holds = h };
+      }
+  body-other area (Ok (true, next, feeds)) b =
+      record {
+        line = spans b.line;
+        goes = λ c s gs h. record { given = gs; outcome = plainly (in_body (chars_of g c s) false gs) ∙ b.closes (in_body (chars_of g c s) false gs); holds = h };
+      }
+  body-other area (Err r) b =
+      record {
+        refusal = λ c s gs h. ap (λ (o : MapOutcome). o.refusal) (plainly (in_body (chars_of g c s) false gs)) ∙ b.refusal (in_body (chars_of g c s) false gs);
+        some = b.some;
+        untouched = refl;
+      }
 
 -- ## An entry
 
@@ -86,9 +73,9 @@ body_entry : (m : Mapping) (marks : List ℕ) → is_entry (tokens_of marks) ≡
 unfolding body_line
 body_entry m marks h = rw (entry-some (tokens_of marks) h, h)
 
-module _ (g : Signs) (src : List ℕ) (at : ℕ) {p : Parts} {area after : List ℕ} {r : ℕ} (k : PartsAre g src at p)
-    (w : EnterIs p.text p.refusal (name_left g src p.first) (name_left g src p.last) p.byte area after r) where
-  names-told : names_refusal (name_left g src p.first ∷ name_left g src p.last ∷ []) ≡ p.refusal
+module _ (g : Signs) (src : List ℕ) (at : ℕ) {p : Parts} {area after : List ℕ} (r : Result Unit Refusal) (k : PartsAre g src at p)
+    (w : EnterIs p.text (number_or_none p.refusal) (name_left g src p.first) (name_left g src p.last) p.byte area after r) where
+  names-told : names_refusal (name_left g src p.first ∷ name_left g src p.last ∷ []) ≡ number_or_none p.refusal
   names-told = rw (← k.first, ← k.last) k.refusal
 
   parts-span : Spans g src at p.next p.feeds
@@ -100,60 +87,59 @@ module _ (g : Signs) (src : List ℕ) (at : ℕ) {p : Parts} {area after : List 
         body_entry (in_body chars false gs) (line_at g src at).marks k.entry
         ∙ ap (λ (t : Bool). entry_line (in_body chars false gs) (tokens_of (line_at g src at).marks) (2 unless t)) k.text
 
-    outcome-refusal : (outcome_at g src at chars gs).refusal ≡ entry_refusal (2 unless p.text) p.refusal (name_left g src p.first) (name_left g src p.last) p.byte gs
+    outcome-refusal : (outcome_at g src at chars gs).refusal ≡ entry_refusal (2 unless p.text) (number_or_none p.refusal) (name_left g src p.first) (name_left g src p.last) p.byte gs
     outcome-refusal =
         ap (λ (o : MapOutcome). o.refusal) as-entry
-        ∙ entry-refusal (in_body chars false gs) (tokens_of (line_at g src at).marks) (2 unless p.text) (name_left g src p.first) (name_left g src p.last) p.refusal p.byte
+        ∙ entry-refusal (in_body chars false gs) (tokens_of (line_at g src at).marks) (2 unless p.text) (name_left g src p.first) (name_left g src p.last) (number_or_none p.refusal) p.byte
         k.first k.last names-told k.byte
 
     outcome-mapping : (outcome_at g src at chars gs).mapping ≡ in_body chars false (gs ++ new_of (name_left g src p.first) (name_left g src p.last) p.byte)
     outcome-mapping =
         ap (λ (o : MapOutcome). o.mapping) as-entry
-        ∙ entry-mapping (in_body chars false gs) (tokens_of (line_at g src at).marks) (2 unless p.text) (name_left g src p.first) (name_left g src p.last) p.refusal p.byte
+        ∙ entry-mapping (in_body chars false gs) (tokens_of (line_at g src at).marks) (2 unless p.text) (name_left g src p.first) (name_left g src p.last) (number_or_none p.refusal) p.byte
         k.first k.last names-told k.byte
 
-  pub body-given : r ≡ 0 → LineGoes g src at area after false p.next p.feeds
-  body-given z = record {
-    line = parts-span;
-    goes = λ c s gs h.
-        let v = w gs h in
-        let chars : Chars = chars_of g c s in
-        record {
-          given = gs ++ new_of (name_left g src p.first) (name_left g src p.last) p.byte;
-          outcome = ap (λ (n : ℕ). leaves n (outcome_at g src at chars gs).mapping) (outcome-refusal chars gs ∙ v.same ∙ z)
-              ∙ ap (λ (m : Mapping). leaves 0 m) (outcome-mapping chars gs);
-          holds = v.given z;
-        };
-  }
+  pub body-given : r ≡ Ok tt → LineGoes g src at area after false p.next p.feeds
+  body-given f =
+      let z : refusal_told r ≡ 0 = ap refusal_told f in
+      record {
+        line = parts-span;
+        goes = λ c s gs h.
+            let v = w gs h in
+            let chars : Chars = chars_of g c s in
+            record {
+              given = gs ++ new_of (name_left g src p.first) (name_left g src p.last) p.byte;
+              outcome = ap (λ (n : ℕ). leaves n (outcome_at g src at chars gs).mapping) (outcome-refusal chars gs ∙ v.same ∙ z)
+                  ∙ ap (λ (m : Mapping). leaves 0 m) (outcome-mapping chars gs);
+              holds = v.given z;
+            };
+      }
 
-  module _ (a : Area area) (z : r ≡ 0 → ⊥) where
-    pub body-bounds : (2 ≤ r) × (r ≤ 10)
-    body-bounds =
-        let first = name_left g src p.first in
-        let last = name_left g src p.last in
-        let names = subst (Bounded 3 7) names-told (bounded-names (first ∷ last ∷ [])) in
-        let b = subst (Bounded 2 10) (w a.given a.holds).same (bounded-entry p.text p.refusal first last p.byte a.given names) in
-        (bounded-low 2 10 r b z, bounded-high 2 10 r b z)
-
-    pub body_refused : {n : ℕ} → n ≡ r → LineRefused g src at area after n
-    body_refused e = record {
-      refusal = λ c s gs h. outcome-refusal (chars_of g c s) gs ∙ (w gs h).same ∙ sym e;
-      some = omega arith;
-      untouched = (w a.given a.holds).untouched z;
-    }
+  pub body_refused : {n : Refusal} → Area area → r ≡ Err n → LineRefused g src at area after (number_of n)
+  body_refused {n} a f =
+      let z : refusal_told r ≡ number_of n = ap refusal_told f in
+      let o = number_of-some n in
+      record {
+        refusal = λ c s gs h. outcome-refusal (chars_of g c s) gs ∙ (w gs h).same ∙ z;
+        some = omega arith;
+        untouched = (w a.given a.holds).untouched (λ y. o (sym z ∙ y));
+      }
 
 -- ## Which of the two it is
 
-module _ (g : Signs) (src : List ℕ) (at : ℕ) {s : Entry} (w : EntryIs g src at s) where
-  pub no-entry : s ≡ entry.No → NoEntry g src at
-  no-entry e = subst (EntryIs g src at) e w
+module _ (g : Signs) (src : List ℕ) (at : ℕ) {s : Option Parts} (w : EntryIs g src at s) where
+  module _ (e : s ≡ None) where
+    none : NoEntry g src at
+    none = subst (EntryIs g src at) e w
 
-  pub found-parts : {p : Parts} → s ≡ entry.Found p → PartsAre g src at p
+    pub no-entry : is_entry (tokens_of (marks_left g src (line_start at))) ≡ false
+    no-entry = none.none
+
+    pub body-plain : (area : List ℕ) (k : Result (Bool × ℕ × ℕ) Refusal) → PlainIs g src at k → BodyIs g src at area area k
+    body-plain area k b = body-other g src at none.plain area k b
+
+  pub found-parts : {p : Parts} → s ≡ Some p → PartsAre g src at p
   found-parts e = subst (EntryIs g src at) e w
-
--- a line that leaves every area as it is leaves this one
-pub other-as : (g : Signs) (src : List ℕ) (at : ℕ) (area : List ℕ) (r : BodyLine) → OtherIs g src at r → BodyIs g src at area area r
-other-as g src at area r f = f area
 
 -- ## For callers: the run over the lines
 

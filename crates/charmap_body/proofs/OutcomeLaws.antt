@@ -1,5 +1,6 @@
 -- What an entry gives: the tests of its functions, and that its refusal is the paper's.
-use Rattle.std.specs.Prelude.{if◌then◌else◌}
+use Rattle.std.specs.Prelude.{if◌then◌else◌, Err, None, Ok, Option, Result, Some}
+use Rattle.std.specs.Result.{result_err}
 use mathlib.Core.Path.{◌≡◌, refl, sym, ap, ◌∙◌, subst}
 use mathlib.Core.Bool.{Bool, true, false, not, ◌&&◌}
 use mathlib.Core.List.{List, [], ◌∷◌, ◌++◌}
@@ -20,23 +21,21 @@ use Rattle.text_tokens.proofs.RefusalLaws.{lower-none-left, lower-none-right, lo
 use Rattle.charmap_numbers.specs.Giving.{with_range, any_taken}
 use Rattle.charmap_numbers.proofs.KeptLaws.{any-given-area, range-area}
 use Rattle.base_units.specs.declared.CodePoint.{CodePoint}
-use Rattle.text_names.specs.declared.Code.{Code}
-use Rattle.text_names.specs.declared.Code.TheVariants as code
+use Rattle.base_units.specs.declared.Refusal.{Refusal}
+use Rattle.base_units.specs.declared.Refusal.TheVariants.{Unknown, TooMany, ByteTwice}
+use Rattle.base_units.specs.Numbers.{number_of, number_or_none}
+use Rattle.base_units.proofs.NumberLaws.{number_of-some}
 use Rattle.text_names.specs.Named.{CodeIs}
-use Rattle.charmap_body.specs.declared.Codes.{Codes}
-use Rattle.charmap_body.specs.declared.Codes.TheVariants as codes
-use Rattle.charmap_body.specs.declared.Outcome.{Outcome}
-use Rattle.charmap_body.specs.declared.Outcome.TheVariants as outcome
-use Rattle.charmap_body.specs.Outcomes.{Holds, Area, are_chars, fits_in, given_twice, range_refusal, before_codes, entry_refusal, CharOf, CharIs, CodesBetween, CodesAre, Giving, Refusing, RangeIs, EntryIs, new_of, EnterIs}
+use Rattle.charmap_body.specs.Outcomes.{Holds, Area, are_chars, fits_in, given_twice, range_refusal, before_codes, entry_refusal, CharOf, CharIs, CodesBetween, CodesAre, Giving, OutcomeIs, RangeIs, codes_refusal, CodesGive, EntryIs, new_of, EnterIs}
 
 -- ## The code of a name
 
-module _ (n : List ℕ) {s : Code} (w : CodeIs n s) where
-  pub char-other : s ≡ code.Other → is_char_name n ≡ false
+module _ (n : List ℕ) {s : Option CodePoint} (w : CodeIs n s) where
+  pub char-other : s ≡ None → is_char_name n ≡ false
   unfolding is_char_name
   char-other e = let h : char_shaped n ≡ false = subst (CodeIs n) e w in rw h
 
-  module _ {c : CodePoint} {t : Bool} (e : s ≡ code.Char c) (f : t ≡ is_character c.0) where
+  module _ {c : CodePoint} {t : Bool} (e : s ≡ Some c) (f : t ≡ is_character c.0) where
     pub char-yes : t ≡ true → CharOf n c.0
     unfolding is_char_name
     char-yes h =
@@ -60,20 +59,20 @@ spans-low low high h = rw (lt-ltb low 0xD800 h)
 pub spans-high : (low high : ℕ) → 0xD800 ≤ low → false ≡ (ltb low 0xD800 && ltb 0xDFFF high)
 spans-high low high h = rw (le-ltb low 0xD800 h)
 
-module _ (first last : List ℕ) {s : Code} (w : CharIs first s) where
-  pub codes-first : s ≡ code.Other → are_chars first last ≡ false
+module _ (first last : List ℕ) {s : Option CodePoint} (w : CharIs first s) where
+  pub codes-first : s ≡ None → are_chars first last ≡ false
   unfolding are_chars every
   codes-first e = let h : is_char_name first ≡ false = subst (CharIs first) e w in rw h
 
-  module _ {low : CodePoint} (t : Code) (e : s ≡ code.Char low) (x : CharIs last t) where
+  module _ {low : CodePoint} (t : Option CodePoint) (e : s ≡ Some low) (x : CharIs last t) where
     one : CharOf first low.0
     one = subst (CharIs first) e w
 
-    pub codes-last : t ≡ code.Other → are_chars first last ≡ false
+    pub codes-last : t ≡ None → are_chars first last ≡ false
     unfolding are_chars every
     codes-last f = let h : is_char_name last ≡ false = subst (CharIs last) f x in rw (one.shaped, h)
 
-    module _ {high : CodePoint} {u : Bool} (f : t ≡ code.Char high) (k : u ≡ (ltb low.0 0xD800 && ltb 0xDFFF high.0)) where
+    module _ {high : CodePoint} {u : Bool} (f : t ≡ Some high) (k : u ≡ (ltb low.0 0xD800 && ltb 0xDFFF high.0)) where
       two : CharOf last high.0
       two = subst (CharIs last) f x
 
@@ -90,7 +89,7 @@ module _ (first last : List ℕ) {s : Code} (w : CharIs first s) where
         small = two.small;
       }
 
-pub codes-small : (first last : List ℕ) {s : Codes} {low high : CodePoint} → CodesAre first last s → s ≡ codes.Between low high → high.0 ≤ 0x10FFFF
+pub codes-small : (first last : List ℕ) {s : Option (CodePoint × CodePoint)} {low high : CodePoint} → CodesAre first last s → s ≡ Some (low, high) → high.0 ≤ 0x10FFFF
 codes-small first last {low = low} {high} w e = let k : CodesBetween first last low.0 high.0 = subst (CodesAre first last) e w in k.small
 
 -- ## A range
@@ -112,11 +111,11 @@ fitting low high byte gs true h k = rw (h, k)
 fitting low high byte gs false h k = rw (h, k)
 
 module _ (area : List ℕ) (low : CodePoint) (high byte : ℕ) where
-  pub range_back : high < low.0 → RangeIs area low.0 high byte (outcome.Refused 7)
+  pub range_back : high < low.0 → RangeIs area low.0 high byte (Err TooMany)
   range_back h = λ gs x. record { same = not-fitting low.0 high byte gs (rw (lt-leb low.0 high h)); some = omega arith }
 
   module _ (up : low.0 ≤ high) where
-    pub range-past : 255 < byte + (high - low.0) → RangeIs area low.0 high byte (outcome.Refused 7)
+    pub range-past : 255 < byte + (high - low.0) → RangeIs area low.0 high byte (Err TooMany)
     range-past h = λ gs x. record {
       same = not-fitting low.0 high byte gs (rw (le-leb low.0 high up, lt-leb (byte + (high - low.0)) 255 h));
       some = omega arith;
@@ -134,10 +133,10 @@ module _ (area : List ℕ) (low : CodePoint) (high byte : ℕ) where
           ∙ ap (λ (a : List ℕ). any_taken a byte (high - low.0 + 1)) (sym x.same)
           ∙ sym f
 
-      pub range-taken : t ≡ true → RangeIs area low.0 high byte (outcome.Refused 10)
+      pub range-taken : t ≡ true → RangeIs area low.0 high byte (Err ByteTwice)
       range-taken h = λ gs x. record { same = fitting low.0 high byte gs true fits (twice gs x ∙ h); some = omega arith }
 
-      pub range_gives : high ≤ 0x10FFFF → t ≡ false → RangeIs area low.0 high byte (outcome.Gives byte low (high - low.0 + 1))
+      pub range_gives : high ≤ 0x10FFFF → t ≡ false → RangeIs area low.0 high byte (Ok (byte, low, (high - low.0 + 1)))
       range_gives k h = λ gs x. record {
         none = fitting low.0 high byte gs false fits (twice gs x ∙ h);
         from = refl;
@@ -167,9 +166,8 @@ six-before false false = refl
 
 -- the refusal of an entry: before its codes, of its codes, of its bytes
 entry-split : (text : Bool) (names : ℕ) (first last : List ℕ) (byte : ℕ) (gs : List Given)
-    → entry_refusal (2 unless text) names first last byte gs
-    ≡ lower (before_codes text names) (lower (6 unless are_chars first last) (range_refusal (code_of first) (code_of last) byte gs))
-unfolding entry_refusal lowest before_codes range_refusal
+    → entry_refusal (2 unless text) names first last byte gs ≡ lower (before_codes text names) (codes_refusal first last byte gs)
+unfolding entry_refusal lowest before_codes codes_refusal range_refusal
 entry-split text names first last byte gs =
     let low = code_of first in
     let high = code_of last in
@@ -179,69 +177,71 @@ entry-split text names first last byte gs =
     ap (λ (x : ℕ). lower (2 unless text) (lower names (lower c (lower d x)))) (lower-none-right e)
     ∙ sym (lower-assoc (2 unless text) names (lower c (lower d e)))
 
-lower-some : (a b : ℕ) → 0 < b → 0 < lower a b
-lower-some a b h = by (leb 1 (lower a b)) (λ t. leb-true 1 (lower a b) t)
-    (λ t. let z = lower-none a b (omega (arith, leb-false 1 (lower a b) t)) in absurd (omega (arith, z.1)))
+-- ### Of its codes
 
-module _ (text : Bool) (names : ℕ) (first last : List ℕ) (byte : ℕ) (area : List ℕ) {before : ℕ} {s : Codes} (b : before ≡ before_codes text names) (w : CodesAre first last s) where
-  pub entry_other : s ≡ codes.Other → {r : ℕ} → r ≡ lower before 6 → EntryIs text names first last byte area (outcome.Refused r)
-  unfolding range_refusal
-  entry_other e {r} f = λ gs x.
+module _ (first last : List ℕ) (byte : ℕ) (area : List ℕ) {s : Option (CodePoint × CodePoint)} (w : CodesAre first last s) where
+  pub codes-none : s ≡ None → CodesGive first last byte area (Err Unknown)
+  unfolding codes_refusal range_refusal
+  codes-none e = λ gs x.
       let n : are_chars first last ≡ false = subst (CodesAre first last) e w in
       let low = code_of first in
       let high = code_of last in
       record {
-        same = entry-split text names first last byte gs
-            ∙ ap (λ (c : Bool). lower (before_codes text names) (lower (6 unless c) (range_refusal low high byte gs))) n
-            ∙ ap (λ (k : ℕ). lower (before_codes text names) k) (six-before (fits_in low high byte) (not (fits_in low high byte && given_twice low high byte gs)))
-            ∙ ap (λ (k : ℕ). lower k 6) (sym b)
-            ∙ sym f;
-        some = let h = lower-some before 6 (omega arith) in omega arith;
+        same = ap (λ (c : Bool). lower (6 unless c) (range_refusal low high byte gs)) n
+            ∙ six-before (fits_in low high byte) (not (fits_in low high byte && given_twice low high byte gs));
+        some = omega arith;
       }
 
-  module _ {low high : CodePoint} (e : s ≡ codes.Between low high) where
+  module _ {low high : CodePoint} (e : s ≡ Some (low, high)) where
     found : CodesBetween first last low.0 high.0
     found = subst (CodesAre first last) e w
 
     -- where the codes are characters, the bytes decide
-    entry-codes : (gs : List Given) → entry_refusal (2 unless text) names first last byte gs ≡ lower before (range_refusal low.0 high.0 byte gs)
-    entry-codes gs =
-        entry-split text names first last byte gs
-        ∙ ap (λ (c : Bool). lower (before_codes text names) (lower (6 unless c) (range_refusal (code_of first) (code_of last) byte gs))) found.chars
-        ∙ ap (λ (k : ℕ). lower (before_codes text names) k) (lower-none-left (range_refusal (code_of first) (code_of last) byte gs))
-        ∙ ap (λ (k : ℕ). lower k (range_refusal (code_of first) (code_of last) byte gs)) (sym b)
-        ∙ ap (λ (k : ℕ). lower before (range_refusal k (code_of last) byte gs)) (sym found.low-code)
-        ∙ ap (λ (k : ℕ). lower before (range_refusal low.0 k byte gs)) (sym found.high-code)
+    codes-range : (gs : List Given) → range_refusal (code_of first) (code_of last) byte gs ≡ codes_refusal first last byte gs
+    unfolding codes_refusal
+    codes-range gs =
+        let r = range_refusal (code_of first) (code_of last) byte gs in
+        sym (ap (λ (c : Bool). lower (6 unless c) r) found.chars ∙ lower-none-left r)
 
-    module _ {t : Outcome} (y : RangeIs area low.0 high.0 byte t) where
-      pub entry-refused : {n r : ℕ} → t ≡ outcome.Refused n → r ≡ lower before n → EntryIs text names first last byte area (outcome.Refused r)
-      entry-refused {n} {r} q f = λ gs x.
-          let z : Refusing (range_refusal low.0 high.0 byte gs) n = subst (RangeIs area low.0 high.0 byte) q y gs x in
-          record {
-            same = entry-codes gs ∙ ap (λ (k : ℕ). lower before k) z.same ∙ sym f;
-            some = let h = lower-some before n z.some in omega arith;
-          }
+    pub codes-give : (t : Result (ℕ × CodePoint × ℕ) Refusal) → RangeIs area low.0 high.0 byte t → CodesGive first last byte area t
+    codes-give t y = λ gs x.
+        let z : OutcomeIs (range_refusal (code_of first) high.0 byte gs) (code_of first) high.0 byte t =
+        subst (λ (c : ℕ). OutcomeIs (range_refusal c high.0 byte gs) c high.0 byte t) found.low-code (y gs x) in
+        let u : OutcomeIs (range_refusal (code_of first) (code_of last) byte gs) (code_of first) (code_of last) byte t =
+        subst (λ (c : ℕ). OutcomeIs (range_refusal (code_of first) c byte gs) (code_of first) c byte t) found.high-code z in
+        subst (λ (r : ℕ). OutcomeIs r (code_of first) (code_of last) byte t) (codes-range gs) u
 
-      module _ {from n : ℕ} {c : CodePoint} (q : t ≡ outcome.Gives from c n) where
-        given : (gs : List Given) → Holds area gs → Giving (range_refusal low.0 high.0 byte gs) low.0 high.0 byte from c.0 n
-        given gs x = subst (RangeIs area low.0 high.0 byte) q y gs x
+-- ### Of all of it
 
-        whole : (gs : List Given) → Holds area gs → entry_refusal (2 unless text) names first last byte gs ≡ before
-        whole gs x = entry-codes gs ∙ ap (λ (k : ℕ). lower before k) (given gs x).none ∙ lower-none-right before
+outcome-told : (refusal low high byte : ℕ) (t : Result (ℕ × CodePoint × ℕ) Refusal) → OutcomeIs refusal low high byte t → refusal ≡ number_or_none (result_err t)
+outcome-told refusal low high byte (Ok (b, c, n)) w = w.none
+outcome-told refusal low high byte (Err r) w = w.same
 
-        pub entry_gives : before ≡ 0 → EntryIs text names first last byte area (outcome.Gives from c n)
-        entry_gives h = λ gs x. let z = given gs x in
-            record {
-              none = whole gs x ∙ h;
-              from = z.from;
-              code = z.code ∙ found.low-code;
-              many = z.many ∙ ap (λ (k : ℕ). suc (k - low.0)) found.high-code ∙ ap (λ (k : ℕ). suc (code_of last - k)) found.low-code;
-              bytes = z.bytes;
-              codes = z.codes;
-            }
+-- what is given where there is no refusal
+outcome-none : (refusal other low high byte : ℕ) (t : Result (ℕ × CodePoint × ℕ) Refusal) → number_or_none (result_err t) ≡ 0 → other ≡ 0 → OutcomeIs refusal low high byte t
+    → OutcomeIs other low high byte t
+outcome-none refusal other low high byte (Ok (b, c, n)) h z w = record { none = z; from = w.from; code = w.code; many = w.many; bytes = w.bytes; codes = w.codes }
+outcome-none refusal other low high byte (Err r) h z w = absurd (number_of-some r h)
 
-        pub entry-before : (before ≡ 0 → ⊥) → EntryIs text names first last byte area (outcome.Refused before)
-        entry-before h = λ gs x. record { same = whole gs x; some = omega arith }
+module _ (text : Bool) (names : ℕ) (first last : List ℕ) (byte : ℕ) (area : List ℕ) (before e l : Option Refusal) (t : Result (ℕ × CodePoint × ℕ) Refusal)
+    (b : number_or_none before ≡ before_codes text names) (w : CodesGive first last byte area t) (f : e ≡ result_err t)
+    (k : number_or_none l ≡ lower (number_or_none before) (number_or_none e)) where
+  entry-whole : (gs : List Given) → Holds area gs → entry_refusal (2 unless text) names first last byte gs ≡ number_or_none l
+  entry-whole gs x =
+      entry-split text names first last byte gs
+      ∙ ap (λ (n : ℕ). lower (before_codes text names) n) (outcome-told _ _ _ _ t (w gs x))
+      ∙ ap (λ (n : ℕ). lower n (number_or_none (result_err t))) (sym b)
+      ∙ ap (λ (o : Option Refusal). lower (number_or_none before) (number_or_none o)) (sym f)
+      ∙ sym k
+
+  pub entry_gives : l ≡ None → EntryIs text names first last byte area t
+  entry_gives h = λ gs x.
+      let z : lower (number_or_none before) (number_or_none e) ≡ 0 = sym k ∙ ap number_or_none h in
+      let n : number_or_none e ≡ 0 = (lower-none (number_or_none before) (number_or_none e) z).1 in
+      outcome-none _ _ _ _ _ t (ap number_or_none (sym f) ∙ n) (entry-whole gs x ∙ ap number_or_none h) (w gs x)
+
+  pub entry-refused : {r : Refusal} → l ≡ Some r → EntryIs text names first last byte area (Err r)
+  entry-refused {r} h = λ gs x. record { same = entry-whole gs x ∙ ap number_or_none h; some = let z = number_of-some r in omega arith }
 
 -- ## What is given after an entry
 
@@ -266,23 +266,22 @@ not-twice bad names first last byte gs e =
     let k : (true && taken) ≡ false = rw f at (not-true (fits && taken) n) in
     k
 
-module _ (text : Bool) (names : ℕ) (first last : List ℕ) (byte : ℕ) {area : List ℕ} {s : Outcome} (w : EntryIs text names first last byte area s) where
-  pub enter-refused : {n : ℕ} → Area area → s ≡ outcome.Refused n → EnterIs text names first last byte area area n
-  enter-refused {n} a e =
-      let some : 0 < n = (subst (EntryIs text names first last byte area) e w a.given a.holds).some in
-      λ gs x. record {
+module _ (text : Bool) (names : ℕ) (first last : List ℕ) (byte : ℕ) {area : List ℕ} {s : Result (ℕ × CodePoint × ℕ) Refusal} (w : EntryIs text names first last byte area s) where
+  pub enter-refused : {r : Refusal} → s ≡ Err r → EnterIs text names first last byte area area (Err r)
+  enter-refused {r} e = λ gs x.
+      record {
         same = (subst (EntryIs text names first last byte area) e w gs x).same;
-        given = λ z. absurd (omega arith);
+        given = λ z. absurd (number_of-some r z);
         untouched = λ z. refl;
       }
 
-  module _ {b n : ℕ} {c : CodePoint} (e : s ≡ outcome.Gives b c n) where
+  module _ {b n : ℕ} {c : CodePoint} (e : s ≡ Ok (b, c, n)) where
     pub enter-room : Area area → (length area ≡ 512) × (b + n ≤ 256) × (c.0 + n ≤ 0x110000)
     enter-room a =
         let k = subst (EntryIs text names first last byte area) e w a.given a.holds in
         (held-length a, k.bytes, k.codes)
 
-    pub enter-gives : {after : List ℕ} → after ≡ with_range n area b c.0 → EnterIs text names first last byte area after 0
+    pub enter-gives : {after : List ℕ} → after ≡ with_range n area b c.0 → EnterIs text names first last byte area after (Ok tt)
     enter-gives {after} f = λ gs x.
         let k = subst (EntryIs text names first last byte area) e w gs x in
         let low = code_of first in

@@ -1,6 +1,8 @@
 -- Lines that are no entries: whether a token is left, whether the line is END CHARMAP, and what the line does.
+use Rattle.std.specs.Prelude.{None, Option, Some, ℕ}
 use mathlib.Core.Path.{◌≡◌, refl, sym, ap, ◌∙◌, subst}
 use mathlib.Core.Bool.{Bool, true, false, ◌&&◌, and-false, and_assoc}
+use mathlib.Core.Logic.{◌⊎◌, ⊎_elim}
 use mathlib.Core.List.{List, [], ◌∷◌}
 use Prim.Native.Nat.{ℕ, suc, ◌≤◌, ◌<◌}
 use native.Mathlib.Omega.{arith}
@@ -16,8 +18,6 @@ use Rattle.rules.specs.Lines.{in_plain, after}
 use Rattle.text_lines.proofs.SignLaws.{after-blank}
 use Rattle.text_lines.specs.declared.Signs.{Signs}
 use Rattle.text_lines.specs.declared.Spot.{Spot}
-use Rattle.text_lines.specs.declared.Step.{Step}
-use Rattle.text_lines.specs.declared.Step.TheVariants as step
 use Rattle.text_lines.specs.declared.LineEnd.{LineEnd}
 use Rattle.text_lines.specs.Stream.{line_start, marks_left, StepIs, LineIs, MarkIs}
 use Rattle.text_tokens.specs.declared.Next.{Next}
@@ -42,13 +42,19 @@ module _ (g : Signs) (src : List ℕ) (p : Spot) {s : Next} (w : NextIs g src p 
   pub tokens_none : s ≡ next.End → true ≡ eqb (length (tokens_left g src p)) 0
   tokens_none e = let h : tokens_left g src p ≡ [] = subst (NextIs g src p) e w in sym (ap (λ (l : List Token). eqb (length l) 0) h)
 
-  pub tokens-some : {t : Tok} → s ≡ next.Token t → false ≡ eqb (length (tokens_left g src p)) 0
+  tokens-some : {t : Tok} → s ≡ next.Token t → false ≡ eqb (length (tokens_left g src p)) 0
   tokens-some {t} e =
       let h : TokenIs g src p t = subst (NextIs g src p) e w in
       sym (ap (λ (l : List Token). eqb (length l) 0) h.first ∙ cons-some (token_there g src p) (tokens_left g src t.next))
 
-  pub tokens-broken : s ≡ next.Broken → false ≡ eqb (length (tokens_left g src p)) 0
+  tokens-broken : s ≡ next.Broken → false ≡ eqb (length (tokens_left g src p)) 0
   tokens-broken e = sym (broken-some (tokens_left g src p) (subst (NextIs g src p) e w))
+
+-- any other answer than the end
+pub tokens_more : (g : Signs) (src : List ℕ) (p : Spot) (s : Next) → NextIs g src p s → (s ≡ next.End → ⊥) → false ≡ eqb (length (tokens_left g src p)) 0
+tokens_more g src p (next.Token t) w n = tokens-some g src p w refl
+tokens_more g src p next.Broken w n = tokens-broken g src p w refl
+tokens_more g src p next.End w n = absurd (n refl)
 
 -- ## A word alone
 
@@ -122,8 +128,8 @@ module _ (g : Signs) (src w : List ℕ) (p q : Spot) (k : Skips g src p q) {t : 
       ∙ ap (λ (ms : List ℕ). eqb (length (without_opening_gaps (tokens_from (no_part []) ms))) 0) o.after
       ∙ sym (sole-yes (marks_left g src q) w (tokens_left g src p) there (sym e ∙ h) n)
 
-  pub only-other : t ≡ false → false ≡ sole_word (without_gaps false (tokens_left g src p)) w
-  only-other h = sym (sole-other (marks_left g src q) w (tokens_left g src p) there (sym e ∙ h))
+  pub only-other : t ≡ false → t ≡ sole_word (without_gaps false (tokens_left g src p)) w
+  only-other h = h ∙ sym (sole-other (marks_left g src q) w (tokens_left g src p) there (sym e ∙ h))
 
 -- ## END CHARMAP
 
@@ -167,18 +173,15 @@ unfolding is_end_line bytes
 end-first ms e = rw (worded ms (length-word (word_in ms) end e (omega arith)), e)
 
 -- the spot after a blank
-module _ (g : Signs) (src : List ℕ) (q : Spot) {s : Step} {m : ℕ} {r : Spot} (w : StepIs g src q s) (e : s ≡ step.Mark m r) where
+module _ (g : Signs) (src : List ℕ) (q : Spot) {s : Option (ℕ × Spot)} {m : ℕ} {r : Spot} (w : StepIs g src q s) (e : s ≡ Some (m, r)) where
   pub mark-to : r.at ≤ length src
   mark-to = let k : MarkIs g src q m r = subst (StepIs g src q) e w in k.to
 
   blank-plain : q.mode ≡ in_plain → is_blank m ≡ true → r.mode ≡ in_plain
   blank-plain h b = let k : MarkIs g src q m r = subst (StepIs g src q) e w in k.step.mode ∙ ap (λ (x : ℕ). after x m) h ∙ after-blank m b
 
-  pub space-plain : q.mode ≡ in_plain → m ≡ 32 → r.mode ≡ in_plain
-  space-plain h i = blank-plain h (rw i)
-
-  pub tab-plain : q.mode ≡ in_plain → m ≡ 9 → r.mode ≡ in_plain
-  tab-plain h i = blank-plain h (rw i)
+  pub gap-plain : q.mode ≡ in_plain → (m ≡ 32) ⊎ ((m ≡ 32 → ⊥) × (m ≡ 9)) → r.mode ≡ in_plain
+  gap-plain h i = blank-plain h (⊎_elim (λ t. rw t) (λ t. rw t.1) i)
 
 module _ (g : Signs) (src : List ℕ) (p : Spot) {t : Bool} (e : t ≡ same (word_in (marks_left g src p)) end) where
   pub end-not : t ≡ false → false ≡ is_end_line (tokens_left g src p)
@@ -190,15 +193,15 @@ module _ (g : Signs) (src : List ℕ) (p : Spot) {t : Bool} (e : t ≡ same (wor
     unfolding tokens_left
     rest = end-first (marks_left g src p) (sym e ∙ h) ∙ ap (λ (ms : List ℕ). sole_word (operands (tokens_from (no_part []) ms)) charmap) (sym o.after)
 
-    module _ {s : Step} (w : StepIs g src q s) where
-      pub end_short : s ≡ step.End → false ≡ is_end_line (tokens_left g src p)
+    module _ {s : Option (ℕ × Spot)} (w : StepIs g src q s) where
+      pub end_short : s ≡ None → false ≡ is_end_line (tokens_left g src p)
       unfolding tokens_left operands
       end_short f =
           let n : marks_left g src q ≡ [] = subst (StepIs g src q) f w in
           sym (rest ∙ ap (λ (ms : List ℕ). sole_word (operands (tokens_from (no_part []) ms)) charmap) n
           ∙ ap (λ (ts : List Token). sole_word (operands ts) charmap) tokens_from-none ∙ sole_none charmap)
 
-      module _ {m : ℕ} {r : Spot} (f : s ≡ step.Mark m r) where
+      module _ {m : ℕ} {r : Spot} (f : s ≡ Some (m, r)) where
         mark : MarkIs g src q m r
         mark = subst (StepIs g src q) f w
 
@@ -209,17 +212,14 @@ module _ (g : Signs) (src : List ℕ) (p : Spot) {t : Bool} (e : t ≡ same (wor
             ∙ ap (λ (ts : List Token). sole_word (operands ts) charmap) (first-gap m (marks_left g src r) b)
 
         module _ {u : Bool} (k : u ≡ sole_word (without_gaps false (tokens_left g src r)) charmap) where
-          pub end-space : m ≡ 32 → u ≡ is_end_line (tokens_left g src p)
-          end-space i = k ∙ sym (blank-then (rw i))
+          pub end-gap : (m ≡ 32) ⊎ ((m ≡ 32 → ⊥) × (m ≡ 9)) → u ≡ is_end_line (tokens_left g src p)
+          end-gap i = k ∙ sym (blank-then (⊎_elim (λ t. rw t) (λ t. rw t.1) i))
 
-          pub end-tab : m ≡ 9 → u ≡ is_end_line (tokens_left g src p)
-          end-tab i = k ∙ sym (blank-then (rw i))
-
-        pub end-solid : (m ≡ 32 → ⊥) → (m ≡ 9 → ⊥) → false ≡ is_end_line (tokens_left g src p)
+        pub end-solid : (m ≡ 32 → ⊥) × (m ≡ 9 → ⊥) → false ≡ is_end_line (tokens_left g src p)
         unfolding tokens_left
-        end-solid i j = sym (
+        end-solid i = sym (
             rest ∙ ap (λ (ms : List ℕ). sole_word (operands (tokens_from (no_part []) ms)) charmap) mark.marks
-            ∙ no-operands (tokens_from (no_part []) (m ∷ marks_left g src r)) charmap (solid-first m (marks_left g src r) (no-blank m i j)))
+            ∙ no-operands (tokens_from (no_part []) (m ∷ marks_left g src r)) charmap (solid-first m (marks_left g src r) (no-blank m i.0 i.1)))
 
 -- ## What the line is
 

@@ -1,13 +1,12 @@
 -- A line between CHARMAP and END CHARMAP, from its first place on: what it does to what is given (Rattle.rules.specs.Charmap).
-use Rattle.std.specs.Prelude.{◌≡◌, Bool, true, false, List, [], ℕ, ◌+◌, ◌≤◌, ◌<◌, length, drop}
+use Rattle.std.specs.Prelude.{◌≡◌, Bool, true, false, List, [], ℕ, ◌+◌, ◌≤◌, ◌<◌, length, drop, Err, Ok, Result}
 use Rattle.rules.specs.Lines as paper
 use Rattle.rules.specs.Lines.{Scan, line_of}
 use Rattle.rules.specs.Charmap.{Given, Mapping, MapOutcome, leaves, body_line, map_signs}
 use Rattle.base_units.specs.Numbers.{number_of}
 use Rattle.text_lines.specs.declared.Signs.{Signs}
-use Rattle.charmap_body.specs.declared.BodyLine.{BodyLine}
-use Rattle.charmap_body.specs.declared.BodyLine.TheVariants as body
 use Rattle.charmap_body.specs.Outcomes.{Holds}
+use Rattle.base_units.specs.declared.Refusal.{Refusal}
 
 -- the two characters in force, and whether their lines have stood
 abbrev pub chars_of : Signs → Bool → Bool → paper.Chars
@@ -55,10 +54,6 @@ pub record LineRefused (g : Signs) (src : List ℕ) (at : ℕ) (area after : Lis
   pub some : 0 < n
   pub untouched : after ≡ area
 
-abbrev pub BodyIs : Signs → List ℕ → ℕ → List ℕ → List ℕ → BodyLine → Type 0
-BodyIs g src at area after (body.Line closed next feeds) = LineGoes g src at area after closed next feeds
-BodyIs g src at area after (body.Refused r) = LineRefused g src at area after (number_of r)
-
--- one that leaves every area as it is
-abbrev pub OtherIs : Signs → List ℕ → ℕ → BodyLine → Type 0
-OtherIs g src at r = (area : List ℕ) → BodyIs g src at area area r
+abbrev pub BodyIs : Signs → List ℕ → ℕ → List ℕ → List ℕ → Result (Bool × ℕ × ℕ) Refusal → Type 0
+BodyIs g src at area after (Ok (closed, next, feeds)) = LineGoes g src at area after closed next feeds
+BodyIs g src at area after (Err r) = LineRefused g src at area after (number_of r)

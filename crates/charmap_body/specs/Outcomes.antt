@@ -1,15 +1,12 @@
 -- What an entry of a charmap gives, over plain values (Rattle.rules.specs.Charmap has it of a line's tokens).
-use Rattle.std.specs.Prelude.{◌≡◌, Bool, true, false, not, ◌&&◌, List, [], ◌∷◌, ◌++◌, ℕ, suc, ◌+◌, ◌-◌, ◌≤◌, ◌<◌, ltb, leb}
+use Rattle.std.specs.Prelude.{◌≡◌, Bool, true, false, not, ◌&&◌, List, [], ◌∷◌, ◌++◌, ℕ, suc, ◌+◌, ◌-◌, ◌≤◌, ◌<◌, ltb, leb, Err, None, Ok, Option, Result, Some}
 use Rattle.rules.specs.Text.{every, one_of, ◌unless◌, lower, lowest}
 use Rattle.rules.specs.Names.{code_of, is_char_name}
 use Rattle.rules.specs.Charmap.{Given, counted, is_given, area_of}
 use Rattle.charmap_numbers.proofs.KeptLaws.{Kept}
-use Rattle.text_names.specs.declared.Code.{Code}
-use Rattle.text_names.specs.declared.Code.TheVariants as code
-use Rattle.charmap_body.specs.declared.Codes.{Codes}
-use Rattle.charmap_body.specs.declared.Codes.TheVariants as codes
-use Rattle.charmap_body.specs.declared.Outcome.{Outcome}
-use Rattle.charmap_body.specs.declared.Outcome.TheVariants as outcome
+use Rattle.base_units.specs.declared.CodePoint.{CodePoint}
+use Rattle.base_units.specs.declared.Refusal.{Refusal}
+use Rattle.base_units.specs.Numbers.{number_of}
 
 -- ## What is given, as the 512 numbers
 
@@ -45,6 +42,10 @@ range_refusal low high byte gs = lower (7 unless fits_in low high byte) (10 unle
 unfoldable pub before_codes : Bool → ℕ → ℕ
 before_codes text names = lower (2 unless text) names
 
+-- the names' codes (6), and those of the range
+unfoldable pub codes_refusal : List ℕ → List ℕ → ℕ → List Given → ℕ
+codes_refusal first last byte gs = lower (6 unless are_chars first last) (range_refusal (code_of first) (code_of last) byte gs)
+
 -- of an entry with these names, whose refusals are `names`; bad is 2 or 0 for its bytes
 unfoldable pub entry_refusal : ℕ → ℕ → List ℕ → List ℕ → ℕ → List Given → ℕ
 entry_refusal bad names first last byte gs =
@@ -64,9 +65,9 @@ pub record CharOf (n : List ℕ) (c : ℕ) : Type 0 where
   pub code : c ≡ code_of n
   pub small : c ≤ 0x10FFFF
 
-abbrev pub CharIs : List ℕ → Code → Type 0
-CharIs n (code.Char c) = CharOf n c.0
-CharIs n code.Other = is_char_name n ≡ false
+abbrev pub CharIs : List ℕ → Option CodePoint → Type 0
+CharIs n (Some c) = CharOf n c.0
+CharIs n None = is_char_name n ≡ false
 
 -- The codes of two characters with no other numbers between them.
 pub record CodesBetween (first last : List ℕ) (low high : ℕ) : Type 0 where
@@ -75,9 +76,9 @@ pub record CodesBetween (first last : List ℕ) (low high : ℕ) : Type 0 where
   pub high-code : high ≡ code_of last
   pub small : high ≤ 0x10FFFF
 
-abbrev pub CodesAre : List ℕ → List ℕ → Codes → Type 0
-CodesAre first last (codes.Between low high) = CodesBetween first last low.0 high.0
-CodesAre first last codes.Other = are_chars first last ≡ false
+abbrev pub CodesAre : List ℕ → List ℕ → Option (CodePoint × CodePoint) → Type 0
+CodesAre first last (Some (low, high)) = CodesBetween first last low.0 high.0
+CodesAre first last None = are_chars first last ≡ false
 
 -- With no refusal: n bytes from b on, and codes from c on, which areas have room for.
 pub record Giving (refusal low high byte b c n : ℕ) : Type 0 where
@@ -94,15 +95,19 @@ pub record Refusing (refusal n : ℕ) : Type 0 where
   pub some : 0 < n
 
 -- by a refusal, or none: what the codes from low to high give
-abbrev pub OutcomeIs : ℕ → ℕ → ℕ → ℕ → Outcome → Type 0
-OutcomeIs refusal low high byte (outcome.Gives b c n) = Giving refusal low high byte b c.0 n
-OutcomeIs refusal low high byte (outcome.Refused n) = Refusing refusal n
+abbrev pub OutcomeIs : ℕ → ℕ → ℕ → ℕ → Result (ℕ × CodePoint × ℕ) Refusal → Type 0
+OutcomeIs refusal low high byte (Ok (b, c, n)) = Giving refusal low high byte b c.0 n
+OutcomeIs refusal low high byte (Err r) = Refusing refusal (number_of r)
 
 -- whatever is given that the area holds
-abbrev pub RangeIs : List ℕ → ℕ → ℕ → ℕ → Outcome → Type 0
+abbrev pub RangeIs : List ℕ → ℕ → ℕ → ℕ → Result (ℕ × CodePoint × ℕ) Refusal → Type 0
 RangeIs area low high byte r = (gs : List Given) → Holds area gs → OutcomeIs (range_refusal low high byte gs) low high byte r
 
-abbrev pub EntryIs : Bool → ℕ → List ℕ → List ℕ → ℕ → List ℕ → Outcome → Type 0
+-- the same of the codes of two names, whatever else the entry's line is refused for
+abbrev pub CodesGive : List ℕ → List ℕ → ℕ → List ℕ → Result (ℕ × CodePoint × ℕ) Refusal → Type 0
+CodesGive first last byte area r = (gs : List Given) → Holds area gs → OutcomeIs (codes_refusal first last byte gs) (code_of first) (code_of last) byte r
+
+abbrev pub EntryIs : Bool → ℕ → List ℕ → List ℕ → ℕ → List ℕ → Result (ℕ × CodePoint × ℕ) Refusal → Type 0
 EntryIs text names first last byte area r =
     (gs : List Given) → Holds area gs → OutcomeIs (entry_refusal (2 unless text) names first last byte gs) (code_of first) (code_of last) byte r
 
@@ -118,6 +123,11 @@ pub record Entered (refusal : ℕ) (gs new : List Given) (area after : List ℕ)
   pub given : r ≡ 0 → Holds after (gs ++ new)
   pub untouched : (r ≡ 0 → ⊥) → after ≡ area
 
-abbrev pub EnterIs : Bool → ℕ → List ℕ → List ℕ → ℕ → List ℕ → List ℕ → ℕ → Type 0
+-- the number of what a function answers that gives nothing else
+abbrev pub refusal_told : Result Unit Refusal → ℕ
+refusal_told (Ok _) = 0
+refusal_told (Err r) = number_of r
+
+abbrev pub EnterIs : Bool → ℕ → List ℕ → List ℕ → ℕ → List ℕ → List ℕ → Result Unit Refusal → Type 0
 EnterIs text names first last byte area after r =
-    (gs : List Given) → Holds area gs → Entered (entry_refusal (2 unless text) names first last byte gs) gs (new_of first last byte) area after r
+    (gs : List Given) → Holds area gs → Entered (entry_refusal (2 unless text) names first last byte gs) gs (new_of first last byte) area after (refusal_told r)

@@ -1,5 +1,5 @@
 -- What a line between CHARMAP and END CHARMAP does that is no entry (Rattle.rules.specs.Charmap).
-use Rattle.std.specs.Prelude.{◌≡◌, Bool, true, false, ◌&&◌, List, ℕ, ◌+◌, ◌≤◌, ◌<◌, length, drop, eqb}
+use Rattle.std.specs.Prelude.{◌≡◌, Bool, true, false, ◌&&◌, List, ℕ, ◌+◌, ◌≤◌, ◌<◌, length, drop, eqb, Err, Ok, Result}
 use Rattle.rules.specs.Text.{bytes, same}
 use Rattle.rules.specs.Tokens.{word, Token, token_at, single, operands}
 use Rattle.rules.specs.Charmap.{Mapping, leaves, body_line}
@@ -8,8 +8,7 @@ use Rattle.text_lines.specs.declared.Signs.{Signs}
 use Rattle.text_lines.specs.Stream.{line_left, marks_left, end_of, line_start}
 use Rattle.charmap_body.specs.declared.Kind.{Kind}
 use Rattle.charmap_body.specs.declared.Kind.TheVariants as kind
-use Rattle.charmap_body.specs.declared.PlainLine.{PlainLine}
-use Rattle.charmap_body.specs.declared.PlainLine.TheVariants as plain
+use Rattle.base_units.specs.declared.Refusal.{Refusal}
 
 -- the word w alone
 unfoldable pub sole_word : List Token → List ℕ → Bool
@@ -58,7 +57,8 @@ pub record BadLine (g : Signs) (src : List ℕ) (at n : ℕ) : Type 0 where
   pub refusal : (m : Mapping) → (body_line m (marks_left g src (line_start at))).refusal ≡ n
   pub some : 0 < n
 
-abbrev pub PlainIs : Signs → List ℕ → ℕ → PlainLine → Type 0
-PlainIs g src at (plain.Blank next feeds) = BlankLine g src at next feeds
-PlainIs g src at (plain.End next feeds) = EndLine g src at next feeds
-PlainIs g src at (plain.Refused r) = BadLine g src at (number_of r)
+-- whether it is END CHARMAP, the place after it, and its LFs
+abbrev pub PlainIs : Signs → List ℕ → ℕ → Result (Bool × ℕ × ℕ) Refusal → Type 0
+PlainIs g src at (Ok (false, next, feeds)) = BlankLine g src at next feeds
+PlainIs g src at (Ok (true, next, feeds)) = EndLine g src at next feeds
+PlainIs g src at (Err r) = BadLine g src at (number_of r)

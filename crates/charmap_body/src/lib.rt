@@ -4,35 +4,22 @@
 ghost use Rattle.std.specs.Prelude.{◌≡◌, false, ◌&&◌, ◌≤◌, ◌<◌, length, eqb, ltb};
 ghost use Rattle.rules.specs.Lines.{in_plain};
 ghost use Rattle.rules.specs.Tokens.{without_gaps, tokens_of, is_entry};
+ghost use Rattle.base_units.specs.Numbers.{number_or_none};
 ghost use Rattle.text_lines.specs.Stream.{marks_left, line_start};
 ghost use Rattle.text_tokens.specs.Left.{tokens_left};
 ghost use Rattle.text_names.specs.Named.{name_left};
-ghost use Rattle.charmap_entry.specs.Entered.{PartsAre, NoEntry};
-ghost use Rattle.charmap_body.specs.Outcomes.{Area, CharIs, CodesAre, RangeIs, EntryIs, EnterIs, before_codes};
-ghost use Rattle.charmap_body.specs.Body.{BodyIs, OtherIs};
+ghost use Rattle.charmap_entry.specs.Entered.{PartsAre};
+ghost use Rattle.charmap_body.specs.Outcomes.{Area, CharIs, CodesAre, RangeIs, CodesGive, EntryIs, EnterIs, before_codes};
+ghost use Rattle.charmap_body.specs.Body.{BodyIs};
 ghost use Rattle.charmap_body.specs.Plain.{sole_word, is_end_line, KindIs, PlainIs};
 
-use base_units::{CodePoint, Refusal, is_character, refusal_of};
-use charmap_entry::{Entry, Parts, entry_at};
+use base_units::{CodePoint, Refusal, is_character, lower_of};
+use charmap_entry::{Parts, entry_at};
 use charmap_numbers::{any_given, give_range};
-use text_lines::{IN_PLAIN, Signs, Spot, Step, next_mark};
-use text_names::{Code, name_char};
+use text_lines::{IN_PLAIN, Signs, Spot, next_mark};
+use text_names::name_char;
 use text_reader::line_at;
-use text_tokens::{Next, end_of_word, lower_of, next_token, skip_gaps, word_is};
-
-// The codes of an entry's two names, where these are characters and no other number lies between them.
-#[derive(Clone, Copy)]
-pub enum Codes {
-    Between(CodePoint, CodePoint),
-    Other,
-}
-
-// What an entry gives: its first byte, the code of that, and how many bytes and codes in a row; or its refusal's number, as the lowest of several is sought.
-#[derive(Clone, Copy)]
-pub enum Outcome {
-    Gives(usize, CodePoint, usize),
-    Refused(u8),
-}
+use text_tokens::{Next, end_of_word, next_token, skip_gaps, word_is};
 
 // What a line is that is no entry.
 #[derive(Clone, Copy)]
@@ -42,157 +29,113 @@ pub enum Kind {
     Other,
 }
 
-// What a line does that is no entry. Blank and End: the place after it, and its LFs.
-#[derive(Clone, Copy)]
-pub enum PlainLine {
-    Blank(usize, usize),
-    End(usize, usize),
-    Refused(Refusal),
-}
-
-// What a line does: whether it closes the charmap, the place after it, and its LFs; or its refusal.
-#[derive(Clone, Copy)]
-pub enum BodyLine {
-    Line(bool, usize, usize),
-    Refused(Refusal),
-}
-
 // The code of a name that is a character's.
-fn char_code(src: &[u8], g: Signs, p: Spot) -> Code
+fn char_code(src: &[u8], g: Signs, p: Spot) -> Option<CodePoint>
     requires { p.at ≤ length src.now }
     ensures { CharIs (name_left g src.now p) result }
 {
-    let s = name_char(src, g, p);
-    match s {
-        Code::Other => return Code::Other,
-        Code::Char(c) => {
-            if is_character(c) {
-                return Code::Char(c);
-            }
-            return Code::Other;
-        }
-    }
+    let c = name_char(src, g, p)?;
+    if is_character(c) { Some(c) } else { None }
 }
 
 // Whether D800 to DFFF lie between two codes.
 fn spans(low: CodePoint, high: CodePoint) -> bool
     ensures { result ≡ (ltb low.0 0xD800 && ltb 0xDFFF high.0) }
 {
-    if low.0 < 0xD800 {
-        return 0xDFFF < high.0;
-    }
-    false
+    low.0 < 0xD800 && 0xDFFF < high.0
 }
 
 // The codes of an entry's first and last name.
-fn codes_of(src: &[u8], g: Signs, first: Spot, last: Spot) -> Codes
+fn codes_of(src: &[u8], g: Signs, first: Spot, last: Spot) -> Option<(CodePoint, CodePoint)>
     requires { (first.at ≤ length src.now) × (last.at ≤ length src.now) }
     ensures { CodesAre (name_left g src.now first) (name_left g src.now last) result }
 {
-    let s = char_code(src, g, first);
-    match s {
-        Code::Other => return Codes::Other,
-        Code::Char(low) => {
-            let t = char_code(src, g, last);
-            match t {
-                Code::Other => return Codes::Other,
-                Code::Char(high) => {
-                    if spans(low, high) {
-                        return Codes::Other;
-                    }
-                    return Codes::Between(low, high);
-                }
-            }
-        }
+    let low = char_code(src, g, first)?;
+    let high = char_code(src, g, last)?;
+    if spans(low, high) {
+        None
+    } else {
+        Some((low, high))
     }
 }
 
 // What the codes from low to high give, from a byte on.
-fn range_outcome(low: CodePoint, high: CodePoint, byte: u8, area: &[u32]) -> Outcome
+fn range_outcome(
+    low: CodePoint,
+    high: CodePoint,
+    byte: u8,
+    area: &[u32],
+) -> Result<(usize, CodePoint, usize), Refusal>
     requires { Area area.now × (high.0 ≤ 0x10FFFF) }
     ensures { RangeIs area.now low.0 high.0 byte result }
 {
     if high.0 < low.0 {
-        return Outcome::Refused(7); // backwards
+        return Err(Refusal::TooMany); // backwards
     }
     let from = byte as usize;
     let more = (high.0 - low.0) as usize;
     if 255 < from + more {
-        return Outcome::Refused(7); // past FF
+        return Err(Refusal::TooMany); // past FF
     }
     let n = more + 1;
     if any_given(area, from, n) {
-        return Outcome::Refused(10);
+        return Err(Refusal::ByteTwice);
     }
-    Outcome::Gives(from, low, n)
+    Ok((from, low, n))
+}
+
+// What the names and the byte of an entry give, whatever else is wrong with it.
+fn codes_outcome(
+    src: &[u8],
+    g: Signs,
+    p: Parts,
+    area: &[u32],
+) -> Result<(usize, CodePoint, usize), Refusal>
+    requires { Area area.now × (p.first.at ≤ length src.now) × (p.last.at ≤ length src.now) }
+    ensures { CodesGive (name_left g src.now p.first) (name_left g src.now p.last) p.byte area.now result }
+{
+    let Some((low, high)) = codes_of(src, g, p.first, p.last) else {
+        return Err(Refusal::Unknown);
+    };
+    range_outcome(low, high, p.byte, area)
 }
 
 // The refusal that an entry has before its codes are read.
-fn before_codes(text: bool, names: u8) -> u8
-    ensures { result ≡ before_codes text names }
+fn before_codes(text: bool, names: Option<Refusal>) -> Option<Refusal>
+    ensures { number_or_none result ≡ before_codes text (number_or_none names) }
 {
     if text {
-        return names;
+        names
+    } else {
+        lower_of(Some(Refusal::BadByte), names)
     }
-    lower_of(2, names)
 }
 
-// What an entry gives: `first` and `last` are the spots of its names, `refusal` is that of the two, and `text` tells whether each of the
-// line's bytes is text.
+// What an entry gives.
 fn entry_outcome(
     src: &[u8],
     g: Signs,
-    first: Spot,
-    last: Spot,
-    refusal: u8,
-    byte: u8,
-    text: bool,
+    p: Parts,
     area: &[u32],
-) -> Outcome
-    requires { Area area.now × (first.at ≤ length src.now) × (last.at ≤ length src.now) }
-    ensures { EntryIs text refusal (name_left g src.now first) (name_left g src.now last) byte area.now result }
+) -> Result<(usize, CodePoint, usize), Refusal>
+    requires { Area area.now × (p.first.at ≤ length src.now) × (p.last.at ≤ length src.now) }
+    ensures { EntryIs p.text (number_or_none p.refusal) (name_left g src.now p.first) (name_left g src.now p.last) p.byte area.now result }
 {
-    let before = before_codes(text, refusal);
-    let s = codes_of(src, g, first, last);
-    match s {
-        Codes::Other => return Outcome::Refused(lower_of(before, 6)),
-        Codes::Between(low, high) => {
-            let t = range_outcome(low, high, byte, area);
-            match t {
-                Outcome::Refused(n) => return Outcome::Refused(lower_of(before, n)),
-                Outcome::Gives(b, c, n) => {
-                    if before == 0 {
-                        return Outcome::Gives(b, c, n);
-                    }
-                    return Outcome::Refused(before);
-                }
-            }
-        }
+    let codes = codes_outcome(src, g, p, area);
+    match lower_of(before_codes(p.text, p.refusal), codes.err()) {
+        None => codes,
+        Some(r) => Err(r),
     }
 }
 
-// What an entry gives is given; its refusal, 0 for none.
-fn enter(
-    src: &[u8],
-    g: Signs,
-    first: Spot,
-    last: Spot,
-    refusal: u8,
-    byte: u8,
-    text: bool,
-    area: &mut [u32],
-) -> u8
-    requires { Area area.old × (first.at ≤ length src.now) × (last.at ≤ length src.now) }
-    ensures { EnterIs text refusal (name_left g src.now first) (name_left g src.now last) byte area.old area.new result }
+// What an entry gives is given.
+fn enter(src: &[u8], g: Signs, p: Parts, area: &mut [u32]) -> Result<(), Refusal>
+    requires { Area area.old × (p.first.at ≤ length src.now) × (p.last.at ≤ length src.now) }
+    ensures { EnterIs p.text (number_or_none p.refusal) (name_left g src.now p.first) (name_left g src.now p.last) p.byte area.old area.new result }
 {
-    let s = entry_outcome(src, g, first, last, refusal, byte, text, area);
-    match s {
-        Outcome::Refused(n) => return n,
-        Outcome::Gives(b, c, n) => {
-            give_range(area, b, c, n);
-            return 0;
-        }
-    }
+    let (b, c, n) = entry_outcome(src, g, p, area)?;
+    give_range(area, b, c, n);
+    Ok(())
 }
 
 // Whether no token is left.
@@ -200,12 +143,7 @@ fn no_tokens(src: &[u8], g: Signs, p: Spot) -> bool
     requires { (p.at ≤ length src.now) × (p.mode ≡ in_plain) }
     ensures { result ≡ eqb (length (tokens_left g src.now p)) 0 }
 {
-    let s = next_token(src, g, p);
-    match s {
-        Next::End => return true,
-        Next::Token(_) => return false,
-        Next::Broken => return false,
-    }
+    matches!(next_token(src, g, p), Next::End)
 }
 
 // Whether a word w, of a byte or more, is all that is left but for blanks.
@@ -214,12 +152,7 @@ fn only_word(src: &[u8], g: Signs, p: Spot, w: &[u8]) -> bool
     ensures { result ≡ sole_word (without_gaps false (tokens_left g src.now p)) w.now }
 {
     let q = skip_gaps(src, g, p);
-    if word_is(src, g, q, w) {
-        let r = end_of_word(src, g, q);
-        let s = skip_gaps(src, g, r);
-        return no_tokens(src, g, s);
-    }
-    false
+    word_is(src, g, q, w) && no_tokens(src, g, skip_gaps(src, g, end_of_word(src, g, q)))
 }
 
 // Whether the tokens from a spot on are END CHARMAP.
@@ -227,23 +160,17 @@ fn is_end(src: &[u8], g: Signs, p: Spot) -> bool
     requires { (p.at ≤ length src.now) × (p.mode ≡ in_plain) }
     ensures { result ≡ is_end_line (tokens_left g src.now p) }
 {
-    if word_is(src, g, p, b"END") {
-        let q = end_of_word(src, g, p);
-        let s = next_mark(src, g, q);
-        match s {
-            Step::End => return false,
-            Step::Mark(m, r) => {
-                if m == 32 {
-                    return only_word(src, g, r, b"CHARMAP");
-                }
-                if m == 9 {
-                    return only_word(src, g, r, b"CHARMAP");
-                }
-                return false;
-            }
-        }
+    if !word_is(src, g, p, b"END") {
+        return false;
     }
-    false
+    let Some((m, r)) = next_mark(src, g, end_of_word(src, g, p)) else {
+        return false;
+    };
+    if m == 32 || m == 9 {
+        only_word(src, g, r, b"CHARMAP")
+    } else {
+        false // as `a && b` the value of the whole has no name that an answer could cite
+    }
 }
 
 // What a line is that is no entry, from its first spot on.
@@ -253,76 +180,69 @@ fn line_kind(src: &[u8], g: Signs, p: Spot) -> Kind
 {
     let q = skip_gaps(src, g, p);
     if no_tokens(src, g, q) {
-        return Kind::Blank;
+        Kind::Blank
+    } else if is_end(src, g, q) {
+        Kind::End
+    } else {
+        Kind::Other
     }
-    if is_end(src, g, q) {
-        return Kind::End;
-    }
-    Kind::Other
 }
 
 // What a line does that is no entry, from its first place on.
-fn plain_line(src: &[u8], g: Signs, at: usize) -> PlainLine
+fn plain_line(src: &[u8], g: Signs, at: usize) -> Result<(bool, usize, usize), Refusal>
     requires { (at ≤ length src.now) × (is_entry (tokens_of (marks_left g src.now (line_start at))) ≡ false) }
     ensures { PlainIs g src.now at result }
 {
     let p = Spot {
-        at: at,
+        at,
         mode: IN_PLAIN,
         fresh: true,
     };
     let e = line_at(src, g, at);
-    let k = line_kind(src, g, p);
-    match k {
-        Kind::Blank => return PlainLine::Blank(e.next, e.feeds),
+    match line_kind(src, g, p) {
+        Kind::Blank => Ok((false, e.next, e.feeds)),
         Kind::End => {
             if e.text {
-                return PlainLine::End(e.next, e.feeds);
+                Ok((true, e.next, e.feeds))
+            } else {
+                Err(Refusal::BadByte)
             }
-            return PlainLine::Refused(Refusal::BadByte);
         }
-        Kind::Other => {
-            if e.text {
-                return PlainLine::Refused(Refusal::Malformed);
-            }
-            return PlainLine::Refused(Refusal::BadByte);
-        }
-    }
-}
-
-// What a line does that is no entry, whatever is given.
-fn other_line(src: &[u8], g: Signs, at: usize) -> BodyLine
-    requires { (at ≤ length src.now) × NoEntry g src.now at }
-    ensures { OtherIs g src.now at result }
-{
-    let s = plain_line(src, g, at);
-    match s {
-        PlainLine::Blank(next, feeds) => return BodyLine::Line(false, next, feeds),
-        PlainLine::End(next, feeds) => return BodyLine::Line(true, next, feeds),
-        PlainLine::Refused(r) => return BodyLine::Refused(r),
+        Kind::Other => Err(if e.text {
+            Refusal::Malformed
+        } else {
+            Refusal::BadByte
+        }),
     }
 }
 
 // What an entry does, from its line's first place on.
-fn entry_line(src: &[u8], g: Signs, at: usize, p: Parts, area: &mut [u32]) -> BodyLine
+fn entry_line(
+    src: &[u8],
+    g: Signs,
+    at: usize,
+    p: Parts,
+    area: &mut [u32],
+) -> Result<(bool, usize, usize), Refusal>
     requires { Area area.old × PartsAre g src.now at p }
     ensures { BodyIs g src.now at area.old area.new result }
 {
-    let n = enter(src, g, p.first, p.last, p.refusal, p.byte, p.text, area);
-    if n == 0 {
-        return BodyLine::Line(false, p.next, p.feeds);
-    }
-    BodyLine::Refused(refusal_of(n))
+    enter(src, g, p, area)?;
+    Ok((false, p.next, p.feeds))
 }
 
 // What a line between CHARMAP and END CHARMAP does, from its first place on.
-pub fn body_line(src: &[u8], g: Signs, at: usize, area: &mut [u32]) -> BodyLine
+pub fn body_line(
+    src: &[u8],
+    g: Signs,
+    at: usize,
+    area: &mut [u32],
+) -> Result<(bool, usize, usize), Refusal>
     requires { Area area.old × (at ≤ length src.now) }
     ensures { BodyIs g src.now at area.old area.new result }
 {
-    let e = entry_at(src, g, at);
-    match e {
-        Entry::No => return other_line(src, g, at),
-        Entry::Found(p) => return entry_line(src, g, at, p, area),
+    match entry_at(src, g, at) {
+        None => plain_line(src, g, at),
+        Some(p) => entry_line(src, g, at, p, area),
     }
 }

@@ -12,9 +12,9 @@ use lib.Dec.{eqb}
 use borrow.Author.Tests.{eqb-true, eqb-false}
 use Rattle.base_lists.proofs.Bools.{and_right, by}
 use Rattle.rules.specs.Coding.{good_ones, ones_of}
-use Rattle.charmap_coding.specs.Tables.{Counted}
+use Rattle.charmap_coding.specs.Tables.{is_one, Counted}
 use Rattle.charmap_coding.proofs.BlankLaws.{blank-at}
-use Rattle.charmap_coding.proofs.OnesLaws.{is_one, good-one, sum_same, sum-other}
+use Rattle.charmap_coding.proofs.OnesLaws.{good-one, sum_same, sum-other}
 
 -- ## How many 1s there can be
 
@@ -49,7 +49,7 @@ unfolding ones_of
 counting-none codes ones table e = record {
   to = omega arith;
   long = refl;
-  is = λ c h. blank-at table 0 c e h ∙ rw (drop-length codes);
+  is = λ c h. blank-at table 0 0 c e h ∙ rw (drop-length codes);
 }
 
 module _ {codes ones table₀ table : List ℕ} {i : ℕ} (v : Counting codes ones table₀ table i) (h : 0 < i) (l : length codes ≡ length ones) where

@@ -1,4 +1,5 @@
 -- Decoding: what stands at a byte of an accepted area, the loop of all_mapped, and the answers of decode.
+use Rattle.std.specs.Prelude.{Err, Ok}
 use mathlib.Core.Path.{◌≡◌, refl, sym, ◌∙◌}
 use mathlib.Core.Bool.{Bool, true, false, not}
 use mathlib.Core.List.{List, map}
@@ -14,12 +15,14 @@ use Rattle.rules.specs.Text.{every}
 use Rattle.rules.specs.Names.{is_character}
 use Rattle.rules.specs.Charmap.{no_code}
 use Rattle.rules.specs.Coding.{is_code, area_accepted, code_at, decode_of}
-use Rattle.rules.specs.Calls.{over, written_as, decode_call}
+use Rattle.rules.specs.Calls.{over, written_as, area_call, decode_call}
 use Rattle.rules.proofs.TextLaws.{every-get_d}
 use Rattle.rules.proofs.AreaLaws.{accepted-parts, code-at}
-use Rattle.base_units.specs.declared.Refusal.TheVariants.{NotAccepted, BadString, NotMapped, NoRoom}
-use Rattle.charmap_coding.specs.declared.Coded.TheVariants.{Written, Refused}
+use Rattle.base_units.specs.declared.Refusal.TheVariants.{BadString, NotMapped, NoRoom}
+use Rattle.base_units.specs.Numbers.{number_of}
+use Rattle.base_units.specs.declared.Refusal.{Refusal}
 use Rattle.charmap_coding.specs.Answers.{written_is}
+use Rattle.charmap_coding.proofs.AcceptLaws.{area-granted, area-refused}
 
 -- ## What stands at a byte
 
@@ -64,30 +67,32 @@ module _ {area bs : List ℕ} {i : ℕ} (v : Mapped area bs i) where
 
 -- ## decode
 
-module _ (area bs room : List ℕ) {a : Bool} (accepts : a ≡ area_accepted area) where
-  pub decode-unaccepted : not a ≡ true → written_is (Refused NotAccepted) room ≡ decode_call area bs room
+pub decode-unaccepted : (area bs room : List ℕ) (r : Refusal) → number_of r ≡ area_call area → written_is (Err r) room ≡ decode_call area bs room
+unfolding decode_call written_as decode_of
+decode-unaccepted area bs room r e = let f = area-refused area r e in rw (f.0, f.1)
+
+module _ (area bs room : List ℕ) (checks : 0 ≡ area_call area) where
+  accepts : area_accepted area ≡ true
+  accepts = area-granted area checks
+
+  pub decode-long : 4096 < length bs → written_is (Err BadString) room ≡ decode_call area bs room
   unfolding decode_call written_as decode_of
-  decode-unaccepted e = rw (← accepts, e)
+  decode-long h = rw (accepts, lt-ltb 4096 (length bs) h)
 
-  module _ (yes-area : not a ≡ false) where
-    pub decode-long : 4096 < length bs → written_is (Refused BadString) room ≡ decode_call area bs room
+  module _ (h : length bs ≤ 4096) {b : Bool} (maps : b ≡ every is_character (map (code_at area) bs)) where
+    pub decode-unmapped : not b ≡ true → written_is (Err NotMapped) room ≡ decode_call area bs room
     unfolding decode_call written_as decode_of
-    decode-long h = rw (← accepts, yes-area, lt-ltb 4096 (length bs) h)
+    decode-unmapped e = rw (accepts, le-ltb 4096 (length bs) h, ← maps, e)
 
-    module _ (h : length bs ≤ 4096) {b : Bool} (maps : b ≡ every is_character (map (code_at area) bs)) where
-      pub decode-unmapped : not b ≡ true → written_is (Refused NotMapped) room ≡ decode_call area bs room
+    module _ (yes-maps : not b ≡ false) where
+      pub decode-short : length room < length bs → written_is (Err NoRoom) room ≡ decode_call area bs room
       unfolding decode_call written_as decode_of
-      decode-unmapped e = rw (← accepts, yes-area, le-ltb 4096 (length bs) h, ← maps, e)
+      decode-short k =
+          rw (accepts, le-ltb 4096 (length bs) h, ← maps, yes-maps, length-map bs (code_at area), lt-ltb (length room) (length bs) k)
 
-      module _ (yes-maps : not b ≡ false) where
-        pub decode-short : length room < length bs → written_is (Refused NoRoom) room ≡ decode_call area bs room
-        unfolding decode_call written_as decode_of
-        decode-short k =
-            rw (← accepts, yes-area, le-ltb 4096 (length bs) h, ← maps, yes-maps, length-map bs (code_at area), lt-ltb (length room) (length bs) k)
-
-        pub decode-written : {o : List ℕ} → length bs ≤ length room → o ≡ over (map (code_at area) bs) room
-            → written_is (Written (length bs)) o ≡ decode_call area bs room
-        unfolding decode_call written_as decode_of
-        decode-written k e =
-            rw (e, ← accepts, yes-area, le-ltb 4096 (length bs) h, ← maps, yes-maps, length-map bs (code_at area), le-ltb (length room) (length bs) k)
-            (rw (length-map bs (code_at area)))
+      pub decode-written : {o : List ℕ} → length bs ≤ length room → o ≡ over (map (code_at area) bs) room
+          → written_is (Ok (length bs)) o ≡ decode_call area bs room
+      unfolding decode_call written_as decode_of
+      decode-written k e =
+          rw (e, accepts, le-ltb 4096 (length bs) h, ← maps, yes-maps, length-map bs (code_at area), le-ltb (length room) (length bs) k)
+          (rw (length-map bs (code_at area)))

@@ -1,6 +1,6 @@
 -- The numbers after the codes: the loops of ones_pass, ones_of and one_each_by.
 use mathlib.Core.Path.{◌≡◌, refl, sym, ◌∙◌}
-use mathlib.Core.Bool.{Bool, true, false, not, ◌&&◌, ◌||◌, false≢true}
+use mathlib.Core.Bool.{Bool, true, not, ◌||◌, false≢true}
 use mathlib.Core.List.{List, [], ◌∷◌}
 use Prim.Native.Nat.{ℕ, zero, suc, ◌+◌, ◌≤◌, ◌<◌}
 use native.Mathlib.Numerals.{add-one}
@@ -13,20 +13,12 @@ use lib.Seq.{drop-cons}
 use lib.Dec.{eqb}
 use borrow.Author.Tests.{eqb-true, eq-eqb, ne_eqb}
 use Rattle.base_lists.proofs.Bools.{and_left, and_right, by}
+use Rattle.std.specs.List.{list_all, zip}
 use Rattle.rules.specs.Charmap.{no_code}
+use Rattle.charmap_coding.specs.Tables.{is_one}
 use Rattle.rules.specs.Coding.{good_ones, ones_of, one_each}
 
--- a number after the codes passes where the code is c
-abbrev pub is_one : ℕ → ℕ → Bool
-is_one c o = eqb o 0 || (eqb o 1 && not (eqb c no_code))
-
 module _ (codes ones : List ℕ) (i : ℕ) (l : length codes ≡ length ones) (h : i < length codes) where
-  -- the place i, and the places after it
-  good-cons : good_ones (drop i codes) (drop i ones)
-      ≡ (is_one (get_or codes i 0) (get_or ones i 0) && good_ones (drop (i + 1) codes) (drop (i + 1) ones))
-  unfolding good_ones
-  good-cons = let k : i < length ones = omega arith in rw (add-one i, drop-cons codes i 0 h, drop-cons ones i 0 k)
-
   -- what the place i adds for its own code, and for another
   pub sum_same : (c : ℕ) → c ≡ get_or codes i 0
       → ones_of c (drop i codes) (drop i ones) ≡ get_or ones i 0 + ones_of c (drop (i + 1) codes) (drop (i + 1) ones)
@@ -43,32 +35,14 @@ module _ (codes ones : List ℕ) (i : ℕ) (l : length codes ≡ length ones) (h
 
 -- ## ones_pass
 
--- the numbers before i pass, so that those from i on decide
-pub record Ones (codes ones : List ℕ) (i : ℕ) : Type 0 where
-  pub same : good_ones codes ones ≡ good_ones (drop i codes) (drop i ones)
+good-all : (cs os : List ℕ) → length cs ≡ length os → list_all (λ (q : ℕ × ℕ). is_one q.0 q.1) (zip cs os) ≡ good_ones cs os
+unfolding good_ones
+good-all [] os l = refl
+good-all (c ∷ cs) [] l = absurd (omega arith)
+good-all (c ∷ cs) (o ∷ os) l = rw (good-all cs os (omega arith))
 
-pub ones_none : (codes ones : List ℕ) → Ones codes ones 0
-ones_none codes ones = record { same = refl }
-
-module _ {codes ones : List ℕ} {i : ℕ} (v : Ones codes ones i) where
-  module _ (l : length codes ≡ length ones) (h : i < length codes) where
-    pub ones-zero : get_or ones i 0 ≡ 0 → Ones codes ones (i + 1)
-    ones-zero e = record { same = v.same ∙ good-cons codes ones i l h ∙ rw e }
-
-    module _ (n : get_or ones i 0 ≡ 0 → ⊥) where
-      pub ones-large : (get_or ones i 0 ≡ 1 → ⊥) → false ≡ good_ones codes ones
-      ones-large m = sym (v.same ∙ good-cons codes ones i l h ∙ rw (ne_eqb (get_or ones i 0) 0 n, ne_eqb (get_or ones i 0) 1 m))
-
-      module _ (e : get_or ones i 0 ≡ 1) where
-        pub ones-uncoded : get_or codes i 0 ≡ 0x110000 → false ≡ good_ones codes ones
-        ones-uncoded f = sym (v.same ∙ good-cons codes ones i l h ∙ rw (e, f))
-
-        pub ones-one : (get_or codes i 0 ≡ 0x110000 → ⊥) → Ones codes ones (i + 1)
-        ones-one m = record { same = v.same ∙ good-cons codes ones i l h ∙ rw (e, ne_eqb (get_or codes i 0) no_code m) }
-
-  pub ones-all : length codes ≤ i → true ≡ good_ones codes ones
-  unfolding good_ones
-  ones-all h = sym (v.same ∙ rw (drop_of_length-le codes h))
+pub ones-all : (codes ones : List ℕ) {r : Bool} → length codes ≡ length ones → r ≡ list_all (λ (q : ℕ × ℕ). is_one q.0 q.1) (zip codes ones) → r ≡ good_ones codes ones
+ones-all codes ones l e = e ∙ good-all codes ones l
 
 -- ## ones_of
 
@@ -115,29 +89,13 @@ module _ {codes ones : List ℕ} {c sum i : ℕ} (v : Summing codes ones c sum i
 
 -- ## one_each_by
 
--- each code before i has one 1, so that those from i on decide
-pub record Each (codes ones : List ℕ) (i : ℕ) : Type 0 where
-  pub same : one_each codes codes ones ≡ one_each (drop i codes) codes ones
+abbrev pub has_one : List ℕ → List ℕ → ℕ → Bool
+has_one codes ones c = eqb c no_code || eqb (ones_of c codes ones) 1
 
-pub each_none : (codes ones : List ℕ) → Each codes ones 0
-each_none codes ones = record { same = refl }
+each-of : (cs codes ones : List ℕ) → list_all (has_one codes ones) cs ≡ one_each cs codes ones
+unfolding one_each
+each-of [] codes ones = refl
+each-of (c ∷ cs) codes ones = rw (each-of cs codes ones)
 
-module _ {codes ones : List ℕ} {i : ℕ} (v : Each codes ones i) where
-  module _ (h : i < length codes) where
-    pub each-uncoded : get_or codes i 0 ≡ 0x110000 → Each codes ones (i + 1)
-    unfolding one_each
-    each-uncoded e = record { same = v.same ∙ rw (add-one i, drop-cons codes i 0 h, e) }
-
-    module _ {n : ℕ} (m : get_or codes i 0 ≡ 0x110000 → ⊥) (is : n ≡ ones_of (get_or codes i 0) codes ones) where
-      pub each-one : n ≡ 1 → Each codes ones (i + 1)
-      unfolding one_each
-      each-one e = record { same = v.same ∙ rw (add-one i, drop-cons codes i 0 h, ne_eqb (get_or codes i 0) no_code m, ← is, e) }
-
-      pub each-other : (n ≡ 1 → ⊥) → false ≡ one_each codes codes ones
-      unfolding one_each
-      each-other e =
-          sym (v.same ∙ rw (drop-cons codes i 0 h, ne_eqb (get_or codes i 0) no_code m, ← is, ne_eqb n 1 e))
-
-  pub each_all : length codes ≤ i → true ≡ one_each codes codes ones
-  unfolding one_each
-  each_all h = sym (v.same ∙ rw (drop_of_length-le codes h))
+pub each_all : (codes ones : List ℕ) {r : Bool} → r ≡ list_all (has_one codes ones) codes → r ≡ one_each codes codes ones
+each_all codes ones e = e ∙ each-of codes codes ones

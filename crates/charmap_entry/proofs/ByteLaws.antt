@@ -1,6 +1,8 @@
 -- An entry's byte at a spot: a law for each way of the readers.
+use Rattle.std.specs.Prelude.{None, Option, Some, ℕ}
 use mathlib.Core.Path.{◌≡◌, refl, sym, ap, ◌∙◌, subst}
 use mathlib.Core.Bool.{Bool, true, false, and-false}
+use mathlib.Core.Logic.{◌⊎◌, ⊎_elim}
 use mathlib.Core.List.{List, [], ◌∷◌, ◌++◌, append_cancel_right}
 use Prim.Native.Nat.{ℕ, ◌+◌, ◌*◌, ◌≤◌, ◌<◌}
 use native.Mathlib.Omega.{arith}
@@ -13,30 +15,22 @@ use Rattle.rules.specs.Tokens.{gap, broken, Token, token, token_at, no_part, tok
 use Rattle.rules.specs.Lines.{in_plain, after}
 use Rattle.text_lines.specs.declared.Signs.{Signs}
 use Rattle.text_lines.specs.declared.Spot.{Spot}
-use Rattle.text_lines.specs.declared.Step.{Step}
-use Rattle.text_lines.specs.declared.Step.TheVariants as step
 use Rattle.text_lines.specs.Stream.{marks_left, Run, MarkIs, StepIs}
 use Rattle.text_lines.proofs.LineLaws.{run-marks}
 use Rattle.text_lines.proofs.RunLaws.{run-then}
 use Rattle.text_lines.proofs.SignLaws.{after-blank}
 use Rattle.text_tokens.specs.Left.{tokens_left, Skips}
 use Rattle.text_tokens.proofs.TokenLaws.{tokens_from-none, first-gap, in-word}
-use Rattle.charmap_entry.specs.declared.Byte.{Byte}
-use Rattle.charmap_entry.specs.declared.Byte.TheVariants as byte
-use Rattle.charmap_entry.specs.declared.Tail.{Tail}
-use Rattle.charmap_entry.specs.declared.Tail.TheVariants as tail
-use Rattle.charmap_entry.specs.declared.Two.{Two}
-use Rattle.charmap_entry.specs.declared.Two.TheVariants as two
-use Rattle.charmap_entry.specs.Entered.{plain_at, Glued, TailIs, byte_by, opens_pair, hex_of, starts_hex, TwoDigits, DigitsAre, PairIs, EscapedIs, GapIs}
+use Rattle.charmap_entry.specs.Entered.{plain_at, Glued, TailIs, byte_by, opens_pair, HexDigit, HexIs, starts_hex, TwoDigits, DigitsAre, PairIs, EscapedIs, GapIs}
 use Rattle.charmap_entry.proofs.ShapeLaws.{is_gap}
 use Rattle.charmap_entry.proofs.FirstLaws.{first-solid, first-no-escape}
-use Rattle.charmap_entry.proofs.PairLaws.{hex-word, hex-yes, hex-no, no-escape, no-digits, marks-no-digits, two-glued, escape-first, none-escape}
+use Rattle.charmap_entry.proofs.PairLaws.{hex-word, no-escape, no-digits, marks-no-digits, two-glued, escape-first, none-escape}
 
 -- the mark that is read
-pub mark-at : {g : Signs} {src : List ℕ} {p q : Spot} {s : Step} {m : ℕ} → StepIs g src p s → s ≡ step.Mark m q → MarkIs g src p m q
+pub mark-at : {g : Signs} {src : List ℕ} {p q : Spot} {s : Option (ℕ × Spot)} {m : ℕ} → StepIs g src p s → s ≡ Some (m, q) → MarkIs g src p m q
 mark-at {g} {src} {p} v e = subst (StepIs g src p) e v
 
-pub none-at : (g : Signs) (src : List ℕ) (p : Spot) {s : Step} → StepIs g src p s → s ≡ step.End → marks_left g src p ≡ []
+pub none-at : (g : Signs) (src : List ℕ) (p : Spot) {s : Option (ℕ × Spot)} → StepIs g src p s → s ≡ None → marks_left g src p ≡ []
 none-at g src p v e = subst (StepIs g src p) e v
 
 -- ## Two hex digits
@@ -46,49 +40,48 @@ hex-plain : (m : ℕ) → is_any_hex m ≡ true → (after in_plain m ≡ in_pla
 unfolding after
 hex-plain m h = let w = in-word m (hex-word m h) in (rw (w.name, w.quote), w.blank)
 
-module _ (g : Signs) (src : List ℕ) (p : Spot) (o : p.mode ≡ in_plain) {s : Step} (v : StepIs g src p s) where
-  pub digits-end : s ≡ step.End → starts_hex (marks_left g src p) ≡ false
+module _ (g : Signs) (src : List ℕ) (p : Spot) (o : p.mode ≡ in_plain) {s : Option (ℕ × Spot)} (v : StepIs g src p s) where
+  pub digits-end : s ≡ None → starts_hex (marks_left g src p) ≡ false
   digits-end e = rw (none-at g src p v e)
 
-  pub digits-to : {m : ℕ} {q : Spot} → s ≡ step.Mark m q → q.at ≤ length src
+  pub digits-to : {m : ℕ} {q : Spot} → s ≡ Some (m, q) → q.at ≤ length src
   digits-to e = (mark-at v e).to
 
-  module _ {m : ℕ} {q : Spot} (e : s ≡ step.Mark m q) {x : ℕ} (a : x ≡ hex_of m) where
-    one : MarkIs g src p m q
-    one = mark-at v e
-
-    pub digits-first : 16 ≤ x → starts_hex (marks_left g src p) ≡ false
-    digits-first h = rw one.marks (go (marks_left g src q))
+  module _ {m : ℕ} {q : Spot} (e : s ≡ Some (m, q)) {c : Option ℕ} (a : HexIs m c) where
+    pub digits-first : c ≡ None → starts_hex (marks_left g src p) ≡ false
+    digits-first h = rw (mark-at v e).marks (go (marks_left g src q))
       where
+        none : is_any_hex m ≡ false
+        none = subst (HexIs m) h a
+
         go : (ms : List ℕ) → starts_hex (m ∷ ms) ≡ false
         go [] = refl
-        go (n ∷ ms) = rw (hex-no m a h)
+        go (n ∷ ms) = rw none
 
-    module _ (h : x < 16) {t : Step} (w : StepIs g src q t) where
-      pub digits-one : t ≡ step.End → starts_hex (marks_left g src p) ≡ false
-      digits-one f = rw (one.marks, none-at g src q w f)
+    module _ {x : ℕ} (h : c ≡ Some x) {t : Option (ℕ × Spot)} (w : StepIs g src q t) where
+      pub digits-one : t ≡ None → starts_hex (marks_left g src p) ≡ false
+      digits-one f = rw ((mark-at v e).marks, none-at g src q w f)
 
-      module _ {n : ℕ} {r : Spot} (f : t ≡ step.Mark n r) {y : ℕ} (b : y ≡ hex_of n) where
-        other : MarkIs g src q n r
-        other = mark-at w f
+      module _ {n : ℕ} {r : Spot} (f : t ≡ Some (n, r)) {d : Option ℕ} (b : HexIs n d) where
+        pub digits-second : d ≡ None → starts_hex (marks_left g src p) ≡ false
+        digits-second k = let z : is_any_hex n ≡ false = subst (HexIs n) k b in rw ((mark-at v e).marks, (mark-at w f).marks, z) (and-false (is_any_hex m))
 
-        pub digits-second : 16 ≤ y → starts_hex (marks_left g src p) ≡ false
-        digits-second k = rw (one.marks, other.marks, hex-no n b k) (and-false (is_any_hex m))
-
-        pub digits-two : y < 16 → TwoDigits g src p (x * 16 + y) r
+        pub digits-two : {y : ℕ} → d ≡ Some y → TwoDigits g src p (x * 16 + y) r
         unfolding hex_value
-        digits-two k =
-            let c = hex-yes m a h in
-            let d = hex-yes n b k in
-            let i = hex-plain m c.0 in
-            let j = hex-plain n d.0 in
+        digits-two {y} k =
+            let one = mark-at v e in
+            let other = mark-at w f in
+            let c : HexDigit m x = subst (HexIs m) h a in
+            let d : HexDigit n y = subst (HexIs n) k b in
+            let i = hex-plain m c.hex in
+            let j = hex-plain n d.hex in
             let u : q.mode ≡ in_plain = one.step.mode ∙ rw o i.0 in
             record {
               first = m;
               second = n;
-              hex = c.0;
-              hex-second = d.0;
-              value = rw (← c.1, ← d.1) (omega arith);
+              hex = c.hex;
+              hex-second = d.hex;
+              value = rw (← c.value, ← d.value) (omega arith);
               feeds = one.feeds + other.feeds;
               run = run-then one.run other.run;
               mode = other.step.mode ∙ rw u j.0;
@@ -99,12 +92,12 @@ module _ (g : Signs) (src : List ℕ) (p : Spot) (o : p.mode ≡ in_plain) {s : 
 
 -- ## Escape and `x`
 
-module _ (g : Signs) (src : List ℕ) (p : Spot) (o : p.mode ≡ in_plain) {s : Step} (v : StepIs g src p s) where
-  pub pair_end : s ≡ step.End → opens_pair (tokens_left g src p) ≡ false
+module _ (g : Signs) (src : List ℕ) (p : Spot) (o : p.mode ≡ in_plain) {s : Option (ℕ × Spot)} (v : StepIs g src p s) where
+  pub pair_end : s ≡ None → opens_pair (tokens_left g src p) ≡ false
   unfolding tokens_left
   pair_end e = rw (none-at g src p v e, tokens_from-none) (no-escape [] none-escape)
 
-  module _ {m : ℕ} {q : Spot} (e : s ≡ step.Mark m q) where
+  module _ {m : ℕ} {q : Spot} (e : s ≡ Some (m, q)) where
     escape : MarkIs g src p m q
     escape = mark-at v e
 
@@ -121,14 +114,14 @@ module _ (g : Signs) (src : List ℕ) (p : Spot) (o : p.mode ≡ in_plain) {s : 
       unfolding tokens_left
       from-escape = rw (escape.marks, h) (escape-first (marks_left g src q))
 
-      module _ {d : Two} (w : DigitsAre g src q d) where
-        pub pair-no-digits : d ≡ two.No → opens_pair (tokens_left g src p) ≡ false
+      module _ {d : Option (ℕ × Spot)} (w : DigitsAre g src q d) where
+        pub pair-no-digits : d ≡ None → opens_pair (tokens_left g src p) ≡ false
         unfolding tokens_left
         pair-no-digits f =
             let n : starts_hex (marks_left g src q) ≡ false = subst (DigitsAre g src q) f w in
             rw from-escape (no-digits (token broken (120 ∷ []) [] ∷ tokens_left g src q) (marks-no-digits (marks_left g src q) n))
 
-        module _ {b : ℕ} {r : Spot} (f : d ≡ two.Byte b r) where
+        module _ {b : ℕ} {r : Spot} (f : d ≡ Some (b, r)) where
           digits : TwoDigits g src q b r
           digits = subst (DigitsAre g src q) f w
 
@@ -139,8 +132,8 @@ module _ (g : Signs) (src : List ℕ) (p : Spot) (o : p.mode ≡ in_plain) {s : 
           behind : marks_left g src r ≡ marks_left g src (plain_at r.at)
           behind = ap (λ (x : Spot). marks_left g src x) (λ i. record { at = r.at; mode = digits.mode i; fresh = digits.fresh i })
 
-          module _ {t : Tail} (k : TailIs g src r.at t) where
-            pub pair-glued : t ≡ tail.Glued → opens_pair (tokens_left g src p) ≡ false
+          module _ {t : Option ℕ} (k : TailIs g src r.at t) where
+            pub pair-glued : t ≡ None → opens_pair (tokens_left g src p) ≡ false
             unfolding tokens_left
             pair-glued i =
                 let z : Glued g src (plain_at r.at) = subst (TailIs g src r.at) i k in
@@ -148,7 +141,7 @@ module _ (g : Signs) (src : List ℕ) (p : Spot) (o : p.mode ≡ in_plain) {s : 
                 run-marks g src q digits.run ∙ ap (λ (l : List ℕ). digits.first ∷ digits.second ∷ l) (behind ∙ z.is) in
                 rw (from-escape, ms) (two-glued digits.first digits.second digits.hex digits.hex-second (token broken (120 ∷ []) []) z.mark z.rest z.solid)
 
-            pub pair_found : {i : ℕ} → t ≡ tail.Ends i → PairIs g src p b i
+            pub pair_found : {i : ℕ} → t ≡ Some i → PairIs g src p b i
             pair_found {i} j =
                 record {
                   first = digits.first;
@@ -196,49 +189,41 @@ after-gap : (p : List Token → Bool) (ts : List Token) → byte_by p (token gap
 unfolding byte_by without_opening_gaps
 after-gap p ts = refl
 
-module _ (g : Signs) (src : List ℕ) (p : Spot) (o : p.mode ≡ in_plain) {s : Step} (v : StepIs g src p s) where
-  pub gap-end : s ≡ step.End → byte_by opens_pair (tokens_left g src p) ≡ false
+module _ (g : Signs) (src : List ℕ) (p : Spot) (o : p.mode ≡ in_plain) {s : Option (ℕ × Spot)} (v : StepIs g src p s) where
+  pub gap-end : s ≡ None → byte_by opens_pair (tokens_left g src p) ≡ false
   unfolding tokens_left
   gap-end e = rw (none-at g src p v e, tokens_from-none) (none-gap opens_pair)
 
-  module _ {m : ℕ} {q : Spot} (e : s ≡ step.Mark m q) where
+  module _ {m : ℕ} {q : Spot} (e : s ≡ Some (m, q)) where
     blank : MarkIs g src p m q
     blank = mark-at v e
 
-    pub gap_other : (m ≡ 32 → ⊥) → (m ≡ 9 → ⊥) → byte_by opens_pair (tokens_left g src p) ≡ false
+    pub gap_other : (m ≡ 32 → ⊥) × (m ≡ 9 → ⊥) → byte_by opens_pair (tokens_left g src p) ≡ false
     unfolding tokens_left
-    gap_other n k =
+    gap_other n =
         rw blank.marks
-        (no_gap opens_pair (tokens_from (no_part []) (m ∷ marks_left g src q)) (first-solid m (marks_left g src q) (simp (ne_eqb m 32 n, ne_eqb m 9 k))))
+        (no_gap opens_pair (tokens_from (no_part []) (m ∷ marks_left g src q)) (first-solid m (marks_left g src q) (simp (ne_eqb m 32 n.0, ne_eqb m 9 n.1))))
 
-    gap-plain : is_blank m ≡ true → (q.at ≤ length src) × (q.mode ≡ in_plain)
-    gap-plain b = (blank.to, blank.step.mode ∙ rw o (after-blank m b))
+    module _ (z : (m ≡ 32) ⊎ ((m ≡ 32 → ⊥) × (m ≡ 9))) where
+      is_gap-mark : is_blank m ≡ true
+      is_gap-mark = ⊎_elim (λ t. rw t) (λ t. rw t.1) z
 
-    pub gap-space : m ≡ 32 → (q.at ≤ length src) × (q.mode ≡ in_plain)
-    gap-space h = gap-plain (rw h)
+      pub gap-plain : (q.at ≤ length src) × (q.mode ≡ in_plain)
+      gap-plain = (blank.to, blank.step.mode ∙ rw o (after-blank m is_gap-mark))
 
-    pub gap-tab : m ≡ 9 → (q.at ≤ length src) × (q.mode ≡ in_plain)
-    gap-tab h = gap-plain (rw h)
-
-    gap-byte : is_blank m ≡ true → {r : Spot} → Skips g src q r → (b : Byte) → EscapedIs g src r b → GapIs g src p b
-    unfolding tokens_left
-    gap-byte h {r} w (byte.Found x i) k =
-        record {
-          gap = m;
-          gaps = w.walk.passed;
-          blank = h;
-          blanks = skips-blanks w;
-          next = r;
-          feeds = blank.feeds + w.walk.feeds;
-          run = run-then blank.run w.walk.run;
-          on = omega (arith, blank.on, w.from);
-          pair = k;
-        }
-    gap-byte h {r} w byte.No k =
-        rw (blank.marks, first-gap m (marks_left g src q) h) (after-gap opens_pair (tokens_left g src q) ∙ ap opens_pair (sym w.tokens) ∙ k)
-
-    pub gap-space-byte : m ≡ 32 → {r : Spot} → Skips g src q r → (b : Byte) → EscapedIs g src r b → GapIs g src p b
-    gap-space-byte h w b k = gap-byte (rw h) w b k
-
-    pub gap-tab-byte : m ≡ 9 → {r : Spot} → Skips g src q r → (b : Byte) → EscapedIs g src r b → GapIs g src p b
-    gap-tab-byte h w b k = gap-byte (rw h) w b k
+      pub gap-byte : {r : Spot} → Skips g src q r → (b : Option (ℕ × ℕ)) → EscapedIs g src r b → GapIs g src p b
+      unfolding tokens_left
+      gap-byte {r} w (Some (x, i)) k =
+          record {
+            gap = m;
+            gaps = w.walk.passed;
+            blank = is_gap-mark;
+            blanks = skips-blanks w;
+            next = r;
+            feeds = blank.feeds + w.walk.feeds;
+            run = run-then blank.run w.walk.run;
+            on = omega (arith, blank.on, w.from);
+            pair = k;
+          }
+      gap-byte {r} w None k =
+          rw (blank.marks, first-gap m (marks_left g src q) is_gap-mark) (after-gap opens_pair (tokens_left g src q) ∙ ap opens_pair (sym w.tokens) ∙ k)

@@ -1,4 +1,5 @@
 -- The whole line: its tokens, its text, its end and its LFs where it is an entry, and that it is plain where it opens with none.
+use Rattle.std.specs.Prelude.{None, Option, Some, ℕ}
 use mathlib.Core.Path.{◌≡◌, refl, sym, ap, ◌∙◌, subst}
 use mathlib.Core.Bool.{Bool, true, false, ◌&&◌, and-true}
 use mathlib.Core.List.{List, [], ◌∷◌, ◌++◌}
@@ -26,11 +27,7 @@ use Rattle.text_tokens.specs.Left.{tokens_left, Skips}
 use Rattle.text_tokens.proofs.TokenLaws.{first-gap}
 use Rattle.text_tokens.proofs.GapLaws.{tokens_of-left}
 use Rattle.text_names.specs.Named.{name_left}
-use Rattle.charmap_entry.specs.declared.Byte.{Byte}
-use Rattle.charmap_entry.specs.declared.Byte.TheVariants as byte
 use Rattle.charmap_entry.specs.declared.Head.{Head}
-use Rattle.charmap_entry.specs.declared.Heads.{Heads}
-use Rattle.charmap_entry.specs.declared.Heads.TheVariants as heads
 use Rattle.charmap_entry.specs.Entered.{body_signs, hidden_at, opens_entry, GapIs, head_tokens, HeadIs, HeadsAre, body_line, first_name, last_name, PartsAre, NoEntry, feeds_in, Whole}
 use Rattle.charmap_entry.proofs.ShapeLaws.{is_gap, is_pair, entry-by, entry-opens, byte-then, one_then, range-then, gap-no-range, range-tail}
 use Rattle.charmap_entry.proofs.BodyLaws.{body-plain, quiet-entry, Closes, closes}
@@ -297,20 +294,20 @@ module _ (g : Signs) (src : List ℕ) (at : ℕ) {q : Spot} (v : Skips g src (li
   pub entry-plain : (q.at ≤ length src) × (q.mode ≡ in_plain)
   entry-plain = (v.to, v.mode)
 
-  module _ {n : Heads} (w : HeadsAre g src q n) where
-    pub entry-no-name : n ≡ heads.No → NoEntry g src at
+  module _ {n : Option Head} (w : HeadsAre g src q n) where
+    pub entry-no-name : n ≡ None → NoEntry g src at
     entry-no-name e = plain-line (subst (HeadsAre g src q) e w)
 
-    module _ {h : Head} (e : n ≡ heads.Found h) where
+    module _ {h : Head} (e : n ≡ Some h) where
       head : HeadIs g src q h
       head = subst (HeadsAre g src q) e w
 
       pub entry_next : (h.next.at ≤ length src) × (h.next.mode ≡ in_plain)
       entry_next = (head.to, head.mode)
 
-      module _ {b : Byte} (k : GapIs g src h.next b) where
-        pub entry-no-byte : b ≡ byte.No → NoEntry g src at
+      module _ {b : Option (ℕ × ℕ)} (k : GapIs g src h.next b) where
+        pub entry-no-byte : b ≡ None → NoEntry g src at
         entry-no-byte f = plain-line (head.opens ∙ subst (GapIs g src h.next) f k)
 
-        pub entry_whole : {c i : ℕ} → at ≤ length src → b ≡ byte.Found c i → Whole g src at h c i
+        pub entry_whole : {c i : ℕ} → at ≤ length src → b ≡ Some (c, i) → Whole g src at h c i
         entry_whole l f = record { inside = l; start = q; skips = v; head = head; byte = subst (GapIs g src h.next) f k }

@@ -1,15 +1,16 @@
--- The LFs of a line are those among its bytes, whatever its kind (line-fed); and the turns of the loop that counts them.
+-- The LFs of a line are those among its bytes, whatever its kind (line-fed); and how many stand between two places.
 use Rattle.std.specs.Prelude.{if◌then◌else◌}
 use mathlib.Core.Path.{◌≡◌, refl, ap, ◌∙◌}
 use mathlib.Core.Bool.{Bool, true, false}
 use mathlib.Core.List.{List, [], ◌∷◌}
-use Prim.Native.Nat.{ℕ, suc, ◌+◌, ◌≤◌, ◌<◌}
+use Prim.Native.Nat.{ℕ, suc, ◌+◌, ◌-◌}
 use native.Mathlib.Omega.{arith}
-use lib.ListN.{length, get_or, take, drop}
+use lib.ListN.{take, drop}
 use lib.Dec.{eqb}
-use borrow.Author.Tests.{eq-eqb, ne_eqb}
+use Rattle.std.specs.List.{count_by}
+use Rattle.std.proofs.lemmas.List.Sums.{sum_by-cons}
 use Rattle.base_lists.proofs.Bools.{by, cond_both}
-use Rattle.base_lists.proofs.Runs.{run, run-whole, run_none, run-cons}
+use Rattle.base_lists.proofs.Runs.{run, run-whole, run-part}
 use Rattle.rules.specs.Names.{is_blank}
 use Rattle.rules.specs.Lines as paper
 use Rattle.rules.specs.Lines.{in_plain, in_comment, after, Scan, scan_start, dropped, fed, marked, takes_as_is, opens_comment, ends_entry, scan_escaped, scan, line_from, line_of}
@@ -82,36 +83,13 @@ module _ (s : paper.Signs) where
       ap feeds_in (run-whole src at v.bytes) ∙ ap (λ (k : ℕ). feeds_in (run src at k)) n in
       omega (arith, v.feeds)
 
--- ## The loop
+-- ## How many they are
 
--- How many LFs are counted as far as a place.
-pub record Counted (src : List ℕ) (from end i n : ℕ) : Type 0 where
-  pub to : i ≤ end
-  pub inside : end ≤ length src
-  pub few : n ≤ i
-  pub all : feeds_in (run src from end) ≡ n + feeds_in (run src i end)
+-- the library's count of them
+feeds-counted : (xs : List ℕ) → count_by (λ b. eqb b 10) xs ≡ feeds_in xs
+unfolding feeds_in
+feeds-counted [] = refl
+feeds-counted (x ∷ xs) = sum_by-cons (λ b. if eqb b 10 then 1 else 0) x xs ∙ ap (λ (n : ℕ). (if eqb x 10 then 1 else 0) + n) (feeds-counted xs)
 
-pub counted_none : {src : List ℕ} {from end : ℕ} → (from ≤ end) × (end ≤ length src) → Counted src from end from 0
-counted_none h = record { to = h.0; inside = h.1; few = omega arith; all = omega arith }
-
-module _ {src : List ℕ} {from end i n : ℕ} (v : Counted src from end i n) where
-  pub counted-end : end ≤ i → n ≡ feeds_in (run src from end)
-  unfolding feeds_in
-  counted-end h =
-      let e : feeds_in (run src i end) ≡ 0 = rw (run_none src i end h) refl in
-      omega (arith, v.all)
-
-  module _ (h : i < end) where
-    next : feeds_in (run src i end) ≡ (if eqb (get_or src i 0) 10 then 1 else 0) + feeds_in (run src (i + 1) end)
-    unfolding feeds_in
-    next = rw (run-cons src i end h v.inside) refl
-
-    pub counted-feed : get_or src i 0 ≡ 10 → Counted src from end (i + 1) (n + 1)
-    counted-feed t =
-        let e : feeds_in (run src i end) ≡ 1 + feeds_in (run src (i + 1) end) = rw (eq-eqb (get_or src i 0) 10 t) at next in
-        record { to = omega arith; inside = v.inside; few = omega (arith, v.few); all = omega (arith, v.all) }
-
-    pub counted-other : (get_or src i 0 ≡ 10 → ⊥) → Counted src from end (i + 1) n
-    counted-other t =
-        let e : feeds_in (run src i end) ≡ 0 + feeds_in (run src (i + 1) end) = rw (ne_eqb (get_or src i 0) 10 t) at next in
-        record { to = omega arith; inside = v.inside; few = omega (arith, v.few); all = omega (arith, v.all) }
+pub feeds-between : (src : List ℕ) (from end : ℕ) → count_by (λ b. eqb b 10) (take (end - from) (drop from src)) ≡ feeds_in (run src from end)
+feeds-between src from end = ap (count_by (λ b. eqb b 10)) (run-part src from end) ∙ feeds-counted (run src from end)

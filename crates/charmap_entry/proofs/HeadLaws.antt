@@ -1,4 +1,5 @@
 -- The names of an entry at a spot: a law for each way of the readers.
+use Rattle.std.specs.Prelude.{None, Option, Some, ℕ}
 use mathlib.Core.Path.{◌≡◌, refl, sym, ap, ◌∙◌, subst}
 use mathlib.Core.Bool.{Bool, true, false, cond, ◌&&◌, and-false, false≢true}
 use mathlib.Core.List.{List, [], ◌∷◌, ◌++◌, append_assoc, append_cancel_right}
@@ -13,15 +14,13 @@ use Rattle.rules.specs.Names.{name_refusal, names_refusal}
 use Rattle.rules.specs.Tokens.{is_text, word, name, Token, token, token_at, no_part, in_word, tokens_from, is_range}
 use Rattle.rules.proofs.TextLaws.{every_append}
 use Rattle.rules.specs.Lines.{in_plain, after}
+use Rattle.base_units.specs.declared.Refusal.{Refusal}
+use Rattle.base_units.specs.Numbers.{number_or_none}
 use Rattle.text_lines.specs.declared.Signs.{Signs}
 use Rattle.text_lines.specs.declared.Spot.{Spot}
-use Rattle.text_lines.specs.declared.Step.{Step}
-use Rattle.text_lines.specs.declared.Step.TheVariants as step
 use Rattle.text_lines.specs.Stream.{marks_left, Run, MarkIs, StepIs}
 use Rattle.text_lines.proofs.LineLaws.{run-marks}
 use Rattle.text_lines.proofs.RunLaws.{run-then}
-use Rattle.text_tokens.specs.declared.Closing.{Closing}
-use Rattle.text_tokens.specs.declared.Closing.TheVariants as closing
 use Rattle.text_tokens.specs.declared.NameStep.{NameStep}
 use Rattle.text_tokens.specs.declared.NameStep.TheVariants.{Byte, Close, Open}
 use Rattle.text_tokens.specs.Left.{tokens_left, word_in, after_word, is_close, is_inside, name_in, after_name, NameStepIs, NameEnds, ClosingIs}
@@ -29,8 +28,6 @@ use Rattle.text_tokens.proofs.TokenLaws.{tokens_from-none, first-name, name-clos
 use Rattle.text_tokens.proofs.RefusalLaws.{lower-none-right}
 use Rattle.text_names.specs.Named.{name_left}
 use Rattle.text_names.proofs.CompareLaws.{step-byte, step-close, step-open}
-use Rattle.charmap_entry.specs.declared.Name.{Name}
-use Rattle.charmap_entry.specs.declared.Name.TheVariants as named
 use Rattle.charmap_entry.specs.Entered.{byte_by, entry_by, opens_pair, opens_entry, NameIs, NamedIs, DotName, DottedIs, head_tokens, HeadIs}
 use Rattle.charmap_entry.proofs.ShapeLaws.{range-then}
 use Rattle.charmap_entry.proofs.FirstLaws.{is_dots, first-no-name, first-no-dots}
@@ -81,12 +78,12 @@ name-texts (m ∷ ms) h =
 
 -- ## A name
 
-module _ (g : Signs) (src : List ℕ) (p : Spot) (o : p.mode ≡ in_plain) {s : Step} (v : StepIs g src p s) where
-  pub name-end : s ≡ step.End → eqb (token_at (tokens_left g src p) 0).kind name ≡ false
+module _ (g : Signs) (src : List ℕ) (p : Spot) (o : p.mode ≡ in_plain) {s : Option (ℕ × Spot)} (v : StepIs g src p s) where
+  pub name-end : s ≡ None → eqb (token_at (tokens_left g src p) 0).kind name ≡ false
   unfolding tokens_left
   name-end e = rw (none-at g src p v e, tokens_from-none)
 
-  module _ {m : ℕ} {q : Spot} (e : s ≡ step.Mark m q) where
+  module _ {m : ℕ} {q : Spot} (e : s ≡ Some (m, q)) where
     first : MarkIs g src p m q
     first = mark-at v e
 
@@ -99,14 +96,14 @@ module _ (g : Signs) (src : List ℕ) (p : Spot) (o : p.mode ≡ in_plain) {s : 
       unfolding after
       name-inside = (first.to, rw (first.step.mode, o, h))
 
-      module _ {c : Closing} (w : ClosingIs g src q c) where
-        pub name-left-open : c ≡ closing.Open → eqb (token_at (tokens_left g src p) 0).kind name ≡ false
+      module _ {c : Option (Option Refusal × Spot)} (w : ClosingIs g src q c) where
+        pub name-left-open : c ≡ None → eqb (token_at (tokens_left g src p) 0).kind name ≡ false
         unfolding tokens_left
         name-left-open f =
             let z : one_of is_close (marks_left g src q) ≡ false = subst (ClosingIs g src q) f w in
             rw (first.marks, first-name m (marks_left g src q) h, name-open [] (marks_left g src q) z)
 
-        pub name-found : {f : ℕ} {r : Spot} → c ≡ closing.Closed f r → NameIs g src p f q r
+        pub name-found : {f : Option Refusal} {r : Spot} → c ≡ Some (f, r) → NameIs g src p f q r
         unfolding after
         name-found {f} {r} i =
             let z : NameEnds g src q f r = subst (ClosingIs g src q) i w in
@@ -177,12 +174,12 @@ dots-no-name n (m ∷ ms) h =
     (λ t. let e : tokens_from (no_part []) (46 ∷ 46 ∷ m ∷ ms) ≡ token word (46 ∷ 46 ∷ []) [] ∷ tokens_from (no_part []) (m ∷ ms) = two-dots (m ∷ ms) ∙ rw t in
     rw e (no-range n (token word (46 ∷ 46 ∷ []) []) (tokens_from (no_part []) (m ∷ ms)) refl (not-name n (token word (46 ∷ 46 ∷ []) []) (tokens_from (no_part []) (m ∷ ms)) h)))
 
-module _ (g : Signs) (src : List ℕ) (p : Spot) (o : p.mode ≡ in_plain) {s : Step} (v : StepIs g src p s) where
-  pub dot-end : s ≡ step.End → (n : Token) → opens_entry (n ∷ tokens_from (no_part []) (46 ∷ marks_left g src p)) ≡ false
+module _ (g : Signs) (src : List ℕ) (p : Spot) (o : p.mode ≡ in_plain) {s : Option (ℕ × Spot)} (v : StepIs g src p s) where
+  pub dot-end : s ≡ None → (n : Token) → opens_entry (n ∷ tokens_from (no_part []) (46 ∷ marks_left g src p)) ≡ false
   unfolding word_in same
   dot-end e n = one-dot n (marks_left g src p) (rw (none-at g src p v e))
 
-  module _ {m : ℕ} {q : Spot} (e : s ≡ step.Mark m q) where
+  module _ {m : ℕ} {q : Spot} (e : s ≡ Some (m, q)) where
     dot : MarkIs g src p m q
     dot = mark-at v e
 
@@ -197,11 +194,11 @@ module _ (g : Signs) (src : List ℕ) (p : Spot) (o : p.mode ≡ in_plain) {s : 
       unfolding after
       dot-plain = (dot.to, dot.step.mode ∙ rw (o, h))
 
-      pub dot-name : (n : Name) → NamedIs g src q n → DottedIs g src p n
+      pub dot-name : (n : Option (Option Refusal × Spot × Spot)) → NamedIs g src q n → DottedIs g src p n
       unfolding tokens_left
-      dot-name (named.Found f x y) k =
+      dot-name (Some (f, x, y)) k =
           record { next = q; feeds = dot.feeds; run = subst (λ (u : ℕ). Run g src (u ∷ []) dot.feeds p q) h dot.run; on = dot.on; name = k }
-      dot-name named.No k = λ n. rw (dot.marks, h) (dots-no-name n (marks_left g src q) k)
+      dot-name None k = λ n. rw (dot.marks, h) (dots-no-name n (marks_left g src q) k)
 
 -- ## The whole of it
 
@@ -246,12 +243,12 @@ tokens-run : (g : Signs) (src : List ℕ) (p q : Spot) (ts : List Token) {more :
 unfolding tokens_left
 tokens-run g src p q ts t o = ap (tokens_from (no_part [])) (run-marks g src p o) ∙ t (marks_left g src q)
 
-module _ (g : Signs) (src : List ℕ) (p : Spot) {n : Name} (v : NamedIs g src p n) where
-  pub head-none : n ≡ named.No → opens_entry (tokens_left g src p) ≡ false
+module _ (g : Signs) (src : List ℕ) (p : Spot) {n : Option (Option Refusal × Spot × Spot)} (v : NamedIs g src p n) where
+  pub head-none : n ≡ None → opens_entry (tokens_left g src p) ≡ false
   unfolding entry_by
   head-none e = let z : eqb (token_at (tokens_left g src p) 0).kind name ≡ false = subst (NamedIs g src p) e v in rw z
 
-  module _ {f : ℕ} {q r : Spot} (e : n ≡ named.Found f q r) where
+  module _ {f : Option Refusal} {q r : Spot} (e : n ≡ Some (f, q, r)) where
     called : NameIs g src p f q r
     called = subst (NamedIs g src p) e v
 
@@ -283,12 +280,12 @@ module _ (g : Signs) (src : List ℕ) (p : Spot) {n : Name} (v : NamedIs g src p
           to = called.to;
         }
 
-    module _ {s : Step} (w : StepIs g src r s) where
-      pub head-end : s ≡ step.End → HeadIs g src p (record { first = q; last = q; refusal = f; next = r })
+    module _ {s : Option (ℕ × Spot)} (w : StepIs g src r s) where
+      pub head-end : s ≡ None → HeadIs g src p (record { first = q; last = q; refusal = f; next = r })
       unfolding tokens_left
       head-end i = single (rw (none-at g src r w i, tokens_from-none) none-dots)
 
-      module _ {m : ℕ} {x : Spot} (i : s ≡ step.Mark m x) where
+      module _ {m : ℕ} {x : Spot} (i : s ≡ Some (m, x)) where
         next : MarkIs g src r m x
         next = mark-at w i
 
@@ -301,14 +298,14 @@ module _ (g : Signs) (src : List ℕ) (p : Spot) {n : Name} (v : NamedIs g src p
           unfolding after
           head-dot = (next.to, next.step.mode ∙ rw (called.mode, k))
 
-          module _ {d : Name} (y : DottedIs g src x d) where
-            pub head-no-range : d ≡ named.No → opens_entry (tokens_left g src p) ≡ false
+          module _ {d : Option (Option Refusal × Spot × Spot)} (y : DottedIs g src x d) where
+            pub head-no-range : d ≡ None → opens_entry (tokens_left g src p) ≡ false
             unfolding tokens_left
             head-no-range j =
                 let z : (t : Token) → opens_entry (t ∷ tokens_from (no_part []) (46 ∷ marks_left g src x)) ≡ false = subst (DottedIs g src x) j y in
                 ap opens_entry (from-name ∙ rw (next.marks, k)) ∙ z (token name [] (name_left g src q ∷ []))
 
-            pub head-range : {h l : ℕ} {a b : Spot} → d ≡ named.Found h a b → l ≡ lower f h → HeadIs g src p (record { first = q; last = a; refusal = l; next = b })
+            pub head-range : {h l : Option Refusal} {a b : Spot} → d ≡ Some (h, a, b) → number_or_none l ≡ lower (number_or_none f) (number_or_none h) → HeadIs g src p (record { first = q; last = a; refusal = l; next = b })
             head-range {h} {l} {a} {b} j u =
                 let z : DotName g src x h a b = subst (DottedIs g src x) j y in
                 let c = z.name in
@@ -357,26 +354,29 @@ pub clean-none : (g : Signs) (src : List ℕ) (p : Spot) → p.at ≤ length src
 clean-none g src p h = record { rest = refl; to = h }
 
 module _ {g : Signs} {src : List ℕ} {p q : Spot} {s : NameStep} (v : Clean g src p q) (w : NameStepIs g src q s) where
-  module _ {b : ℕ} {r : Spot} (e : s ≡ Byte b r) {t : Bool} (f : t ≡ is_text b) where
+  module _ {b : ℕ} {r : Spot} (e : s ≡ Byte b r) {x : ℕ} (i : x ≡ b) {t : Bool} (f : t ≡ is_text x) where
+    text : t ≡ is_text b
+    text = f ∙ ap is_text i
+
     pub clean-more : t ≡ true → Clean g src p r
     unfolding every
-    clean-more y = let x = step-byte g src q w e in record { rest = v.rest ∙ rw (x.bytes, sym f ∙ y); to = x.to }
+    clean-more y = let z = step-byte g src q w e in record { rest = v.rest ∙ rw (z.bytes, sym text ∙ y); to = z.to }
 
     pub clean-foul : t ≡ false → false ≡ every is_text (name_left g src p)
     unfolding every
-    clean-foul y = let x = step-byte g src q w e in sym (v.rest ∙ rw (x.bytes, sym f ∙ y))
+    clean-foul y = let z = step-byte g src q w e in sym (v.rest ∙ rw (z.bytes, sym text ∙ y))
 
-  pub clean_close : {r : Spot} → s ≡ Close r → true ≡ every is_text (name_left g src p)
+  clean_close : {r : Spot} → s ≡ Close r → true ≡ every is_text (name_left g src p)
   unfolding every
   clean_close e = sym (v.rest ∙ rw (step-close g src q w e))
 
-  pub clean-open : s ≡ Open → true ≡ every is_text (name_left g src p)
+  clean-open : s ≡ Open → true ≡ every is_text (name_left g src p)
   unfolding every
   clean-open e = sym (v.rest ∙ rw (step-open g src q w e))
 
--- of two names
-pub both_first : {a b c d : Bool} → a ≡ c → b ≡ d → a ≡ true → b ≡ (c && d)
-both_first e f h = f ∙ rw (sym e ∙ h)
-
-pub both-none : {a c : Bool} (d : Bool) → a ≡ c → a ≡ false → false ≡ (c && d)
-both-none d e h = rw (sym e ∙ h)
+-- where no byte comes, all are read
+pub clean-all : {g : Signs} {src : List ℕ} {p q : Spot} (s : NameStep) → Clean g src p q → NameStepIs g src q s → ((b : ℕ) (r : Spot) → s ≡ Byte b r → ⊥)
+    → true ≡ every is_text (name_left g src p)
+clean-all (Byte b r) v w n = absurd (n b r refl)
+clean-all (Close r) v w n = clean_close v w refl
+clean-all Open v w n = clean-open v w refl

@@ -1,6 +1,5 @@
 pub mod ShapeLaws
 pub mod LexLaws
-pub mod HexLaws
 pub mod BodyLaws
 pub mod FeedLaws
 pub mod TailLaws

@@ -14,7 +14,7 @@ use Rattle.rules.specs.Tokens.{broken, word, Token, token, token_at, no_part, in
 use Rattle.rules.proofs.TextLaws.{every-head, every-tail, within_low, within-high}
 use Rattle.text_tokens.specs.Left.{word_in, after_word}
 use Rattle.text_tokens.proofs.TokenLaws.{tokens_from-none, first-dead, first-word, word-whole}
-use Rattle.charmap_entry.specs.Entered.{is_escaped, is_digits, opens_pair, starts_hex, hex_of}
+use Rattle.charmap_entry.specs.Entered.{is_escaped, is_digits, opens_pair, starts_hex}
 use Rattle.charmap_entry.proofs.ShapeLaws.{is_gap}
 use Rattle.charmap_entry.proofs.LexLaws.{tokens-some, digits_long}
 use Rattle.charmap_entry.proofs.FirstLaws.{first-solid, first-no-word}
@@ -56,14 +56,6 @@ hex-word m h =
       ne_eqb m 34 (λ e. omega arith),
       lt-leb 256 m (omega arith),
     )
-
-pub hex-yes : (m : ℕ) {x : ℕ} → x ≡ hex_of m → x < 16 → (is_any_hex m ≡ true) × (x ≡ digit m)
-unfolding hex_of
-hex-yes m {x} e h = by (is_any_hex m) (λ t. (t, e ∙ rw t)) (λ t. let z : x ≡ 16 = e ∙ rw t in absurd (omega arith))
-
-pub hex-no : (m : ℕ) {x : ℕ} → x ≡ hex_of m → 16 ≤ x → is_any_hex m ≡ false
-unfolding hex_of
-hex-no m {x} e h = by (is_any_hex m) (λ t. let z : x ≡ digit m = e ∙ rw t in let s = (bounds m t).small in absurd (omega arith)) (λ t. t)
 
 -- ## What is no pair
 

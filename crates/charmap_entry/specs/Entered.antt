@@ -1,30 +1,20 @@
 -- A line between CHARMAP and END CHARMAP: an entry with its parts, or a plain line.
-use Rattle.std.specs.Prelude.{◌≡◌, Bool, true, false, not, ◌&&◌, ◌||◌, List, [], ◌∷◌, ◌++◌, ℕ, ◌+◌, ◌≤◌, ◌<◌, length, drop, eqb, if◌then◌else◌}
+use Rattle.std.specs.Prelude.{◌≡◌, Bool, true, false, not, ◌&&◌, ◌||◌, List, [], ◌∷◌, ◌++◌, ℕ, ◌+◌, ◌≤◌, ◌<◌, length, drop, eqb, if◌then◌else◌, None, Option, Some}
 use Rattle.rules.specs.Text.{every, same}
 use Rattle.rules.specs.Names.{is_blank, name_refusal, names_refusal, is_any_hex, digit, hex_value}
 use Rattle.rules.specs.Tokens.{is_text, gap, broken, word, name, Token, token, token_at, the_name, no_part, tokens_from, tokens_of, without_opening_gaps, is_range, is_entry}
 use Rattle.rules.specs.Charmap.{last_token}
 use Rattle.rules.specs.Lines as paper
 use Rattle.rules.specs.Lines.{in_plain, in_comment, Scan, line_from, line_of}
+use Rattle.base_units.specs.declared.Refusal.{Refusal}
+use Rattle.base_units.specs.Numbers.{number_or_none}
 use Rattle.text_lines.specs.declared.Signs.{Signs}
 use Rattle.text_lines.specs.declared.Spot.{Spot}
 use Rattle.text_lines.specs.Stream.{state_in, line_left, marks_left, line_start, Run}
 use Rattle.text_tokens.specs.Left.{tokens_left, Skips}
 use Rattle.text_names.specs.Named.{name_left}
-use Rattle.charmap_entry.specs.declared.Byte.{Byte}
-use Rattle.charmap_entry.specs.declared.Byte.TheVariants as byte
-use Rattle.charmap_entry.specs.declared.Entry.{Entry}
-use Rattle.charmap_entry.specs.declared.Entry.TheVariants as entry
 use Rattle.charmap_entry.specs.declared.Head.{Head}
-use Rattle.charmap_entry.specs.declared.Heads.{Heads}
-use Rattle.charmap_entry.specs.declared.Heads.TheVariants as heads
-use Rattle.charmap_entry.specs.declared.Name.{Name}
-use Rattle.charmap_entry.specs.declared.Name.TheVariants as named
 use Rattle.charmap_entry.specs.declared.Parts.{Parts}
-use Rattle.charmap_entry.specs.declared.Tail.{Tail}
-use Rattle.charmap_entry.specs.declared.Tail.TheVariants as tail
-use Rattle.charmap_entry.specs.declared.Two.{Two}
-use Rattle.charmap_entry.specs.declared.Two.TheVariants as two
 
 -- what is in force between CHARMAP and END CHARMAP
 abbrev pub body_signs : Signs → paper.Signs
@@ -69,9 +59,9 @@ pub record Glued (g : Signs) (src : List ℕ) (p : Spot) : Type 0 where
   pub is : marks_left g src p ≡ mark ∷ rest
   pub solid : is_blank mark ≡ false
 
-abbrev pub TailIs : Signs → List ℕ → ℕ → Tail → Type 0
-TailIs g src at (tail.Ends i) = Closing g src at i
-TailIs g src at tail.Glued = Glued g src (plain_at at)
+abbrev pub TailIs : Signs → List ℕ → ℕ → Option ℕ → Type 0
+TailIs g src at (Some i) = Closing g src at i
+TailIs g src at None = Glued g src (plain_at at)
 
 -- ## The shape of an entry, whatever follows it
 
@@ -99,9 +89,16 @@ opens_pair rs = is_escaped (token_at rs 0) && is_digits (token_at rs 1) && (eqb 
 abbrev pub opens_entry : List Token → Bool
 opens_entry ts = entry_by opens_pair ts
 
--- a hex digit's value, of either case; 16 for what is none
-unfoldable pub hex_of : ℕ → ℕ
-hex_of m = if is_any_hex m then digit m else 16
+-- A hex digit of either case, and its value.
+pub record HexDigit (m x : ℕ) : Type 0 where
+  pub hex : is_any_hex m ≡ true
+  pub value : x ≡ digit m
+  pub small : x < 16
+
+-- a hex digit's value, or none for a mark that is none
+abbrev pub HexIs : ℕ → Option ℕ → Type 0
+HexIs m (Some x) = HexDigit m x
+HexIs m None = is_any_hex m ≡ false
 
 -- marks begin with two hex digits
 abbrev pub starts_hex : List ℕ → Bool
@@ -123,9 +120,9 @@ pub record TwoDigits (g : Signs) (src : List ℕ) (p : Spot) (v : ℕ) (q : Spot
   pub on : p.at < q.at
   pub to : q.at ≤ length src
 
-abbrev pub DigitsAre : Signs → List ℕ → Spot → Two → Type 0
-DigitsAre g src p (two.Byte v q) = TwoDigits g src p v q
-DigitsAre g src p two.No = starts_hex (marks_left g src p) ≡ false
+abbrev pub DigitsAre : Signs → List ℕ → Spot → Option (ℕ × Spot) → Type 0
+DigitsAre g src p (Some (v, q)) = TwoDigits g src p v q
+DigitsAre g src p None = starts_hex (marks_left g src p) ≡ false
 
 -- Escape `x` and two hex digits, behind which the marks end at the place i.
 pub record PairIs (g : Signs) (src : List ℕ) (p : Spot) (v i : ℕ) : Type 0 where
@@ -142,9 +139,9 @@ pub record PairIs (g : Signs) (src : List ℕ) (p : Spot) (v i : ℕ) : Type 0 w
   pub on : p.at < stop.at
   pub closing : Closing g src stop.at i
 
-abbrev pub EscapedIs : Signs → List ℕ → Spot → Byte → Type 0
-EscapedIs g src p (byte.Found v i) = PairIs g src p v i
-EscapedIs g src p byte.No = opens_pair (tokens_left g src p) ≡ false
+abbrev pub EscapedIs : Signs → List ℕ → Spot → Option (ℕ × ℕ) → Type 0
+EscapedIs g src p (Some (v, i)) = PairIs g src p v i
+EscapedIs g src p None = opens_pair (tokens_left g src p) ≡ false
 
 -- One blank or more, and then such a pair.
 pub record ByteIs (g : Signs) (src : List ℕ) (p : Spot) (v i : ℕ) : Type 0 where
@@ -158,31 +155,31 @@ pub record ByteIs (g : Signs) (src : List ℕ) (p : Spot) (v i : ℕ) : Type 0 w
   pub on : p.at ≤ next.at
   pub pair : PairIs g src next v i
 
-abbrev pub GapIs : Signs → List ℕ → Spot → Byte → Type 0
-GapIs g src p (byte.Found v i) = ByteIs g src p v i
-GapIs g src p byte.No = byte_by opens_pair (tokens_left g src p) ≡ false
+abbrev pub GapIs : Signs → List ℕ → Spot → Option (ℕ × ℕ) → Type 0
+GapIs g src p (Some (v, i)) = ByteIs g src p v i
+GapIs g src p None = byte_by opens_pair (tokens_left g src p) ≡ false
 
 -- ## The names of an entry
 
 -- A name: its refusal, the spot after its `<`, and the spot after it.
-pub record NameIs (g : Signs) (src : List ℕ) (p : Spot) (f : ℕ) (q r : Spot) : Type 0 where
+pub record NameIs (g : Signs) (src : List ℕ) (p : Spot) (f : Option Refusal) (q r : Spot) : Type 0 where
   pub more : List ℕ
   pub feeds : ℕ
   pub run : Run g src (60 ∷ more) feeds p r
   pub tokens : (ms : List ℕ) → tokens_from (no_part []) (60 ∷ (more ++ ms)) ≡ token name [] (name_left g src q ∷ []) ∷ tokens_from (no_part []) ms
-  pub refusal : name_refusal (name_left g src q) ≡ f
+  pub refusal : name_refusal (name_left g src q) ≡ number_or_none f
   pub text : every is_text more ≡ every is_text (name_left g src q)
   pub mode : r.mode ≡ in_plain
   pub inside : q.at ≤ length src
   pub on : p.at < r.at
   pub to : r.at ≤ length src
 
-abbrev pub NamedIs : Signs → List ℕ → Spot → Name → Type 0
-NamedIs g src p (named.Found f q r) = NameIs g src p f q r
-NamedIs g src p named.No = eqb (token_at (tokens_left g src p) 0).kind name ≡ false
+abbrev pub NamedIs : Signs → List ℕ → Spot → Option (Option Refusal × Spot × Spot) → Type 0
+NamedIs g src p (Some (f, q, r)) = NameIs g src p f q r
+NamedIs g src p None = eqb (token_at (tokens_left g src p) 0).kind name ≡ false
 
 -- A dot and a name.
-pub record DotName (g : Signs) (src : List ℕ) (p : Spot) (f : ℕ) (q r : Spot) : Type 0 where
+pub record DotName (g : Signs) (src : List ℕ) (p : Spot) (f : Option Refusal) (q r : Spot) : Type 0 where
   pub next : Spot
   pub feeds : ℕ
   pub run : Run g src (46 ∷ []) feeds p next
@@ -190,9 +187,9 @@ pub record DotName (g : Signs) (src : List ℕ) (p : Spot) (f : ℕ) (q r : Spot
   pub name : NameIs g src next f q r
 
 -- what stands behind the first dot: the second and a name, or no entry opens with any name and that dot
-abbrev pub DottedIs : Signs → List ℕ → Spot → Name → Type 0
-DottedIs g src p (named.Found f q r) = DotName g src p f q r
-DottedIs g src p named.No = (n : Token) → opens_entry (n ∷ tokens_from (no_part []) (46 ∷ marks_left g src p)) ≡ false
+abbrev pub DottedIs : Signs → List ℕ → Spot → Option (Option Refusal × Spot × Spot) → Type 0
+DottedIs g src p (Some (f, q, r)) = DotName g src p f q r
+DottedIs g src p None = (n : Token) → opens_entry (n ∷ tokens_from (no_part []) (46 ∷ marks_left g src p)) ≡ false
 
 -- the tokens of one name, or of a range
 abbrev pub head_tokens : Bool → List ℕ → List ℕ → List Token
@@ -208,7 +205,7 @@ pub record HeadIs (g : Signs) (src : List ℕ) (p : Spot) (h : Head) : Type 0 wh
   pub tokens : (ms : List ℕ)
       → tokens_from (no_part []) (60 ∷ (more ++ ms)) ≡ head_tokens range (name_left g src h.first) (name_left g src h.last) ++ tokens_from (no_part []) ms
   pub one : range ≡ false → name_left g src h.last ≡ name_left g src h.first
-  pub refusal : names_refusal (name_left g src h.first ∷ name_left g src h.last ∷ []) ≡ h.refusal
+  pub refusal : names_refusal (name_left g src h.first ∷ name_left g src h.last ∷ []) ≡ number_or_none h.refusal
   pub text : every is_text more ≡ (every is_text (name_left g src h.first) && every is_text (name_left g src h.last))
   pub opens : opens_entry (tokens_left g src p) ≡ byte_by opens_pair (tokens_left g src h.next)
   pub mode : h.next.mode ≡ in_plain
@@ -217,9 +214,9 @@ pub record HeadIs (g : Signs) (src : List ℕ) (p : Spot) (h : Head) : Type 0 wh
   pub on : p.at < h.next.at
   pub to : h.next.at ≤ length src
 
-abbrev pub HeadsAre : Signs → List ℕ → Spot → Heads → Type 0
-HeadsAre g src p (heads.Found h) = HeadIs g src p h
-HeadsAre g src p heads.No = opens_entry (tokens_left g src p) ≡ false
+abbrev pub HeadsAre : Signs → List ℕ → Spot → Option Head → Type 0
+HeadsAre g src p (Some h) = HeadIs g src p h
+HeadsAre g src p None = opens_entry (tokens_left g src p) ≡ false
 
 -- ## The whole line
 
@@ -242,7 +239,7 @@ pub record PartsAre (g : Signs) (src : List ℕ) (at : ℕ) (e : Parts) : Type 0
   pub entry : is_entry (body_tokens g src at) ≡ true
   pub first : first_name (body_tokens g src at) ≡ name_left g src e.first
   pub last : last_name (body_tokens g src at) ≡ name_left g src e.last
-  pub refusal : names_refusal (first_name (body_tokens g src at) ∷ last_name (body_tokens g src at) ∷ []) ≡ e.refusal
+  pub refusal : names_refusal (first_name (body_tokens g src at) ∷ last_name (body_tokens g src at) ∷ []) ≡ number_or_none e.refusal
   pub byte : hex_value 0 (last_token (body_tokens g src at)).text ≡ e.byte
   pub text : every is_text (body_line g src at).marks ≡ e.text
   pub end : at + (body_line g src at).size ≡ e.next
@@ -258,9 +255,9 @@ pub record NoEntry (g : Signs) (src : List ℕ) (at : ℕ) : Type 0 where
   pub plain : body_line g src at ≡ line_left g src (line_start at)
   pub none : is_entry (tokens_of (marks_left g src (line_start at))) ≡ false
 
-abbrev pub EntryIs : Signs → List ℕ → ℕ → Entry → Type 0
-EntryIs g src at (entry.Found e) = PartsAre g src at e
-EntryIs g src at entry.No = NoEntry g src at
+abbrev pub EntryIs : Signs → List ℕ → ℕ → Option Parts → Type 0
+EntryIs g src at (Some e) = PartsAre g src at e
+EntryIs g src at None = NoEntry g src at
 
 -- how many of these bytes are LFs
 unfoldable pub feeds_in : List ℕ → ℕ

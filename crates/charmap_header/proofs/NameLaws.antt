@@ -1,7 +1,8 @@
 -- Header lines that begin with `<`: the name, the blank after it, and the byte after blanks.
-use Rattle.std.specs.Prelude.{if◌then◌else◌}
+use Rattle.std.specs.Prelude.{if◌then◌else◌, None, Option, Some}
 use mathlib.Core.Path.{◌≡◌, refl, sym, ap, ◌∙◌, subst}
 use mathlib.Core.Bool.{Bool, true, false, ◌&&◌, ◌||◌, and-false, false≢true}
+use mathlib.Core.Logic.{◌⊎◌, ⊎_elim}
 use mathlib.Core.List.{List, [], ◌∷◌, ◌++◌, append_assoc, append-nil, append_cancel_right}
 use Prim.Native.Nat.{ℕ, ◌+◌, ◌-◌, ◌%◌, ◌≤◌, ◌<◌, ◌^◌}
 use native.Mathlib.Omega.{arith}
@@ -16,17 +17,14 @@ use Rattle.rules.specs.Tokens.{is_text, gap, broken, Token, token, the_name, lex
 use Rattle.rules.specs.Lines.{in_plain, after, is_sign_header, takes_as_is}
 use Rattle.rules.specs.Charmap.{is_header, header_line}
 use Rattle.rules.proofs.TextLaws.{every-head, every-tail, every-both, every-mono, every-cons}
+use Rattle.base_units.specs.declared.Refusal.{Refusal}
 use Rattle.text_lines.specs.declared.Signs.{Signs}
 use Rattle.text_lines.specs.declared.Spot.{Spot}
-use Rattle.text_lines.specs.declared.Step.{Step}
-use Rattle.text_lines.specs.declared.Step.TheVariants as step
 use Rattle.text_lines.specs.declared.LineEnd.{LineEnd}
 use Rattle.text_lines.specs.Stream.{state_in, line_start, marks_left, MarkIs, StepIs, Run, LineIs}
 use Rattle.text_lines.proofs.LineLaws.{line_of-left, run-marks, blank-escaped}
 use Rattle.text_lines.proofs.RunLaws.{run-then}
 use Rattle.text_lines.proofs.SignLaws.{after-blank}
-use Rattle.text_tokens.specs.declared.Closing.{Closing}
-use Rattle.text_tokens.specs.declared.Closing.TheVariants as closing
 use Rattle.text_tokens.specs.Left.{tokens_left, is_close, is_inside, name_in, after_name, NameEnds, ClosingIs, Skips}
 use Rattle.text_tokens.proofs.TokenLaws.{tokens_from-out, tokens_from-none, first-name, name-open, name-closed}
 use Rattle.text_tokens.proofs.GapLaws.{tokens_of-left}
@@ -34,8 +32,6 @@ use Rattle.text_specials.specs.declared.Chars.{Chars}
 use Rattle.text_specials.specs.Signed.{Visible, keyword, WordIs, ByteAt, NoByte, FoundIs}
 use Rattle.text_specials.specs.declared.Keyword.{Keyword}
 use Rattle.text_specials.specs.declared.Keyword.TheVariants as key
-use Rattle.text_specials.specs.declared.Found.{Found}
-use Rattle.text_specials.specs.declared.Found.TheVariants as found
 use Rattle.text_specials.proofs.AsIsLaws.{Reached, never-quiet, blanks-left, reached-nothing, reached-byte, reached-less}
 use Rattle.text_specials.proofs.OpenLaws.{opening-blank}
 use Rattle.text_specials.proofs.TakenLaws.{blanks-drop}
@@ -47,13 +43,13 @@ use Rattle.charmap_header.proofs.OutcomeLaws.{outcome-none, outcome-open, outcom
 
 -- ## Other names for the two characters and the first spot
 
-closing-as : (src : List ℕ) (p : Spot) (c : Closing) {f g : Signs} → g ≡ f → ClosingIs g src p c → ClosingIs f src p c
+closing-as : (src : List ℕ) (p : Spot) (c : Option (Option Refusal × Spot)) {f g : Signs} → g ≡ f → ClosingIs g src p c → ClosingIs f src p c
 closing-as src p c e k = subst (λ (x : Signs). ClosingIs x src p c) e k
 
 word-as : (src : List ℕ) (p : Spot) (x : Keyword) {f g : Signs} → g ≡ f → WordIs (name_in (marks_left g src p)) x → WordIs (name_in (marks_left f src p)) x
 word-as src p x e k = subst (λ (y : Signs). WordIs (name_in (marks_left y src p)) x) e k
 
-step-as : (src : List ℕ) (p : Spot) (s : Step) {f g : Signs} → g ≡ f → StepIs g src p s → StepIs f src p s
+step-as : (src : List ℕ) (p : Spot) (s : Option (ℕ × Spot)) {f g : Signs} → g ≡ f → StepIs g src p s → StepIs f src p s
 step-as src p s e k = subst (λ (x : Signs). StepIs x src p s) e k
 
 skips-as : {src : List ℕ} {f g : Signs} {o p q : Spot} → g ≡ f → o ≡ p → Skips g src o q → Skips f src p q
@@ -98,15 +94,15 @@ module _ {src : List ℕ} (h : Chars) {at : ℕ} (i : at < length src) (v : Visi
 
   -- ### A line with no token, and one that does not begin with `<`
 
-  module _ {g : Signs} {o q : Spot} (a : g ≡ signs_of h) (c : o ≡ line_start at) (r : Skips g src o q) {s : Step} (k : StepIs g src q s) where
-    pub head-none : s ≡ step.End → PassedOver src h at
+  module _ {g : Signs} {o q : Spot} (a : g ≡ signs_of h) (c : o ≡ line_start at) (r : Skips g src o q) {s : Option (ℕ × Spot)} (k : StepIs g src q s) where
+    pub head-none : s ≡ None → PassedOver src h at
     unfolding tokens_left
     head-none e =
         let n : marks_left (signs_of h) src q ≡ [] = subst (StepIs (signs_of h) src q) e (step-as src q s a k) in
         let z : tokens_of (plain_marks_at src h at) ≡ [] = tokens_of-left (skips-as a c r) ∙ rw n tokens_from-none in
         record { plain = plain_by z opens-none; outcome = outcome-none (head_with h false) (plain_marks_at src h at) z }
 
-    module _ {m : ℕ} {p : Spot} (e : s ≡ step.Mark m p) where
+    module _ {m : ℕ} {p : Spot} (e : s ≡ Some (m, p)) where
       mark : MarkIs (signs_of h) src q m p
       mark = subst (StepIs (signs_of h) src q) e (step-as src q s a k)
 
@@ -204,8 +200,8 @@ module _ {src : List ℕ} {h : Chars} {at : ℕ} {p : Spot} (v : NameOpens src h
   unfolding tokens_left
   first = tokens_of-left v.skips ∙ ap (tokens_from (no_part [])) v.mark.marks ∙ first-name 60 (marks_left (signs_of h) src p) refl
 
-  module _ {c : Closing} {g : Signs} (a : g ≡ signs_of h) (k : ClosingIs g src p c) where
-    pub name-left : c ≡ closing.Open → PassedOver src h at
+  module _ {c : Option (Option Refusal × Spot)} {g : Signs} (a : g ≡ signs_of h) (k : ClosingIs g src p c) where
+    pub name-left : c ≡ None → PassedOver src h at
     name-left e =
         let z : one_of is_close (marks_left (signs_of h) src p) ≡ false = subst (ClosingIs (signs_of h) src p) e (closing-as src p c a k) in
         let t : tokens_of (plain_marks_at src h at) ≡ token broken [] [] ∷ [] = first ∙ name-open [] (marks_left (signs_of h) src p) z in
@@ -214,7 +210,7 @@ module _ {src : List ℕ} {h : Chars} {at : ℕ} {p : Spot} (v : NameOpens src h
           outcome = outcome-open (head_with h false) (plain_marks_at src h at) t header;
         }
 
-    module _ {f : ℕ} {q : Spot} (e : c ≡ closing.Closed f q) where
+    module _ {f : Option Refusal} {q : Spot} (e : c ≡ Some (f, q)) where
       name-ends : NameEnds (signs_of h) src p f q
       name-ends = subst (ClosingIs (signs_of h) src p) e (closing-as src p c a k)
 
@@ -277,19 +273,19 @@ module _ {src : List ℕ} {h : Chars} {at : ℕ} {p : Spot} {comment : Bool} (v 
       let k : plain_marks_at src h at ≡ v.marks ++ ns = whole ∙ ap (λ (x : List ℕ). v.marks ++ x) e in
       record { plain = plain_by h v.inside v.visible (ap tokens_of k ∙ v.named.tokens ns) o; refusal = rw k r }
 
-  module _ {g : Signs} {s : Step} (a : g ≡ signs_of h) (k : StepIs g src p s) where
-    pub sign-bare : s ≡ step.End → Malformed src h at
+  module _ {g : Signs} {s : Option (ℕ × Spot)} (a : g ≡ signs_of h) (k : StepIs g src p s) where
+    pub sign-bare : s ≡ None → Malformed src h at
     sign-bare e =
         let n : marks_left (signs_of h) src p ≡ [] = subst (StepIs (signs_of h) src p) e (step-as src p s a k) in
         odd-marks [] n (rw tokens_from-none (opens-alone (token kind.name [] (keyword comment ∷ [])))) (line-bare (head_with h false) comment v.marks v.named)
 
-    module _ {m : ℕ} {x : Spot} (e : s ≡ step.Mark m x) where
+    module _ {m : ℕ} {x : Spot} (e : s ≡ Some (m, x)) where
       next : MarkIs (signs_of h) src p m x
       next = subst (StepIs (signs_of h) src p) e (step-as src p s a k)
 
-      pub sign-glued : (m ≡ 32 → ⊥) → (m ≡ 9 → ⊥) → Malformed src h at
-      sign-glued i j =
-          let b : is_blank m ≡ false = simp (ne_eqb m 32 i, ne_eqb m 9 j) in
+      pub sign-glued : (m ≡ 32 → ⊥) × (m ≡ 9 → ⊥) → Malformed src h at
+      sign-glued i =
+          let b : is_blank m ≡ false = simp (ne_eqb m 32 i.0, ne_eqb m 9 i.1) in
           let ns = marks_left (signs_of h) src x in
           let t = first-token m ns in
           odd-marks (m ∷ ns) next.marks (rw t.is (opens-glued (token kind.name [] (keyword comment ∷ [])) t.first t.more (t.gap b)))
@@ -312,11 +308,8 @@ module _ {src : List ℕ} {h : Chars} {at : ℕ} {p : Spot} {comment : Bool} (v 
             to = next.to;
           }
 
-      pub sign-space : m ≡ 32 → SignOpened src h at x comment
-      sign-space i = opened (rw i)
-
-      pub sign-tab : m ≡ 9 → SignOpened src h at x comment
-      sign-tab i = opened (rw i)
+      pub sign-blank : (m ≡ 32) ⊎ ((m ≡ 32 → ⊥) × (m ≡ 9)) → SignOpened src h at x comment
+      sign-blank i = ⊎_elim (λ t. opened (rw t)) (λ t. opened (rw t.1)) i
 
 -- ## The byte after blanks
 
@@ -360,8 +353,8 @@ module _ {src : List ℕ} {h : Chars} {at : ℕ} {x : Spot} {comment : Bool} (v 
   opened-less {a = a} {d} i w k l =
       reached-less reached (subst (λ (y : Signs). LineIs y src (line_start at) a) i w) (subst (λ (y : Signs). LineIs y src x d) k l)
 
-  module _ {f : Found} (w : FoundIs src x.at f) where
-    pub opened_nothing : f ≡ found.Nothing → Malformed src h at
+  module _ {f : Option (ℕ × ℕ)} (w : FoundIs src x.at f) where
+    pub opened_nothing : f ≡ None → Malformed src h at
     opened_nothing e =
         let n : NoByte src x.at = subst (FoundIs src x.at) e w in
         let bs = marks_left (signs_of h) src x in
@@ -372,7 +365,7 @@ module _ {src : List ℕ} {h : Chars} {at : ℕ} {x : Spot} {comment : Bool} (v 
           refusal = rw k (line-blank (head_with h false) comment v.marks v.last bs v.named (every-cons is_blank v.last bs v.blank b));
         }
 
-    module _ {b i : ℕ} (e : f ≡ found.Byte b i) where
+    module _ {b i : ℕ} (e : f ≡ Some (b, i)) where
       there : ByteAt src x.at b i
       there = subst (FoundIs src x.at) e w
 

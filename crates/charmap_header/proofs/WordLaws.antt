@@ -55,9 +55,9 @@ unfolding bytes
 charmap-some e = cons-ne-nil _ _ e
 
 module _ (g : Signs) (src : List ℕ) (p : Spot) where
-  pub opening-other : {t : Bool} → t ≡ same (word_in (marks_left g src p)) (bytes "CHARMAP") → t ≡ false → false ≡ is_opening (tokens_left g src p)
+  pub opening-other : {t : Bool} → t ≡ same (word_in (marks_left g src p)) (bytes "CHARMAP") → t ≡ false → t ≡ is_opening (tokens_left g src p)
   unfolding tokens_left
-  opening-other e h = sym (word-other (marks_left g src p) (sym e ∙ h))
+  opening-other e h = h ∙ sym (word-other (marks_left g src p) (sym e ∙ h))
 
   pub opening-word : {t : Bool} → t ≡ same (word_in (marks_left g src p)) (bytes "CHARMAP") → t ≡ true → {q : Spot} → WordEnds g src p q
       → {r : Bool} → r ≡ eqb (length (without_opening_gaps (tokens_left g src q))) 0 → r ≡ is_opening (tokens_left g src p)

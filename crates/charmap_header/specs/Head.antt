@@ -1,5 +1,5 @@
 -- A line of a charmap's header as code reads it: what it leaves is the paper's header_line (Rattle.rules.specs.Charmap).
-use Rattle.std.specs.Prelude.{◌≡◌, Bool, true, false, ◌&&◌, List, [], ◌∷◌, ◌++◌, ℕ, ◌+◌, ◌≤◌, ◌<◌, length, drop}
+use Rattle.std.specs.Prelude.{◌≡◌, Bool, true, false, ◌&&◌, List, [], ◌∷◌, ◌++◌, ℕ, ◌+◌, ◌≤◌, ◌<◌, length, drop, Err, Ok, Result}
 use Rattle.rules.specs.Text.{every, is, ◌unless◌, lower}
 use Rattle.rules.specs.Names.{is_blank}
 use Rattle.rules.specs.Tokens.{is_text, name, Token, token, token_at, no_part, tokens_from, tokens_of, operands}
@@ -13,8 +13,7 @@ use Rattle.text_tokens.specs.Left.{tokens_left, Skips}
 use Rattle.text_specials.specs.declared.Chars.{Chars}
 use Rattle.text_specials.specs.Force.{chars_as}
 use Rattle.text_specials.specs.Signed.{Visible, keyword, ByteTaken}
-use Rattle.charmap_header.specs.declared.Heading.{Heading}
-use Rattle.charmap_header.specs.declared.Heading.TheVariants.{Line, Refused}
+use Rattle.base_units.specs.declared.Refusal.{Refusal}
 
 -- ## What a header line is
 
@@ -50,9 +49,9 @@ pub record Stops (src : List ℕ) (h : Chars) (at n : ℕ) : Type 0 where
   pub refusal : (outcome_at src h at).refusal ≡ n
   pub some : n ≡ 0 → ⊥
 
-abbrev pub HeadingIs : List ℕ → Chars → ℕ → Heading → Type 0
-HeadingIs src h at (Line c opened next feeds) = Leaves src h at c opened next feeds
-HeadingIs src h at (Refused r) = Stops src h at (number_of r)
+abbrev pub HeadingIs : List ℕ → Chars → ℕ → Result (Chars × Bool × ℕ × ℕ) Refusal → Type 0
+HeadingIs src h at (Ok (c, opened, next, feeds)) = Leaves src h at c opened next feeds
+HeadingIs src h at (Err r) = Stops src h at (number_of r)
 
 -- ## Lines in which no byte is taken as it stands
 

@@ -12,14 +12,7 @@ fn has_code(area: &[u32], code: CodePoint) -> bool
     requires { length area.now ≡ 512 }
     ensures { result ≡ has_code area.now code.0 }
 {
-    let mut i: usize = 0;
-    while i < 256 {
-        if area[i] == code.0 {
-            return true;
-        }
-        i += 1;
-    }
-    false
+    area[..256].contains(&code.0)
 }
 
 // 1 where no byte has the code yet, else 0.
@@ -27,10 +20,7 @@ fn one_for(area: &[u32], code: CodePoint) -> u32
     requires { length area.now ≡ 512 }
     ensures { result ≡ one_for area.now code.0 }
 {
-    if has_code(area, code) {
-        return 0;
-    }
-    1
+    if has_code(area, code) { 0 } else { 1 }
 }
 
 // One byte more has a code: the first of a code encodes it.
@@ -48,14 +38,9 @@ pub fn give_range(area: &mut [u32], byte: usize, code: CodePoint, n: usize)
     requires { (length area.old ≡ 512) × (byte + n ≤ 256) × (code.0 + n ≤ 0x110000) }
     ensures { area.new ≡ with_range n area.old byte code.0 }
 {
-    let mut b = byte;
-    let mut c = code.0;
-    let mut left = n;
-    while 0 < left {
-        give(area, b, CodePoint(c));
-        b += 1;
-        c += 1;
-        left -= 1;
+    let first = code.0;
+    for i in 0..n {
+        give(area, byte + i, CodePoint(first + i as u32));
     }
 }
 
@@ -64,16 +49,7 @@ pub fn any_given(area: &[u32], byte: usize, n: usize) -> bool
     requires { (length area.now ≡ 512) × (byte + n ≤ 256) }
     ensures { result ≡ any_taken area.now byte n }
 {
-    let mut i: usize = 0;
-    while i < n {
-        let c = area[byte + i];
-        if c == 0x110000 {
-            i += 1;
-        } else {
-            return true;
-        }
-    }
-    false
+    area[byte..byte + n].iter().any(|c| *c != 0x110000)
 }
 
 // The 512 numbers written to the front of an area.
@@ -81,9 +57,5 @@ pub fn copy_area(from: &[u32], area: &mut [u32])
     requires { (length from.now ≡ 512) × (512 ≤ length area.old) }
     ensures { area.new ≡ over from.now area.old }
 {
-    let mut i: usize = 0;
-    while i < 512 {
-        area[i] = from[i];
-        i += 1;
-    }
+    area[..512].copy_from_slice(from);
 }

@@ -1,4 +1,5 @@
 -- The laws of the definition (CharmapLaws in rules) as laws of the code: of every area that `read` leaves where it answers Done.
+use Rattle.std.specs.Prelude.{Ok}
 use mathlib.Core.Path.{◌≡◌, sym, ap, ◌∙◌}
 use mathlib.Core.Bool.{true}
 use mathlib.Core.List.{List, Memᴰ}
@@ -15,7 +16,6 @@ use Rattle.rules.specs.Calls as calls
 use Rattle.rules.specs.Calls.{over, mapped_as, charmap_call}
 use Rattle.rules.proofs.CharmapLaws.{given_by, given-good, charmap-length, charmap-accepted-append, charmap-decodes}
 use Rattle.charmap_read.specs.Answers.{read_as}
-use Rattle.charmap_read.specs.declared.Mapped.TheVariants.{Done}
 use Rattle.charmap_read.specs.Read.{whole_run}
 
 -- The numbers that the definition grants stand in front, and the rest is as it was.
@@ -27,7 +27,7 @@ pub record Gives (src area after : List ℕ) : Type 0 where
 refusal-of : {x y : calls.Mapped} → x ≡ y → x.refusal ≡ y.refusal
 refusal-of e = ap (λ (m : calls.Mapped). m.refusal) e
 
-module _ (src area after : List ℕ) (e : read_as Done after ≡ charmap_call src area) where
+module _ (src area after : List ℕ) (e : read_as (Ok tt) after ≡ charmap_call src area) where
   pub read-gives : Gives src area after
   unfolding charmap_call charmap_of mapped_as
   read-gives =

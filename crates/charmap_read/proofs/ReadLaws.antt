@@ -1,5 +1,5 @@
 -- The whole of a charmap: each answer is the paper's.
-use Rattle.std.specs.Prelude.{if◌then◌else◌}
+use Rattle.std.specs.Prelude.{if◌then◌else◌, Err, Ok, Result}
 use mathlib.Core.Path.{◌≡◌, refl, sym, ap, ◌∙◌, subst}
 use mathlib.Core.Bool.{not}
 use mathlib.Core.List.{List, []}
@@ -7,7 +7,8 @@ use Prim.Native.Nat.{ℕ, ◌≤◌, ◌<◌}
 use lib.ListN.{length}
 use lib.Dec.{eqb, ltb}
 use borrow.Author.Tests.{ne_eqb, lt-ltb, le-ltb}
-use Rattle.rules.specs.Text.{Result, granted, refused}
+use Rattle.rules.specs.Text as text
+use Rattle.rules.specs.Text.{granted, refused}
 use Rattle.rules.specs.Charmap.{MapEnded, map_ended, area_of, charmap_of}
 use Rattle.rules.specs.Calls as calls
 use Rattle.rules.specs.Calls.{over, mapped_as, charmap_call}
@@ -15,12 +16,10 @@ use Rattle.rules.proofs.CharmapLaws.{area-length}
 use Rattle.base_units.specs.Numbers.{number_of}
 use Rattle.base_units.specs.declared.Refusal.{Refusal}
 use Rattle.base_units.proofs.NumberLaws.{number_of-some}
-use Rattle.charmap_read.specs.declared.Entries.{Entries}
-use Rattle.charmap_read.specs.declared.Entries.TheVariants as entries
 use Rattle.charmap_read.specs.Read.{whole_run, Closes, SourceIs}
 
 -- the result, of how the run ends
-abbrev answered : MapEnded → ℕ → ℕ → Result (List ℕ)
+abbrev answered : MapEnded → ℕ → ℕ → text.Result (List ℕ)
 answered e size area =
     if ltb 1048576 size then refused 1 0
     else if not (eqb e.refusal 0) then refused e.refusal e.line
@@ -40,14 +39,14 @@ module _ (src area : List ℕ) where
   unfolding mapped_as
   too_long h = sym (called src area (whole_run src) refl ∙ rw (lt-ltb 1048576 (length src) h))
 
-  module _ (h : length src ≤ 1048576) {s : Entries} (after : List ℕ) (w : SourceIs src after s) where
-    pub line_refused : {r : Refusal} {l : ℕ} → s ≡ entries.Refused r l → stopped (number_of r) l area ≡ charmap_call src area
+  module _ (h : length src ≤ 1048576) {s : Result Unit (Refusal × ℕ)} (after : List ℕ) (w : SourceIs src after s) where
+    pub line_refused : {r : Refusal} {l : ℕ} → s ≡ Err (r, l) → stopped (number_of r) l area ≡ charmap_call src area
     unfolding mapped_as
     line_refused {r} {l} e =
         let k : whole_run src ≡ map_ended (number_of r) l [] = subst (SourceIs src after) e w in
         sym (called src area (map_ended (number_of r) l []) k ∙ rw (le-ltb 1048576 (length src) h, ne_eqb (number_of r) 0 (number_of-some r)))
 
-    module _ (e : s ≡ entries.Closed) where
+    module _ (e : s ≡ (Ok tt)) where
       closes : Closes (whole_run src) after
       closes = subst (SourceIs src after) e w
 

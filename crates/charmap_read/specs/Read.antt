@@ -1,20 +1,13 @@
 -- The run over a charmap's lines, as far as its functions read it (Rattle.rules.specs.Charmap). No public contract cites this file.
-use Rattle.std.specs.Prelude.{◌≡◌, Bool, true, false, List, [], ℕ, suc, ◌≤◌, length, drop}
+use Rattle.std.specs.Prelude.{◌≡◌, Bool, true, false, List, [], ℕ, suc, ◌≤◌, length, drop, Err, Ok, Result}
 use Rattle.rules.specs.Charmap.{Given, Mapping, MapEnded, map_ended, map_start, map_lines_from, area_of}
+use Rattle.base_units.specs.declared.Refusal.{Refusal}
 use Rattle.base_units.specs.Numbers.{number_of}
-use Rattle.base_units.specs.declared.Refusal.TheVariants as refusal
 use Rattle.text_specials.specs.declared.Chars.{Chars}
 use Rattle.text_specials.specs.Signed.{Visible}
-use Rattle.text_reader.specs.Turns.{Reading}
 use Rattle.charmap_header.specs.Head.{signs_of, head_with}
 use Rattle.charmap_body.specs.Outcomes.{Holds}
 use Rattle.charmap_body.specs.Body.{chars_of, in_body}
-use Rattle.charmap_read.specs.declared.Header.{Header}
-use Rattle.charmap_read.specs.declared.Header.TheVariants as header
-use Rattle.charmap_read.specs.declared.HeaderRead.{HeaderRead}
-use Rattle.charmap_read.specs.declared.Entries.{Entries}
-use Rattle.charmap_read.specs.declared.Entries.TheVariants as entries
-use Rattle.charmap_read.specs.declared.BodyRead.{BodyRead}
 
 -- the run over all lines
 abbrev pub whole_run : List ℕ → MapEnded
@@ -32,9 +25,9 @@ pub record Opened (src : List ℕ) (h : Chars) (at number : ℕ) : Type 0 where
   pub to : at ≤ length src
   pub few : number ≤ suc at
 
-abbrev pub HeaderIs : List ℕ → Header → Type 0
-HeaderIs src (header.Opened h at number) = Opened src h at number
-HeaderIs src (header.Refused r line) = whole_run src ≡ map_ended (number_of r) line []
+abbrev pub HeaderIs : List ℕ → Result (Chars × ℕ × ℕ) (Refusal × ℕ) → Type 0
+HeaderIs src (Ok (h, at, number)) = Opened src h at number
+HeaderIs src (Err (r, line)) = whole_run src ≡ map_ended (number_of r) line []
 
 -- The lines before a place are read: the run goes on from there. At most each byte before the place was an LF.
 pub record Heads (src : List ℕ) (h : Chars) (at number : ℕ) : Type 0 where
@@ -42,21 +35,6 @@ pub record Heads (src : List ℕ) (h : Chars) (at number : ℕ) : Type 0 where
   pub to : at ≤ length src
   pub few : number ≤ suc at
   pub visible : Visible (signs_of h)
-
--- A reading of the header has come to a place with the state t, and the source would end too early.
-pub record HeaderStands (src : List ℕ) (s t : HeaderRead) (at number : ℕ) : Type 0 where
-  pub short : length src ≤ 1048576
-  pub answer : t.answer ≡ header.Refused refusal.Malformed number
-  pub read : Heads src t.chars at number
-
-abbrev pub header_reading : Reading HeaderRead
-header_reading = record {
-  over = λ t. t.over;
-  next = λ t. t.next;
-  number = λ t. t.number;
-  Stands = HeaderStands;
-  Says = λ src s t. HeaderIs src t.answer;
-}
 
 -- ## Up to END CHARMAP
 
@@ -74,11 +52,11 @@ pub record Closes (run : MapEnded) (after : List ℕ) : Type 0 where
   pub holds : after ≡ area_of given
 
 -- by how a run ends
-abbrev pub RunIs : MapEnded → List ℕ → Entries → Type 0
-RunIs run after entries.Closed = Closes run after
-RunIs run after (entries.Refused r line) = run ≡ map_ended (number_of r) line []
+abbrev pub RunIs : MapEnded → List ℕ → Result Unit (Refusal × ℕ) → Type 0
+RunIs run after (Ok tt) = Closes run after
+RunIs run after (Err (r, line)) = run ≡ map_ended (number_of r) line []
 
-abbrev pub EntriesAre : List ℕ → Chars → ℕ → ℕ → List ℕ → Entries → Type 0
+abbrev pub EntriesAre : List ℕ → Chars → ℕ → ℕ → List ℕ → Result Unit (Refusal × ℕ) → Type 0
 EntriesAre src h at number after r = RunIs (body_run src h at number) after r
 
 -- the state after CHARMAP with what is given
@@ -93,23 +71,7 @@ pub record Reads (src : List ℕ) (h : Chars) (from first : ℕ) (area : List �
   pub to : at ≤ length src
   pub few : number ≤ suc at
 
--- A reading of the body that began with a state and an area has come to a place with another state and area, and the source would end too early.
-pub record BodyStands (src : List ℕ) (s t : BodyRead × List ℕ) (at number : ℕ) : Type 0 where
-  pub short : length src ≤ 1048576
-  pub chars : t.0.chars ≡ s.0.chars
-  pub answer : t.0.answer ≡ entries.Refused refusal.Malformed number
-  pub read : Reads src t.0.chars s.0.next s.0.number t.1 at number
-
-abbrev pub body_reading : Reading (BodyRead × List ℕ)
-body_reading = record {
-  over = λ t. t.0.over;
-  next = λ t. t.0.next;
-  number = λ t. t.0.number;
-  Stands = BodyStands;
-  Says = λ src s t. EntriesAre src s.0.chars s.0.next s.0.number t.1 t.0.answer;
-}
-
 -- ## All lines
 
-abbrev pub SourceIs : List ℕ → List ℕ → Entries → Type 0
+abbrev pub SourceIs : List ℕ → List ℕ → Result Unit (Refusal × ℕ) → Type 0
 SourceIs src after r = RunIs (whole_run src) after r

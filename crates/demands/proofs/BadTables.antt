@@ -1,4 +1,6 @@
 -- Demand 1: "A table with no level or a weight of zero is refused": by every operation on tables, with 11, and nothing is written.
+use Rattle.base_units.specs.declared.Refusal.{Refusal}
+use Rattle.std.specs.Prelude.{Err, Result, ℕ}
 use mathlib.Core.Path.{◌≡◌, refl, sym, ap, ◌∙◌}
 use mathlib.Core.Bool.{true, false}
 use mathlib.Core.List.{List, [], ◌∷◌, ◌++◌, map, flatten}
@@ -21,41 +23,33 @@ use Rattle.rules.proofs.WidthLaws.{good-range}
 use Rattle.rules.proofs.StorableLaws.{rules-drop, meaning-stored, weights-append}
 use Rattle.rules.proofs.TableLaws.{parts-drop, accepted-stored}
 use Rattle.base_units.specs.declared.Refusal.TheVariants.{NotAccepted}
-use Rattle.table_check.specs.declared.Verdict.{Verdict}
-use Rattle.table_check.specs.declared.Verdict.TheVariants as verdict
 use Rattle.table_check.proofs.AnswerLaws.{checked_as-unique}
-use Rattle.order_compare.specs.declared.Stepping.{Stepping}
-use Rattle.order_compare.specs.declared.Stepping.TheVariants as stepping
-use Rattle.order_compare.specs.declared.Comparison.{Comparison}
-use Rattle.order_compare.specs.declared.Comparison.TheVariants as comparison
 use Rattle.order_compare.proofs.AnswerLaws.{stepped_as-unique, compared_as-unique}
-use Rattle.order_keys.specs.declared.Keyed.{Keyed}
-use Rattle.order_keys.specs.declared.Keyed.TheVariants as keyed
 use Rattle.order_keys.proofs.AnswerLaws.{keyed_as-unique}
-use Rattle.order_directory.specs.declared.Directed.{Directed}
-use Rattle.order_directory.specs.declared.Directed.TheVariants as directed
 use Rattle.order_directory.proofs.AnswerLaws.{directed_is-unique}
 use Rattle.demands.specs.Answered.{Checks, Steps, Compares, Keys, Directs, levels_stated, weights_stated}
+use Rattle.order_compare.specs.declared.Answer.{Answer}
+use Rattle.table_check.specs.declared.Shape.{Shape}
 
 -- ## What is not accepted
 
 -- Every operation on tables refuses the table by 11, and a lent room or list is as it was.
 pub record RefusedByAll (t : List ℕ) : Type 0 where
-  pub check : (r : Verdict) → Checks t r → r ≡ verdict.Refused NotAccepted
-  pub step : (s : List ℕ) (at : ℕ) (r : Stepping) → Steps t s at r → r ≡ stepping.Refused NotAccepted
-  pub compare : (a b : List ℕ) (r : Comparison) → Compares t a b r → r ≡ comparison.Refused NotAccepted
-  pub key : (s room : List ℕ) (r : Keyed) (room₁ : List ℕ) → Keys t s room r room₁ → (r ≡ keyed.Refused NotAccepted) × (room₁ ≡ room)
-  pub directory : (run headings topics list : List ℕ) (r : Directed) (list₁ : List ℕ) → Directs t run headings topics list r list₁
-      → (r ≡ directed.Refused NotAccepted) × (list₁ ≡ list)
+  pub check : (r : Result Shape Refusal) → Checks t r → r ≡ Err NotAccepted
+  pub step : (s : List ℕ) (at : ℕ) (r : Result (ℕ × ℕ) Refusal) → Steps t s at r → r ≡ Err NotAccepted
+  pub compare : (a b : List ℕ) (r : Result Answer Refusal) → Compares t a b r → r ≡ Err NotAccepted
+  pub key : (s room : List ℕ) (r : Result ℕ Refusal) (room₁ : List ℕ) → Keys t s room r room₁ → (r ≡ Err NotAccepted) × (room₁ ≡ room)
+  pub directory : (run headings topics list : List ℕ) (r : Result Unit Refusal) (list₁ : List ℕ) → Directs t run headings topics list r list₁
+      → (r ≡ Err NotAccepted) × (list₁ ≡ list)
 
 pub unaccepted-refused : (t : List ℕ) → accepted t ≡ false → RefusedByAll t
 unfolding check_call step_call compare_call key_call key_for written_as directory_call directory_of directed_as
 unaccepted-refused t h = record {
-  check = λ r e. checked_as-unique r (verdict.Refused NotAccepted) (rw h at e);
-  step = λ s at r e. stepped_as-unique r (stepping.Refused NotAccepted) (rw h at e);
-  compare = λ a b r e. compared_as-unique r (comparison.Refused NotAccepted) (rw h at e);
-  key = λ s room r room₁ e. keyed_as-unique r (keyed.Refused NotAccepted) room₁ room (rw h at e);
-  directory = λ run headings topics list r list₁ e. directed_is-unique r (directed.Refused NotAccepted) list₁ list (rw h at e);
+  check = λ r e. checked_as-unique r (Err NotAccepted) (rw h at e);
+  step = λ s at r e. stepped_as-unique r (Err NotAccepted) (rw h at e);
+  compare = λ a b r e. compared_as-unique r (Err NotAccepted) (rw h at e);
+  key = λ s room r room₁ e. keyed_as-unique r (Err NotAccepted) room₁ room (rw h at e);
+  directory = λ run headings topics list r list₁ e. directed_is-unique r (Err NotAccepted) list₁ list (rw h at e);
 }
 
 -- ## What an accepted table states

@@ -1,6 +1,6 @@
 -- Demand 1: "Bad input gets the numbered refusal of document 01, in its order": of each public operation, for every answer, its refusal is the first
 -- that is given of 01's list for it, or of 02's, and there is none on any other ground.
-use Rattle.std.specs.Prelude.{if◌then◌else◌}
+use Rattle.std.specs.Prelude.{if◌then◌else◌, Result}
 use mathlib.Core.Path.{◌≡◌, ap, ◌∙◌}
 use mathlib.Core.Bool.{not, ◌&&◌}
 use mathlib.Core.List.{List, [], ◌∷◌, map}
@@ -23,22 +23,16 @@ use Rattle.rules.specs.Directory.{parts_of, parts_fit, good_part, weights_of, pl
 use Rattle.rules.specs.Calls as calls
 use Rattle.rules.specs.Calls.{compiled_as, compile_call, check_call, step_call, compare_call, key_for, key_call, written_as, mapped_as, charmap_call, area_call, decode_call, encode_call, directed_as, directory_call}
 use Rattle.locale_compile.specs.Answers.{told_as}
-use Rattle.locale_compile.specs.declared.Compiled.{Compiled}
 use Rattle.table_check.specs.Answers.{checked_as}
-use Rattle.table_check.specs.declared.Verdict.{Verdict}
 use Rattle.order_compare.specs.Answers.{stepped_as, compared_as}
-use Rattle.order_compare.specs.declared.Stepping.{Stepping}
-use Rattle.order_compare.specs.declared.Comparison.{Comparison}
 use Rattle.order_keys.specs.Answers.{keyed_as}
-use Rattle.order_keys.specs.declared.Keyed.{Keyed}
 use Rattle.charmap_read.specs.Answers.{read_as}
-use Rattle.charmap_read.specs.declared.Mapped.{Mapped}
 use Rattle.charmap_coding.specs.Answers.{number_is, written_is}
-use Rattle.charmap_coding.specs.declared.AreaVerdict.{AreaVerdict}
-use Rattle.charmap_coding.specs.declared.Coded.{Coded}
 use Rattle.order_directory.specs.Answers.{directed_is}
-use Rattle.order_directory.specs.declared.Directed.{Directed}
 use Rattle.demands.specs.Answered.{Compiles, Checks, Steps, Compares, Keys, Reads, ChecksArea, Decodes, Encodes, Directs, first_given}
+use Rattle.order_compare.specs.declared.Answer.{Answer}
+use Rattle.base_units.specs.declared.Refusal.{Refusal}
+use Rattle.table_check.specs.declared.Shape.{Shape}
 
 -- the two ways to say that n is not above m
 not-above : (n m : ℕ) → leb n m ≡ not (ltb m n)
@@ -46,18 +40,18 @@ not-above n m = by (ltb m n) (λ t. rw t (lt-leb n m (ltb-true m n t))) (λ t. r
 
 -- ## Tables
 
-pub check-refusal : (t : List ℕ) (r : Verdict) → Checks t r → (checked_as r).refusal ≡ first_given (11 unless accepted t ∷ [])
+pub check-refusal : (t : List ℕ) (r : Result Shape Refusal) → Checks t r → (checked_as r).refusal ≡ first_given (11 unless accepted t ∷ [])
 unfolding check_call first_given
 check-refusal t r e = ap (λ (c : calls.Checked). c.refusal) e ∙ by (accepted t) (λ p. rw p) (λ p. rw p)
 
-pub step-refusal : (t s : List ℕ) (at : ℕ) (r : Stepping) → Steps t s at r → (stepped_as r).refusal ≡ first_given (11 unless accepted t ∷ 12 unless good_string s ∷ [])
+pub step-refusal : (t s : List ℕ) (at : ℕ) (r : Result (ℕ × ℕ) Refusal) → Steps t s at r → (stepped_as r).refusal ≡ first_given (11 unless accepted t ∷ 12 unless good_string s ∷ [])
 unfolding step_call first_given
 step-refusal t s at r e =
     ap (λ (c : calls.Stepped). c.refusal) e
     ∙ by (accepted t) (λ p. by (good_string s) (λ q. rw (p, q)) (λ q. rw (p, q))) (λ p. rw p)
 
 -- "the first string before the second"
-pub compare-refusal : (t a b : List ℕ) (r : Comparison) → Compares t a b r
+pub compare-refusal : (t a b : List ℕ) (r : Result Answer Refusal) → Compares t a b r
     → (compared_as r).refusal ≡ first_given (11 unless accepted t ∷ 12 unless good_string a ∷ 12 unless good_string b ∷ [])
 unfolding compare_call first_given
 compare-refusal t a b r e =
@@ -66,7 +60,7 @@ compare-refusal t a b r e =
     (λ p. by (good_string a) (λ x. by (good_string b) (λ y. rw (p, x, y)) (λ y. rw (p, x, y))) (λ x. rw (p, x)))
     (λ p. rw p)
 
-pub key-refusal : (t s room : List ℕ) (r : Keyed) (room₁ : List ℕ) → Keys t s room r room₁
+pub key-refusal : (t s room : List ℕ) (r : Result ℕ Refusal) (room₁ : List ℕ) → Keys t s room r room₁
     → (keyed_as r room₁).refusal ≡ first_given (11 unless accepted t ∷ 12 unless good_string s ∷ 13 unless leb (length (key_of (meaning_in t) s)) (length room) ∷ [])
 unfolding key_call key_for written_as first_given
 key-refusal t s room r room₁ e =
@@ -80,11 +74,11 @@ key-refusal t s room r room₁ e =
 
 -- ## Charmap areas
 
-pub check-area-refusal : (area : List ℕ) (r : AreaVerdict) → ChecksArea area r → number_is r ≡ first_given (11 unless area_accepted area ∷ [])
+pub check-area-refusal : (area : List ℕ) (r : Result Unit Refusal) → ChecksArea area r → number_is r ≡ first_given (11 unless area_accepted area ∷ [])
 unfolding area_call first_given
 check-area-refusal area r e = e ∙ by (area_accepted area) (λ p. rw p) (λ p. rw p)
 
-pub decode-refusal : (area bs room : List ℕ) (r : Coded) (room₁ : List ℕ) → Decodes area bs room r room₁
+pub decode-refusal : (area bs room : List ℕ) (r : Result ℕ Refusal) (room₁ : List ℕ) → Decodes area bs room r room₁
     → (written_is r room₁).refusal
     ≡ first_given (11 unless area_accepted area ∷ 12 unless leb (length bs) 4096 ∷ 14 unless every is_character (map (code_at area) bs)
     ∷ 13 unless leb (length (map (code_at area) bs)) (length room) ∷ [])
@@ -101,7 +95,7 @@ decode-refusal area bs room r room₁ e =
     (λ k. rw (p, q, k))))
     (λ p. rw p))
 
-pub encode-refusal : (area s room : List ℕ) (r : Coded) (room₁ : List ℕ) → Encodes area s room r room₁
+pub encode-refusal : (area s room : List ℕ) (r : Result ℕ Refusal) (room₁ : List ℕ) → Encodes area s room r room₁
     → (written_is r room₁).refusal
     ≡ first_given (11 unless area_accepted area ∷ 12 unless good_string s ∷ 14 unless every (within 0 255) (map (byte_at area) s)
     ∷ 13 unless leb (length (map (byte_at area) s)) (length room) ∷ [])
@@ -121,7 +115,7 @@ encode-refusal area s room r room₁ e =
 -- ## Sources: "1 comes first. Then lines in order; within one joined line the lowest number wins. Then 8, by line, then 9." The order among lines, and the
 -- lowest of a line, are those of `lines_from` and `map_lines_from` in Rattle.rules.specs.
 
-pub read-refusal : (src area : List ℕ) (r : Mapped) (area₁ : List ℕ) → Reads src area r area₁
+pub read-refusal : (src area : List ℕ) (r : Result Unit (Refusal × ℕ)) (area₁ : List ℕ) → Reads src area r area₁
     → (read_as r area₁).refusal
     ≡ first_given (1 unless leb (length src) 1048576 ∷ (map_lines_from map_start 1 0 src).refusal ∷ 9 unless leb 512 (length area) ∷ [])
 unfolding charmap_call charmap_of mapped_as first_given
@@ -135,7 +129,7 @@ read-refusal src area r area₁ e =
     (λ q. by (ltb (length area) 512) (λ k. rw (p, q, k)) (λ k. rw (p, q, k)))
     (λ q. rw (p, q))))
 
-pub compile-refusal : (src area work : List ℕ) (r : Compiled) (area₁ work₁ : List ℕ) → Compiles src area work r area₁ work₁
+pub compile-refusal : (src area work : List ℕ) (r : Result ℕ (Refusal × ℕ)) (area₁ work₁ : List ℕ) → Compiles src area work r area₁ work₁
     → let e : Ended = lines_from start 1 0 src in
     (told_as r area₁ work₁).refusal
     ≡ first_given (1 unless (leb (length src) 1048576 && leb (length src + 64) (length work)) ∷ e.refusal
@@ -156,7 +150,7 @@ compile-refusal src area work r area₁ work₁ h =
 
 -- ## "A refusal carries the number of the first physical line, 0 for 1, 9 and 11 to 14"
 
-pub read-line : (src area : List ℕ) (r : Mapped) (area₁ : List ℕ) → Reads src area r area₁
+pub read-line : (src area : List ℕ) (r : Result Unit (Refusal × ℕ)) (area₁ : List ℕ) → Reads src area r area₁
     → (read_as r area₁).line
     ≡ (if not (leb (length src) 1048576) then 0
     else if not (eqb (map_lines_from map_start 1 0 src).refusal 0) then (map_lines_from map_start 1 0 src).line
@@ -173,7 +167,7 @@ read-line src area r area₁ e =
     (λ q. rw (p, q))))
 
 -- 8 carries that of the line with such a weight that was written first
-pub compile-line : (src area work : List ℕ) (r : Compiled) (area₁ work₁ : List ℕ) → Compiles src area work r area₁ work₁
+pub compile-line : (src area work : List ℕ) (r : Result ℕ (Refusal × ℕ)) (area₁ work₁ : List ℕ) → Compiles src area work r area₁ work₁
     → let e : Ended = lines_from start 1 0 src in
     (told_as r area₁ work₁).line
     ≡ (if not (leb (length src) 1048576 && leb (length src + 64) (length work)) then 0
@@ -196,7 +190,7 @@ compile-line src area work r area₁ work₁ h =
 -- ## The directory
 
 -- 02, K2: "Refusals, in this order", each over all headings, then all topics
-pub directory-refusal : (t run headings topics list : List ℕ) (r : Directed) (list₁ : List ℕ) → Directs t run headings topics list r list₁
+pub directory-refusal : (t run headings topics list : List ℕ) (r : Result Unit Refusal) (list₁ : List ℕ) → Directs t run headings topics list r list₁
     → (directed_is r list₁).refusal ≡ first_given
     (11 unless accepted t
     ∷ 16 unless plain_first (meaning_in t).rules

@@ -1,4 +1,5 @@
 -- Demand 2: "The compiled table means what 01 says the source means: each element, level, weight." Of every area that `compile` leaves where it answers Done.
+use Rattle.std.specs.Prelude.{Err, Ok, Result, ℕ}
 use mathlib.Core.Path.{◌≡◌, refl, sym, ap, ◌∙◌}
 use mathlib.Core.Bool.{true, not, ◌&&◌}
 use mathlib.Core.List.{List}
@@ -14,14 +15,13 @@ use Rattle.rules.specs.Table.{meaning_in, accepted}
 use Rattle.rules.specs.Calls.{check_call}
 use Rattle.rules.proofs.ResultLaws.{granted-unique, granted-else, granted-then}
 use Rattle.base_units.proofs.NumberLaws.{number_of-some}
-use Rattle.locale_compile.specs.declared.Compiled.{Compiled}
-use Rattle.locale_compile.specs.declared.Compiled.TheVariants as compiled
 use Rattle.locale_compile.proofs.CodeLaws.{compile-gives, compile-accepted, compile-means}
 use Rattle.table_check.specs.Answers.{checked_as}
-use Rattle.table_check.specs.declared.Verdict.{Verdict}
 use Rattle.demands.specs.Answered.{Compiles, Checks, source_meaning, levels_stated, weights_stated, first_given}
 use Rattle.demands.proofs.InOrder.{compile-refusal}
 use Rattle.demands.proofs.BadTables.{accepted-weights, accepted-levels}
+use Rattle.base_units.specs.declared.Refusal.{Refusal}
+use Rattle.table_check.specs.declared.Shape.{Shape}
 
 granted-meaning : (src : List ℕ) (area work : ℕ) (m : Meaning) → compile_of src area work ≡ granted m → m ≡ source_meaning src
 unfolding compile_of finish
@@ -34,16 +34,16 @@ granted-meaning src area work m h =
     sym (granted-unique four.1)
 
 -- a source in which no ground for a refusal stands is compiled
-pub all-compiled : (src area work : List ℕ) (r : Compiled) (area₁ work₁ : List ℕ) → Compiles src area work r area₁ work₁
+pub all-compiled : (src area work : List ℕ) (r : Result ℕ (Refusal × ℕ)) (area₁ work₁ : List ℕ) → Compiles src area work r area₁ work₁
     → leb (length src) 1048576 && leb (length src + 64) (length work) ≡ true → (lines_from start 1 0 src).refusal ≡ 0
     → every (is_ranked (lines_from start 1 0 src).state.ordered.lines) (lines_from start 1 0 src).state.ordered.lines ≡ true
-    → leb (size_of (source_meaning src)) (length area) ≡ true → (n : ℕ) × (r ≡ compiled.Done n)
+    → leb (size_of (source_meaning src)) (length area) ≡ true → (n : ℕ) × (r ≡ Ok n)
 unfolding first_given
-all-compiled src area work (compiled.Done n) area₁ work₁ e a b c d = (n, refl)
-all-compiled src area work (compiled.Refused x l) area₁ work₁ e a b c d =
-    absurd (number_of-some x (rw (a, b, c, d) at (compile-refusal src area work (compiled.Refused x l) area₁ work₁ e)))
+all-compiled src area work (Ok n) area₁ work₁ e a b c d = (n, refl)
+all-compiled src area work (Err (x, l)) area₁ work₁ e a b c d =
+    absurd (number_of-some x (rw (a, b, c, d) at (compile-refusal src area work (Err (x, l)) area₁ work₁ e)))
 
-module _ (src area work area₁ work₁ : List ℕ) (n : ℕ) (e : Compiles src area work (compiled.Done n) area₁ work₁) where
+module _ (src area work area₁ work₁ : List ℕ) (n : ℕ) (e : Compiles src area work (Ok n) area₁ work₁) where
   -- it is accepted, by every operation on tables
   pub compiled-accepted : accepted area₁ ≡ true
   compiled-accepted = compile-accepted src area work area₁ work₁ n e
@@ -62,7 +62,7 @@ module _ (src area work area₁ work₁ : List ℕ) (n : ℕ) (e : Compiles src 
   compiled-weights = accepted-weights area₁ compiled-accepted
 
   -- `check` of what was left tells the source's levels and items, and the size that `compile` told
-  pub compiled-checks : (r : Verdict) → Checks area₁ r
+  pub compiled-checks : (r : Result Shape Refusal) → Checks area₁ r
       → checked_as r ≡ record { refusal = 0; levels = length (source_meaning src).rules; items = length (source_meaning src).items; size = n }
   unfolding check_call
   compiled-checks r f =

@@ -1,4 +1,5 @@
 -- 02, K2: what `directory` leaves in the list. "Each topic gets exactly one heading", and "heading 0 .. always exists, so the page always has a top".
+use Rattle.std.specs.Prelude.{Err, Ok, Result}
 use mathlib.Core.Path.{◌≡◌, refl, sym, ap, ◌∙◌}
 use mathlib.Core.Bool.{true, ◌&&◌}
 use mathlib.Core.List.{List, [], map}
@@ -19,14 +20,12 @@ use Rattle.rules.proofs.DirectoryLaws.{Above, heading-none, heading-before, head
 use Rattle.base_units.specs.Numbers.{sign_of}
 use Rattle.base_units.proofs.NumberLaws.{number_of-some}
 use Rattle.order_compare.specs.declared.Answer.{Answer}
-use Rattle.order_compare.specs.declared.Comparison.TheVariants as comparison
-use Rattle.order_directory.specs.declared.Directed.{Directed}
-use Rattle.order_directory.specs.declared.Directed.TheVariants as directed
 use Rattle.order_directory.proofs.HeadingLaws.{get_d_map, weight-there, weights-many}
 use Rattle.demands.specs.Answered.{Compares, Directs, first_given}
 use Rattle.demands.proofs.InOrder.{directory-refusal}
 use Rattle.demands.proofs.Untouched.{past-over}
 use Rattle.demands.proofs.OneOrder.{compare-is-rule, sign-of}
+use Rattle.base_units.specs.declared.Refusal.{Refusal}
 
 -- ## The list
 
@@ -43,7 +42,7 @@ pub record Lists (t run headings topics list list₁ : List ℕ) : Type 0 where
 refusal-in : {x y : calls.Directed} → x ≡ y → x.refusal ≡ y.refusal
 refusal-in e = ap (λ (d : calls.Directed). d.refusal) e
 
-pub directory-lists : (t run headings topics list list₁ : List ℕ) → Directs t run headings topics list directed.Done list₁
+pub directory-lists : (t run headings topics list list₁ : List ℕ) → Directs t run headings topics list (Ok tt) list₁
     → Lists t run headings topics list list₁
 unfolding directory_call directory_of directed_as
 directory-lists t run headings topics list list₁ e =
@@ -70,16 +69,16 @@ directory-lists t run headings topics list list₁ e =
     (λ a. let k = refusal-in (rw a at e) in absurd (omega arith))
 
 -- a page with no fault gets its list
-pub all_listed : (t run headings topics list list₁ : List ℕ) (r : Directed) → Directs t run headings topics list r list₁ → accepted t ≡ true
+pub all_listed : (t run headings topics list list₁ : List ℕ) (r : Result Unit Refusal) → Directs t run headings topics list r list₁ → accepted t ≡ true
     → plain_first (meaning_in t).rules ≡ true → parts_fit run (parts_of headings) ≡ true → parts_fit run (parts_of topics) ≡ true
     → every (good_part run) (parts_of headings) ≡ true → every (good_part run) (parts_of topics) ≡ true
-    → good_headings (weights_of t run headings) ≡ true → leb (length (parts_of topics)) (length list) ≡ true → r ≡ directed.Done
+    → good_headings (weights_of t run headings) ≡ true → leb (length (parts_of topics)) (length list) ≡ true → r ≡ (Ok tt)
 unfolding first_given
-all_listed t run headings topics list list₁ directed.Done e a b c d f g h i = refl
-all_listed t run headings topics list list₁ (directed.Refused x) e a b c d f g h i =
-    absurd (number_of-some x (rw (a, b, c, d, f, g, h, i) at (directory-refusal t run headings topics list (directed.Refused x) list₁ e)))
+all_listed t run headings topics list list₁ (Ok tt) e a b c d f g h i = refl
+all_listed t run headings topics list list₁ (Err x) e a b c d f g h i =
+    absurd (number_of-some x (rw (a, b, c, d, f, g, h, i) at (directory-refusal t run headings topics list (Err x) list₁ e)))
 
-module _ (t run headings topics list list₁ : List ℕ) (e : Directs t run headings topics list directed.Done list₁) where
+module _ (t run headings topics list list₁ : List ℕ) (e : Directs t run headings topics list (Ok tt) list₁) where
   lists : Lists t run headings topics list list₁
   lists = directory-lists t run headings topics list list₁ e
 
@@ -157,7 +156,7 @@ module _ (t run headings topics list list₁ : List ℕ) (e : Directs t run head
 
   -- of two topics of which the first does not come after the second by `compare`, the first gets no later heading
   pub page-rises : (i j : ℕ) (d : Answer) → i < length (parts_of topics) → j < length (parts_of topics)
-      → Compares t (string_of run (part_at topics i)) (string_of run (part_at topics j)) (comparison.Decided d) → ¬ (sign_of d.sign ≡ greater)
+      → Compares t (string_of run (part_at topics i)) (string_of run (part_at topics j)) (Ok d) → ¬ (sign_of d.sign ≡ greater)
       → get_or list₁ i 0 ≤ get_or list₁ j 0
   unfolding part_weight
   page-rises i j d h k c g =

@@ -1,4 +1,5 @@
 -- The loop over the lines of a block: its invariant, its turns, and its ends.
+use Rattle.std.specs.Prelude.{Err, Ok, Result, ℕ}
 use mathlib.Core.Path.{◌≡◌, refl, sym, ap, ◌∙◌, subst}
 use mathlib.Core.Bool.{Bool, true}
 use mathlib.Core.List.{List}
@@ -21,8 +22,6 @@ use Rattle.locale_sheet.specs.declared.Step.{Step}
 use Rattle.locale_sheet.specs.declared.Step.TheVariants as step
 use Rattle.locale_sheet.specs.Sheets.{Open, is_used, Every, Moves, NextIs, OpensIs, ClosesIs, BranchIs, RefusedIs, StepIs}
 use Rattle.locale_dispatch.specs.Steps.{LineAt}
-use Rattle.locale_category.specs.declared.Chained.{Chained}
-use Rattle.locale_category.specs.declared.Chained.TheVariants as chained
 use Rattle.locale_category.specs.Blocks.{SomeUsed, Starts, Reached, GoesOn, BranchRead, ClosedRead, RefusedRead, ChainBegins, ChainNext, ChainRefused, ChainedIs}
 use Rattle.locale_category.proofs.CharsLaws.{chars-kept}
 
@@ -40,6 +39,11 @@ run_moved g src w sh cs at n next k s t o m e =
     ∙ ap (λ (x : Scan). lines_from t (n + x.feeds) 0 (drop (at + x.size) src)) (line-there g src at n s p)
     ∙ ap (λ (x : ℕ). lines_from t (n + x) 0 (drop (end_of g src (line_start at)) src)) m.feeds
     ∙ ap (λ (x : ℕ). lines_from t (n + k) 0 (drop x src)) m.end
+
+-- ## An answer by what it holds
+
+pub answered : {A E : Type 0} {t : Result A E} {o x : A} → t ≡ Ok o → o ≡ x → t ≡ Ok x
+answered {A} {E} {t} e f = subst (λ (y : A). t ≡ Ok y) f e
 
 -- ## The invariant
 
@@ -74,8 +78,8 @@ module _ {g : Signs} {src w₀ : List ℕ} {sh : Sheet} {at number depth : ℕ} 
       let r = f o.chains o.state o.held o.deep v.some.used in
       record { some = record { chains = o.chains; state = r.0; held = r.1; deep = o.deep; room = r.1.known.holds.roomy.room; short = o.short }; used = v.some.used }
 
-  module _ (w' : List ℕ) (t : Step) (q : StepIs g src w s i n depth w' t) where
-    pub going_next : {x : Sheet} {next k : ℕ} → t ≡ step.Next x next k → length w' ≡ length w → Going g src w₀ sh at number depth w' x next (n + k)
+  module _ (w' : List ℕ) (t : Result Step Refusal) (q : StepIs g src w s i n depth w' t) where
+    pub going_next : {x : Sheet} {next k : ℕ} → t ≡ Ok (step.Next x next k) → length w' ≡ length w → Going g src w₀ sh at number depth w' x next (n + k)
     going_next {x} {next} {k} e long =
         let y : NextIs g src w s i n depth w' x next k = subst (StepIs g src w s i n depth w') e q in
         let m = y.moves in
@@ -93,22 +97,22 @@ module _ {g : Signs} {src w₀ : List ℕ} {sh : Sheet} {at number depth : ℕ} 
               };
         }
 
-    pub next_fits : {x : Sheet} {next k : ℕ} → t ≡ step.Next x next k → length src * 1 < 2 ^ 63 → n + k < 2 ^ 64
+    pub next_fits : {x : Sheet} {next k : ℕ} → t ≡ Ok (step.Next x next k) → length src * 1 < 2 ^ 63 → n + k < 2 ^ 64
     next_fits {x} {next} {k} e h =
         let y : NextIs g src w s i n depth w' x next k = subst (StepIs g src w s i n depth w') e q in
         let a = v.reached.few in let b = y.moves.few in let c = y.moves.to in omega (arith, a, b, c, h)
 
-    pub closes-fits : {next k : ℕ} → t ≡ step.Closes next k → length src * 1 < 2 ^ 63 → n + k < 2 ^ 64
+    pub closes-fits : {next k : ℕ} → t ≡ Ok (step.Closes next k) → length src * 1 < 2 ^ 63 → n + k < 2 ^ 64
     closes-fits {next} {k} e h =
         let y : ClosesIs g src w s i n depth w' next k = subst (StepIs g src w s i n depth w') e q in
         let a = v.reached.few in let b = y.moves.few in let c = y.moves.to in omega (arith, a, b, c, h)
 
-    pub next-less : {x : Sheet} {next k : ℕ} → t ≡ step.Next x next k → length src - next < length src - i
+    pub next-less : {x : Sheet} {next k : ℕ} → t ≡ Ok (step.Next x next k) → length src - next < length src - i
     next-less {x} {next} {k} e =
         let y : NextIs g src w s i n depth w' x next k = subst (StepIs g src w s i n depth w') e q in
         let a = y.moves.on in let b = y.moves.to in omega (arith, a, b)
 
-    pub going-refused : {r : Refusal} → i < length src → t ≡ step.Refused r → RefusedRead g src w₀ sh at number depth (number_of r) n
+    pub going-refused : {r : Refusal} → i < length src → t ≡ Err r → RefusedRead g src w₀ sh at number depth (number_of r) n
     going-refused {r} h e =
         let y : RefusedIs g src w s i n depth (number_of r) = subst (StepIs g src w s i n depth w') e q in
         record {
@@ -118,7 +122,7 @@ module _ {g : Signs} {src w₀ : List ℕ} {sh : Sheet} {at number depth : ℕ} 
               (y.refusal cs a.after a.held d u) (number_of-some r));
         }
 
-    pub going-branch : i < length src → t ≡ step.Branch → BranchRead g src w₀ sh at number depth w' s i n
+    pub going-branch : i < length src → t ≡ (Ok step.Branch) → BranchRead g src w₀ sh at number depth w' s i n
     going-branch h e =
         let y : BranchIs g src w i w' = subst (StepIs g src w s i n depth w') e q in
         record {
@@ -129,7 +133,7 @@ module _ {g : Signs} {src w₀ : List ℕ} {sh : Sheet} {at number depth : ℕ} 
               record { after = a.after; run = a.run; held = subst (λ (z : List ℕ). Open g src z s cs i a.after) (sym y.same) a.held; chars = a.chars };
         }
 
-    pub going-closes : {next k : ℕ} → t ≡ step.Closes next k → ClosedRead g src w₀ sh at number depth w' s next (n + k)
+    pub going-closes : {next k : ℕ} → t ≡ Ok (step.Closes next k) → ClosedRead g src w₀ sh at number depth w' s next (n + k)
     going-closes {next} {k} e =
         let y : ClosesIs g src w s i n depth w' next k = subst (StepIs g src w s i n depth w') e q in
         let m = y.moves in
@@ -148,7 +152,7 @@ module _ {g : Signs} {src w₀ : List ℕ} {sh : Sheet} {at number depth : ℕ} 
               };
         }
 
-    module _ {holds : Bool} {x : Sheet} {next k : ℕ} (e : t ≡ step.Opens holds x next k) where
+    module _ {holds : Bool} {x : Sheet} {next k : ℕ} (e : t ≡ Ok (step.Opens holds x next k)) where
       opens : OpensIs g src w s i n depth w' holds x next k
       opens = subst (StepIs g src w s i n depth w') e q
 
@@ -167,8 +171,8 @@ module _ {g : Signs} {src w₀ : List ℕ} {sh : Sheet} {at number depth : ℕ} 
       pub opens-fits : length src * 1 < 2 ^ 63 → n + k < 2 ^ 64
       opens-fits h = let a = v.reached.few in let b = opens.moves.few in let c = opens.moves.to in omega (arith, a, b, c, h)
 
-      module _ (w'' : List ℕ) (c : Chained) (z : ChainedIs g src w' x next (n + k) depth holds w'' c) where
-        pub going-chain : {y : Sheet} {j m : ℕ} → c ≡ chained.Next y j m → length w'' ≡ length w' → length w' ≡ length w → Going g src w₀ sh at number depth w'' y j m
+      module _ (w'' : List ℕ) (c : Result (Sheet × ℕ × ℕ) (Refusal × ℕ)) (z : ChainedIs g src w' x next (n + k) depth holds w'' c) where
+        pub going-chain : {y : Sheet} {j m : ℕ} → c ≡ Ok (y, j, m) → length w'' ≡ length w' → length w' ≡ length w → Going g src w₀ sh at number depth w'' y j m
         going-chain {y} {j} {m} f long' long =
             let u : ChainNext g src w' x next (n + k) depth holds w'' y j m = subst (ChainedIs g src w' x next (n + k) depth holds w'') f z in
             let r = v.reached in
@@ -188,12 +192,12 @@ module _ {g : Signs} {src w₀ : List ℕ} {sh : Sheet} {at number depth : ℕ} 
                   };
             }
 
-        pub chain-less : {y : Sheet} {j m : ℕ} → c ≡ chained.Next y j m → length src - j < length src - i
+        pub chain-less : {y : Sheet} {j m : ℕ} → c ≡ Ok (y, j, m) → length src - j < length src - i
         chain-less {y} {j} {m} f =
             let u : ChainNext g src w' x next (n + k) depth holds w'' y j m = subst (ChainedIs g src w' x next (n + k) depth holds w'') f z in
             let a = opens.moves.on in let b = u.reached.from in let d = u.reached.to in omega (arith, a, b, d)
 
-        pub going-chain-refused : {r : Refusal} {l : ℕ} → c ≡ chained.Refused r l → RefusedRead g src w₀ sh at number depth (number_of r) l
+        pub going-chain-refused : {r : Refusal} {l : ℕ} → c ≡ Err (r, l) → RefusedRead g src w₀ sh at number depth (number_of r) l
         going-chain-refused {r} {l} f =
             let u : ChainRefused g src w' x next (n + k) depth holds (number_of r) l = subst (ChainedIs g src w' x next (n + k) depth holds w'') f z in
             record {

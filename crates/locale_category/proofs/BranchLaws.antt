@@ -1,4 +1,5 @@
 -- The end of a branch of a chain: of one that is read, and of one that is passed over.
+use Rattle.std.specs.Prelude.{Err, Ok, Result, ℕ}
 use mathlib.Core.Path.{◌≡◌, refl, ◌∙◌, subst}
 use mathlib.Core.Bool.{Bool, true, false}
 use mathlib.Core.List.{List, ◌∷◌}
@@ -11,8 +12,6 @@ use Rattle.base_units.specs.declared.Refusal.{Refusal}
 use Rattle.base_units.specs.Numbers.{number_of}
 use Rattle.text_lines.specs.declared.Signs.{Signs}
 use Rattle.text_lines.specs.Stream.{line_start, marks_left}
-use Rattle.locale_skips.specs.declared.Skip.{Skip}
-use Rattle.locale_skips.specs.declared.Skip.TheVariants as skip
 use Rattle.locale_skips.specs.Passing.{Begins, Unused, BranchStops, BranchRefused, BranchIs}
 use Rattle.locale_skips.proofs.BranchLaws.{unused-chain}
 use Rattle.locale_sheet.specs.declared.Sheet.{Sheet}
@@ -45,18 +44,18 @@ module _ {g : Signs} {src w : List ℕ} {sh : Sheet} {at number depth : ℕ} {us
   pub used-some : used ≡ true → SomeUsed g src w sh at (depth + 1)
   used-some u = record { used = u; some = used-open }
 
-  module _ (w' : List ℕ) (r : Read) (q : ReadIs g src w sh at number (depth + 1) w' r) (u : used ≡ true) where
-    pub used-refused : {c : Refusal} {l : ℕ} → r ≡ read.Refused c l → EndRefused g src w sh at number depth used (number_of c) l
+  module _ (w' : List ℕ) (r : Result Read (Refusal × ℕ)) (q : ReadIs g src w sh at number (depth + 1) w' r) (u : used ≡ true) where
+    pub used-refused : {c : Refusal} {l : ℕ} → r ≡ Err (c, l) → EndRefused g src w sh at number depth used (number_of c) l
     used-refused {c} {l} e =
         let y : RefusedRead g src w sh at number (depth + 1) (number_of c) l = subst (ReadIs g src w sh at number (depth + 1) w') e q in
         record { runs = λ t k cs s o d. y.runs (chain t used k ∷ cs) s o (let z = d in omega (arith, z)) u }
 
-    pub used-closed : {x : Sheet} {j m c l : ℕ} → r ≡ read.Closed x j m → EndRefused g src w sh at number depth used c l
+    pub used-closed : {x : Sheet} {j m c l : ℕ} → r ≡ Ok (read.Closed x j m) → EndRefused g src w sh at number depth used c l
     used-closed {x} {j} {m} e =
         let y : ClosedRead g src w sh at number (depth + 1) w' x j m = subst (ReadIs g src w sh at number (depth + 1) w') e q in
         absurd (let z = y.outside in omega (arith, z))
 
-    pub used-branch : {x : Sheet} {j m : ℕ} → r ≡ read.Branch x j m → EndedAt g src w sh at number depth used w' x j m
+    pub used-branch : {x : Sheet} {j m : ℕ} → r ≡ Ok (read.Branch x j m) → EndedAt g src w sh at number depth used w' x j m
     used-branch {x} {j} {m} e =
         let y : BranchRead g src w sh at number (depth + 1) w' x j m = subst (ReadIs g src w sh at number (depth + 1) w') e q in
         record {
@@ -73,13 +72,13 @@ module _ {g : Signs} {src w : List ℕ} {sh : Sheet} {at number depth : ℕ} {us
   unused i t k cs s n o d =
       unused-chain g (depth + 1) s t k cs o.comment o.escape o.inside o.inner (o.chains ∙ rw n) (omega (arith, d))
 
-  module _ (p : Skip) (q : BranchIs g src at number (depth + 1) p) (u : used ≡ false) where
-    pub passed-refused : {c : Refusal} {l : ℕ} → p ≡ skip.Refused c l → EndRefused g src w sh at number depth used (number_of c) l
+  module _ (p : Result (ℕ × ℕ) (Refusal × ℕ)) (q : BranchIs g src at number (depth + 1) p) (u : used ≡ false) where
+    pub passed-refused : {c : Refusal} {l : ℕ} → p ≡ Err (c, l) → EndRefused g src w sh at number depth used (number_of c) l
     passed-refused {c} {l} e =
         let y : BranchRefused g src at number (depth + 1) (number_of c) l = subst (BranchIs g src at number (depth + 1)) e q in
         record { runs = λ t k cs s o d. y.run s (unused at t k cs s u o d) }
 
-    pub passed-stop : {j m : ℕ} → p ≡ skip.Stop j m → EndedAt g src w sh at number depth used w sh j m
+    pub passed-stop : {j m : ℕ} → p ≡ Ok (j, m) → EndedAt g src w sh at number depth used w sh j m
     passed-stop {j} {m} e =
         let y : BranchStops g src at number (depth + 1) j m = subst (BranchIs g src at number (depth + 1)) e q in
         let f = y.from in

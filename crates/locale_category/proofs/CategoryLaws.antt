@@ -1,4 +1,5 @@
 -- All lines of LC_COLLATE: what is held before the first, and the ends of the block that they are.
+use Rattle.std.specs.Prelude.{Err, Ok, Result}
 use mathlib.Core.Path.{◌≡◌, refl, sym, ap, ◌∙◌, subst}
 use mathlib.Core.Bool.{true, false, false≢true}
 use mathlib.Core.List.{List, []}
@@ -98,18 +99,18 @@ module _ {src w : List ℕ} {at number : ℕ} (v : Ready src w at number) (g : S
 
     -- ## The ends of the block
 
-    module _ (w' : List ℕ) {r : Read} (q : ReadIs g src w sh at number 0 w' r) where
-      pub category-closed : {x : Sheet} {next n : ℕ} → r ≡ read.Closed x next n → ClosedAt g src at number w' x next n
+    module _ (w' : List ℕ) {r : Result Read (Refusal × ℕ)} (q : ReadIs g src w sh at number 0 w' r) where
+      pub category-closed : {x : Sheet} {next n : ℕ} → r ≡ Ok (read.Closed x next n) → ClosedAt g src at number w' x next n
       category-closed {x} {next} {n} f =
           let y : ClosedRead g src w sh at number 0 w' x next n = subst (ReadIs g src w sh at number 0 w') f q in
           record { reached = y.reached; behind = y.behind; runs = λ s b. y.runs [] s (held s b) refl refl }
 
-      pub category-refused : {c : Refusal} {l : ℕ} → r ≡ read.Refused c l → RefusedAt g src at number (number_of c) l
+      pub category-refused : {c : Refusal} {l : ℕ} → r ≡ Err (c, l) → RefusedAt g src at number (number_of c) l
       category-refused {c} {l} f =
           let y : RefusedRead g src w sh at number 0 (number_of c) l = subst (ReadIs g src w sh at number 0 w') f q in
           record { runs = λ s b. y.runs [] s (held s b) refl refl }
 
-      module _ {x : Sheet} {i n : ℕ} (f : r ≡ read.Branch x i n) where
+      module _ {x : Sheet} {i n : ℕ} (f : r ≡ Ok (read.Branch x i n)) where
         there : BranchRead g src w sh at number 0 w' x i n
         there = subst (ReadIs g src w sh at number 0 w') f q
 

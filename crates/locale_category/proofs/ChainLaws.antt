@@ -1,4 +1,5 @@
 -- The loop over the branches of a chain: its invariant, its turns, and its ends.
+use Rattle.std.specs.Prelude.{Err, Ok, Result, ℕ}
 use mathlib.Core.Path.{◌≡◌, refl, ap, ◌∙◌, subst}
 use mathlib.Core.Bool.{Bool, false}
 use mathlib.Core.List.{List, ◌∷◌}
@@ -15,8 +16,6 @@ use Rattle.text_lines.specs.Stream.{line_start, marks_left}
 use Rattle.locale_skips.proofs.LineRuns.{collate-signs, run-refuses, refuses-from}
 use Rattle.locale_sheet.specs.declared.Sheet.{Sheet}
 use Rattle.locale_sheet.specs.Sheets.{Open}
-use Rattle.locale_category.specs.declared.Ended.{Ended}
-use Rattle.locale_category.specs.declared.Ended.TheVariants as ended
 use Rattle.locale_conditionals.specs.declared.Turn.{Turn}
 use Rattle.locale_conditionals.specs.declared.Turn.TheVariants as turn
 use Rattle.locale_conditionals.specs.Turns.{MayTurn, GoesIs, EndsIs, TurnRefused, TurnIs}
@@ -72,13 +71,13 @@ module _ {g : Signs} {src w₀ : List ℕ} {sh : Sheet} {at number depth : ℕ} 
   pub chaining-long : length w ≡ length w₀
   chaining-long = v.long
 
-  module _ (w' : List ℕ) (e : Ended) (q : EndedIs g src w s i n depth used w' e) where
-    pub chain-refused : {r : Refusal} {l : ℕ} → e ≡ ended.Refused r l → ChainRefused g src w₀ sh at number depth holds (number_of r) l
+  module _ (w' : List ℕ) (e : Result (Sheet × ℕ × ℕ) (Refusal × ℕ)) (q : EndedIs g src w s i n depth used w' e) where
+    pub chain-refused : {r : Refusal} {l : ℕ} → e ≡ Err (r, l) → ChainRefused g src w₀ sh at number depth holds (number_of r) l
     chain-refused {r} {l} f =
         let y : EndRefused g src w s i n depth used (number_of r) l = subst (EndedIs g src w s i n depth used w') f q in
         record { runs = λ cs t o d. let a = v.runs cs t o d in refuses-from a.run (y.runs taken closed cs a.after a.held d) }
 
-    module _ {x : Sheet} {j m : ℕ} (f : e ≡ ended.At x j m) where
+    module _ {x : Sheet} {j m : ℕ} (f : e ≡ Ok (x, j, m)) where
       there : EndedAt g src w s i n depth used w' x j m
       there = subst (EndedIs g src w s i n depth used w') f q
 
@@ -99,8 +98,8 @@ module _ {g : Signs} {src w₀ : List ℕ} {sh : Sheet} {at number depth : ℕ} 
           let b = there.runs taken closed cs a.after a.held d in
           record { after = b.after; run = a.run ∙ b.run; held = b.held; chars = b.chars ∙ a.chars }
 
-      module _ (w'' : List ℕ) (t : Turn) (z : TurnIs g src w' x j m taken closed w'' t) where
-        pub turn-refused : {r : Refusal} → t ≡ turn.Refused r → ChainRefused g src w₀ sh at number depth holds (number_of r) m
+      module _ (w'' : List ℕ) (t : Result Turn Refusal) (z : TurnIs g src w' x j m taken closed w'' t) where
+        pub turn-refused : {r : Refusal} → t ≡ Err r → ChainRefused g src w₀ sh at number depth holds (number_of r) m
         turn-refused {r} h =
             let y : TurnRefused g src w' x j m taken closed (number_of r) = subst (TurnIs g src w' x j m taken closed w'') h z in
             record {
@@ -111,7 +110,7 @@ module _ {g : Signs} {src w₀ : List ℕ} {sh : Sheet} {at number depth : ℕ} 
                   (number_of-some r));
             }
 
-        pub turn-ends : {y : Sheet} {next k : ℕ} → t ≡ turn.Ends y next k → ChainNext g src w₀ sh at number depth holds w'' y next (m + k)
+        pub turn-ends : {y : Sheet} {next k : ℕ} → t ≡ Ok (turn.Ends y next k) → ChainNext g src w₀ sh at number depth holds w'' y next (m + k)
         turn-ends {y} {next} {k} h =
             let u : EndsIs g src w' x j m taken closed w'' y next k = subst (TurnIs g src w' x j m taken closed w'') h z in
             let r = v.reached in
@@ -130,12 +129,12 @@ module _ {g : Signs} {src w₀ : List ℕ} {sh : Sheet} {at number depth : ℕ} 
                   };
             }
 
-        pub ends-fits : {y : Sheet} {next k : ℕ} → t ≡ turn.Ends y next k → m + k < 2 ^ 64
+        pub ends-fits : {y : Sheet} {next k : ℕ} → t ≡ Ok (turn.Ends y next k) → m + k < 2 ^ 64
         ends-fits {y} {next} {k} e =
             let u : EndsIs g src w' x j m taken closed w'' y next k = subst (TurnIs g src w' x j m taken closed w'') e z in
             let a = there.reached.few in let b = u.moves.few in let c = u.moves.to in let h = v.short in omega (arith, a, b, c, h)
 
-        module _ {a' b' c' : Bool} {y : Sheet} {next k : ℕ} (h : t ≡ turn.Goes a' b' c' y next k) where
+        module _ {a' b' c' : Bool} {y : Sheet} {next k : ℕ} (h : t ≡ Ok (turn.Goes a' b' c' y next k)) where
           goes : GoesIs g src w' x j m taken closed w'' a' b' c' y next k
           goes = subst (TurnIs g src w' x j m taken closed w'') h z
 

@@ -1,5 +1,5 @@
 -- The lines of a block and of a chain: where they end, and that the paper's run goes on there with the state that is held.
-use Rattle.std.specs.Prelude.{◌≡◌, Bool, true, false, List, ◌∷◌, ℕ, ◌+◌, ◌≤◌, ◌<◌, length, drop, eqb}
+use Rattle.std.specs.Prelude.{◌≡◌, Bool, true, false, List, ◌∷◌, ℕ, ◌+◌, ◌≤◌, ◌<◌, length, drop, eqb, Err, Ok, Result}
 use Rattle.rules.specs.State.{before_order, between_categories, Chain, State, to_phase}
 use Rattle.rules.specs.Conditionals.{chain}
 use Rattle.rules.specs.Source.{whole_line, line_outcome, lines_from}
@@ -12,10 +12,7 @@ use Rattle.locale_sheet.specs.Sheets.{Open, SomeOpen, is_used, Every}
 use Rattle.locale_sheet.specs.Words.{TurnLine}
 use Rattle.locale_category.specs.declared.Read.{Read}
 use Rattle.locale_category.specs.declared.Read.TheVariants as read
-use Rattle.locale_category.specs.declared.Chained.{Chained}
-use Rattle.locale_category.specs.declared.Chained.TheVariants as chained
-use Rattle.locale_category.specs.declared.Ended.{Ended}
-use Rattle.locale_category.specs.declared.Ended.TheVariants as ended
+use Rattle.base_units.specs.declared.Refusal.{Refusal}
 
 -- The next line would begin at a place, with this number.
 pub record Starts (src : List ℕ) (at number : ℕ) : Type 0 where
@@ -65,10 +62,10 @@ pub record ClosedRead (g : Signs) (src w : List ℕ) (sh : Sheet) (at number dep
 pub record RefusedRead (g : Signs) (src w : List ℕ) (sh : Sheet) (at number depth r l : ℕ) : Type 0 where
   pub runs : Every g src w sh at depth (λ (cs : List Chain) (s : State). Refuses (lines_from s number 0 (drop at src)) r l)
 
-abbrev pub ReadIs : Signs → List ℕ → List ℕ → Sheet → ℕ → ℕ → ℕ → List ℕ → Read → Type 0
-ReadIs g src w sh at number depth w' (read.Branch sh' next n) = BranchRead g src w sh at number depth w' sh' next n
-ReadIs g src w sh at number depth w' (read.Closed sh' next n) = ClosedRead g src w sh at number depth w' sh' next n
-ReadIs g src w sh at number depth w' (read.Refused r l) = RefusedRead g src w sh at number depth (number_of r) l
+abbrev pub ReadIs : Signs → List ℕ → List ℕ → Sheet → ℕ → ℕ → ℕ → List ℕ → Result Read (Refusal × ℕ) → Type 0
+ReadIs g src w sh at number depth w' (Ok (read.Branch sh' next n)) = BranchRead g src w sh at number depth w' sh' next n
+ReadIs g src w sh at number depth w' (Ok (read.Closed sh' next n)) = ClosedRead g src w sh at number depth w' sh' next n
+ReadIs g src w sh at number depth w' (Err (r, l)) = RefusedRead g src w sh at number depth (number_of r) l
 
 -- ## A chain
 
@@ -102,9 +99,9 @@ pub record EndedAt (g : Signs) (src w : List ℕ) (sh : Sheet) (at number depth 
 pub record EndRefused (g : Signs) (src w : List ℕ) (sh : Sheet) (at number depth : ℕ) (used : Bool) (r l : ℕ) : Type 0 where
   pub runs : (taken closed : Bool) → EveryIn g src w sh at depth taken used closed (λ (cs : List Chain) (s : State). Refuses (lines_from s number 0 (drop at src)) r l)
 
-abbrev pub EndedIs : Signs → List ℕ → List ℕ → Sheet → ℕ → ℕ → ℕ → Bool → List ℕ → Ended → Type 0
-EndedIs g src w sh at number depth used w' (ended.At sh' next n) = EndedAt g src w sh at number depth used w' sh' next n
-EndedIs g src w sh at number depth used w' (ended.Refused r l) = EndRefused g src w sh at number depth used (number_of r) l
+abbrev pub EndedIs : Signs → List ℕ → List ℕ → Sheet → ℕ → ℕ → ℕ → Bool → List ℕ → Result (Sheet × ℕ × ℕ) (Refusal × ℕ) → Type 0
+EndedIs g src w sh at number depth used w' (Ok (sh', next, n)) = EndedAt g src w sh at number depth used w' sh' next n
+EndedIs g src w sh at number depth used w' (Err (r, l)) = EndRefused g src w sh at number depth used (number_of r) l
 
 -- Some state is held with a chain just opened.
 pub record ChainBegins (g : Signs) (src w : List ℕ) (sh : Sheet) (at number depth : ℕ) (holds : Bool) : Type 0 where
@@ -124,6 +121,6 @@ pub record ChainNext (g : Signs) (src w : List ℕ) (sh : Sheet) (at number dept
 pub record ChainRefused (g : Signs) (src w : List ℕ) (sh : Sheet) (at number depth : ℕ) (holds : Bool) (r l : ℕ) : Type 0 where
   pub runs : EveryIn g src w sh at depth holds holds false (λ (cs : List Chain) (s : State). Refuses (lines_from s number 0 (drop at src)) r l)
 
-abbrev pub ChainedIs : Signs → List ℕ → List ℕ → Sheet → ℕ → ℕ → ℕ → Bool → List ℕ → Chained → Type 0
-ChainedIs g src w sh at number depth holds w' (chained.Next sh' next n) = ChainNext g src w sh at number depth holds w' sh' next n
-ChainedIs g src w sh at number depth holds w' (chained.Refused r l) = ChainRefused g src w sh at number depth holds (number_of r) l
+abbrev pub ChainedIs : Signs → List ℕ → List ℕ → Sheet → ℕ → ℕ → ℕ → Bool → List ℕ → Result (Sheet × ℕ × ℕ) (Refusal × ℕ) → Type 0
+ChainedIs g src w sh at number depth holds w' (Ok (sh', next, n)) = ChainNext g src w sh at number depth holds w' sh' next n
+ChainedIs g src w sh at number depth holds w' (Err (r, l)) = ChainRefused g src w sh at number depth holds (number_of r) l

@@ -1,5 +1,5 @@
 -- All lines of LC_COLLATE, from the line after the one that opens it: where they end, and that the paper's run goes on there.
-use Rattle.std.specs.Prelude.{◌≡◌, true, false, List, [], ℕ, length, drop, replicate, eqb}
+use Rattle.std.specs.Prelude.{◌≡◌, true, false, List, [], ℕ, length, drop, replicate, eqb, Err, Ok, Result}
 use Rattle.rules.specs.Text.{every, ◌unless◌, lower}
 use Rattle.rules.specs.Tokens.{is_text}
 use Rattle.rules.specs.State.{before_order, State, start}
@@ -11,8 +11,7 @@ use Rattle.locale_skips.specs.Passing.{Refuses}
 use Rattle.work_store.specs.Store.{Roomy}
 use Rattle.locale_sheet.specs.declared.Sheet.{Sheet}
 use Rattle.locale_category.specs.Blocks.{Starts, Reached, GoesOut}
-use Rattle.locale_category.specs.declared.Category.{Category}
-use Rattle.locale_category.specs.declared.Category.TheVariants as category
+use Rattle.base_units.specs.declared.Refusal.{Refusal}
 
 -- the sheet before the first line
 abbrev pub first_sheet : Sheet
@@ -55,6 +54,6 @@ pub record ClosedAt (g : Signs) (src : List ℕ) (at number : ℕ) (w' : List �
 pub record RefusedAt (g : Signs) (src : List ℕ) (at number r l : ℕ) : Type 0 where
   pub runs : (s : State) → Begun g s → Refuses (lines_from s number 0 (drop at src)) r l
 
-abbrev pub CategoryIs : Signs → List ℕ → ℕ → ℕ → List ℕ → Category → Type 0
-CategoryIs g src at number w' (category.Closed sh next n) = ClosedAt g src at number w' sh next n
-CategoryIs g src at number w' (category.Refused r l) = RefusedAt g src at number (number_of r) l
+abbrev pub CategoryIs : Signs → List ℕ → ℕ → ℕ → List ℕ → Result (Sheet × ℕ × ℕ) (Refusal × ℕ) → Type 0
+CategoryIs g src at number w' (Ok (sh, next, n)) = ClosedAt g src at number w' sh next n
+CategoryIs g src at number w' (Err (r, l)) = RefusedAt g src at number (number_of r) l

@@ -11,7 +11,7 @@ use locale_conditionals::{Turn, branch_line};
 use locale_dispatch::line_step;
 use locale_opening::malformed;
 use locale_sheet::{BEFORE_ORDER, Block, Sheet, Step};
-use locale_skips::{Skip, skip_branch};
+use locale_skips::skip_branch;
 use text_lines::{IN_PLAIN, Signs, Spot, line_end};
 use work_order::Order;
 
@@ -22,22 +22,6 @@ pub enum Read {
     Branch(Sheet, usize, usize),
     // after END LC_COLLATE: the sheet before it, and the place and the number of the line after it
     Closed(Sheet, usize, usize),
-    // a refusal, and its line
-    Refused(Refusal, usize),
-}
-
-// Where a branch ends: at a line of its chain, or at a refusal.
-#[derive(Clone, Copy)]
-pub enum Ended {
-    At(Sheet, usize, usize),
-    Refused(Refusal, usize),
-}
-
-// Where a chain ends: after its endif, or at a refusal.
-#[derive(Clone, Copy)]
-pub enum Chained {
-    Next(Sheet, usize, usize),
-    Refused(Refusal, usize),
 }
 
 // The lines of a block, from a place on: to a line of the chain that it stands in, to END LC_COLLATE, or to a refusal.
@@ -50,7 +34,7 @@ fn block(
     at: usize,
     number: usize,
     depth: usize,
-) -> Read
+) -> Result<Read, (Refusal, usize)>
     requires { SomeUsed g src.now work.old sh at depth × Starts src.now at number }
     ensures { ReadIs g src.now work.old sh at number depth work.new result }
 {
@@ -58,30 +42,24 @@ fn block(
     let mut i = at;
     let mut n = number;
     while i < src.len() {
-        let t = line_step(src, g, work, s, i, n, depth);
-        match t {
-            Step::Refused(r) => return Read::Refused(r, n),
-            Step::Branch => return Read::Branch(s, i, n),
-            Step::Closes(next, k) => return Read::Closed(s, next, n + k),
-            Step::Next(x, next, k) => {
+        match line_step(src, g, work, s, i, n, depth) {
+            Err(r) => return Err((r, n)),
+            Ok(Step::Branch) => return Ok(Read::Branch(s, i, n)),
+            Ok(Step::Closes(next, k)) => return Ok(Read::Closed(s, next, n + k)),
+            Ok(Step::Next(x, next, k)) => {
                 s = x;
                 i = next;
                 n += k;
             }
-            Step::Opens(holds, x, next, k) => {
-                let c = chain(src, g, work, x, next, n + k, depth, holds);
-                match c {
-                    Chained::Refused(r, l) => return Read::Refused(r, l),
-                    Chained::Next(y, j, m) => {
-                        s = y;
-                        i = j;
-                        n = m;
-                    }
-                }
+            Ok(Step::Opens(holds, x, next, k)) => {
+                let (y, j, m) = chain(src, g, work, x, next, n + k, depth, holds)?;
+                s = y;
+                i = j;
+                n = m;
             }
         }
     }
-    Read::Refused(Refusal::Malformed, n)
+    Err((Refusal::Malformed, n))
 }
 
 // The end of the present branch of a chain: a used one is read, another one passed over.
@@ -95,22 +73,19 @@ fn branch_end(
     number: usize,
     depth: usize,
     used: bool,
-) -> Ended
+) -> Result<(Sheet, usize, usize), (Refusal, usize)>
     requires { InBranch g src.now work.old sh at number depth used }
     ensures { EndedIs g src.now work.old sh at number depth used work.new result }
 {
     if used {
-        let b = block(src, g, work, sh, at, number, depth + 1);
-        match b {
-            Read::Refused(r, l) => return Ended::Refused(r, l),
-            Read::Closed(_, _, m) => return Ended::Refused(Refusal::Malformed, m),
-            Read::Branch(x, j, m) => return Ended::At(x, j, m),
+        match block(src, g, work, sh, at, number, depth + 1)? {
+            // LC_COLLATE ends in no chain
+            Read::Closed(_, _, m) => Err((Refusal::Malformed, m)),
+            Read::Branch(x, j, m) => Ok((x, j, m)),
         }
-    }
-    let b = skip_branch(src, g, at, number, depth + 1);
-    match b {
-        Skip::Refused(r, l) => return Ended::Refused(r, l),
-        Skip::Stop(j, m) => return Ended::At(sh, j, m),
+    } else {
+        let (j, m) = skip_branch(src, g, at, number, depth + 1)?;
+        Ok((sh, j, m))
     }
 }
 
@@ -125,7 +100,7 @@ fn chain(
     number: usize,
     depth: usize,
     holds: bool,
-) -> Chained
+) -> Result<(Sheet, usize, usize), (Refusal, usize)>
     requires { ChainBegins g src.now work.old sh at number depth holds }
     ensures { ChainedIs g src.now work.old sh at number depth holds work.new result }
 {
@@ -136,34 +111,20 @@ fn chain(
     let mut used = holds;
     let mut closed = false;
     loop {
-        let e = branch_end(src, g, work, s, i, n, depth, used);
-        match e {
-            Ended::Refused(r, l) => return Chained::Refused(r, l),
-            Ended::At(x, j, m) => {
-                let t = branch_line(src, g, work, x, j, m, taken, closed);
-                match t {
-                    Turn::Refused(r) => return Chained::Refused(r, m),
-                    Turn::Ends(y, next, k) => return Chained::Next(y, next, m + k),
-                    Turn::Goes(a, b, c, y, next, k) => {
-                        taken = a;
-                        used = b;
-                        closed = c;
-                        s = y;
-                        i = next;
-                        n = m + k;
-                    }
-                }
+        let (x, j, m) = branch_end(src, g, work, s, i, n, depth, used)?;
+        match branch_line(src, g, work, x, j, m, taken, closed) {
+            Err(r) => return Err((r, m)),
+            Ok(Turn::Ends(y, next, k)) => return Ok((y, next, m + k)),
+            Ok(Turn::Goes(a, b, c, y, next, k)) => {
+                taken = a;
+                used = b;
+                closed = c;
+                s = y;
+                i = next;
+                n = m + k;
             }
         }
     }
-}
-
-// Where LC_COLLATE ends: after END LC_COLLATE, with the sheet before it, and the place and the number of the line after it; or a refusal, and
-// its line.
-#[derive(Clone, Copy)]
-pub enum Category {
-    Closed(Sheet, usize, usize),
-    Refused(Refusal, usize),
 }
 
 // The sheet before the first line.
@@ -194,7 +155,7 @@ fn stray_refusal(src: &[u8], g: Signs, at: usize) -> Refusal
     ensures { number_of result ≡ stray_refusal g src.now at }
 {
     let p = Spot {
-        at: at,
+        at,
         mode: IN_PLAIN,
         fresh: true,
     };
@@ -203,15 +164,18 @@ fn stray_refusal(src: &[u8], g: Signs, at: usize) -> Refusal
 }
 
 // The lines from a place on, with an empty work area.
-pub fn category_lines(src: &[u8], g: Signs, work: &mut [u32], at: usize, number: usize) -> Category
+pub fn category_lines(
+    src: &[u8],
+    g: Signs,
+    work: &mut [u32],
+    at: usize,
+    number: usize,
+) -> Result<(Sheet, usize, usize), (Refusal, usize)>
     requires { Ready src.now work.old at number }
     ensures { CategoryIs g src.now at number work.new result }
 {
-    let sh = first_sheet();
-    let b = block(src, g, work, sh, at, number, 0);
-    match b {
-        Read::Closed(s, next, n) => return Category::Closed(s, next, n),
-        Read::Branch(_, i, n) => return Category::Refused(stray_refusal(src, g, i), n),
-        Read::Refused(r, l) => return Category::Refused(r, l),
+    match block(src, g, work, first_sheet(), at, number, 0)? {
+        Read::Closed(s, next, n) => Ok((s, next, n)),
+        Read::Branch(_, i, n) => Err((stray_refusal(src, g, i), n)),
     }
 }

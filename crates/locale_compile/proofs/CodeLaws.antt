@@ -1,4 +1,5 @@
 -- The laws of the definition (CompileLaws in rules) as laws of the code: of every area that `compile` leaves where it answers Done.
+use Rattle.std.specs.Prelude.{Ok}
 use mathlib.Core.Path.{◌≡◌, refl, ap, ◌∙◌}
 use mathlib.Core.Bool.{true, not, ◌&&◌}
 use mathlib.Core.List.{List, []}
@@ -19,7 +20,6 @@ use Rattle.rules.specs.Calls.{over, compiled_as, compile_call}
 use Rattle.rules.proofs.CompileLaws.{compile-good}
 use Rattle.rules.proofs.TableLaws.{stored-append, stored_back, stored-accepted}
 use Rattle.locale_compile.specs.Answers.{told_as}
-use Rattle.locale_compile.specs.declared.Compiled.TheVariants.{Done}
 
 -- The stored form of the meaning that the definition grants stands in front, and the rest is as it was.
 pub record Gives (src area work after : List ℕ) (size : ℕ) : Type 0 where
@@ -51,7 +51,7 @@ some-compile source area work =
 
 -- ## What stands in front
 
-module _ (src area work after cleaned : List ℕ) (size : ℕ) (e : told_as (Done size) after cleaned ≡ compile_call src area work) where
+module _ (src area work after cleaned : List ℕ) (size : ℕ) (e : told_as (Ok size) after cleaned ≡ compile_call src area work) where
   pub compile-gives : Gives src area work after size
   unfolding compile_call compiled_as
   compile-gives = go (compile_of src (length area) (length work)) refl

@@ -1,4 +1,5 @@
 -- The end of a source on the paper (Rattle.rules.specs.Compile): what the answer is after the lines, by what was found.
+use Rattle.std.specs.Prelude.{Err, Ok}
 use mathlib.Core.Path.{◌≡◌, sym, ap, ◌∙◌}
 use mathlib.Core.Bool.{true, false}
 use mathlib.Core.List.{List, []}
@@ -17,7 +18,6 @@ use Rattle.rules.proofs.CompileLaws.{finish-line, compile-good}
 use Rattle.base_units.specs.Numbers.{number_of}
 use Rattle.base_units.specs.declared.Refusal.{Refusal}
 use Rattle.locale_skips.specs.Passing.{Refuses}
-use Rattle.locale_compile.specs.declared.Compiled.TheVariants.{Done, Refused}
 use Rattle.locale_compile.specs.Finishing.{AnswerIs}
 
 -- ## The answer on the paper
@@ -58,12 +58,12 @@ meant-good src s h e u =
 -- ## The answer of the code
 
 module _ (src area : List ℕ) where
-  pub answer-refused : (r : Refusal) (l : ℕ) → finish (length area) (lines_from start 1 0 src) ≡ refused (number_of r) l → AnswerIs src area area (Refused r l)
+  pub answer-refused : (r : Refusal) (l : ℕ) → finish (length area) (lines_from start 1 0 src) ≡ refused (number_of r) l → AnswerIs src area area (Err (r, l))
   unfolding compiled_as
   answer-refused r l e = record { is = λ work. sym (ap (λ (x : Result Meaning). compiled_as x area work) e) }
 
   pub answer-done : (m : Meaning) (after : List ℕ) (size : ℕ) → finish (length area) (lines_from start 1 0 src) ≡ granted m → size ≡ size_of m
-      → after ≡ over (stored_form m []) area → AnswerIs src area after (Done size)
+      → after ≡ over (stored_form m []) area → AnswerIs src area after (Ok size)
   unfolding compiled_as
   answer-done m after size e f a =
       record { is = λ work. rw (f, a) (sym (ap (λ (x : Result Meaning). compiled_as x area work) e)) }

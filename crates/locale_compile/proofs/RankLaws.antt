@@ -1,4 +1,5 @@
 -- From the last line to the ranks: what the lines have left is what the area holds once each order line has its rank.
+use Rattle.std.specs.Prelude.{Err, Ok, Result, ℕ}
 use mathlib.Core.Path.{◌≡◌, sym, ap, ◌∙◌, subst}
 use mathlib.Core.List.{List}
 use Prim.Native.Nat.{ℕ, ◌≤◌, ◌<◌}
@@ -13,13 +14,10 @@ use Rattle.work_order.specs.declared.Order.{Order}
 use Rattle.work_order.specs.Links.{SomeLines, Ranks}
 use Rattle.locale_sheet.specs.Known.{Known}
 use Rattle.locale_sheet.specs.declared.Sheet.{Sheet}
-use Rattle.table_items.specs.declared.Sums.{Sums}
-use Rattle.table_items.specs.declared.Sums.TheVariants as sums
 use Rattle.table_items.specs.Items.{LinesReady, WholeSums, SumsAre}
 use Rattle.table_items.proofs.MeaningLaws.{meant, lines-ready}
 use Rattle.locale_source.specs.Whole.{WholeSource}
 use Rattle.base_units.specs.declared.Refusal.TheVariants.{Unranked}
-use Rattle.locale_compile.specs.declared.Compiled.TheVariants.{Refused}
 use Rattle.locale_compile.specs.Finishing.{AnswerIs, RanksGiven}
 use Rattle.locale_compile.proofs.TableLaws.{unranked-answer}
 
@@ -66,11 +64,11 @@ module _ {src w : List ℕ} {g : Signs} {sh : Sheet} (v : WholeSource src w g sh
       few = few-rules;
     }
 
-    module _ {v' : Sums} (k : SumsAre g src after sh.order sh.levels v') where
-      pub unranked-after : {line : ℕ} (area : List ℕ) → v' ≡ sums.Unranked line → AnswerIs src area area (Refused Unranked line)
+    module _ {v' : Result (ℕ × ℕ) ℕ} (k : SumsAre g src after sh.order sh.levels v') where
+      pub unranked-after : {line : ℕ} (area : List ℕ) → v' ≡ Err line → AnswerIs src area area (Err (Unranked, line))
       unranked-after area i = unranked-answer source-ranks area (subst (SumsAre g src after sh.order sh.levels) i k)
 
 -- the sums are whole
-pub whole-sums : {g : Signs} {src w : List ℕ} {o : Order} {levels : ℕ} {v : Sums} → SumsAre g src w o levels v → {items weights : ℕ} → v ≡ sums.Whole items weights
+pub whole-sums : {g : Signs} {src w : List ℕ} {o : Order} {levels : ℕ} {v : Result (ℕ × ℕ) ℕ} → SumsAre g src w o levels v → {items weights : ℕ} → v ≡ Ok (items, weights)
     → WholeSums g src w o levels items weights
 whole-sums {g} {src} {w} {o} {levels} k i = subst (SumsAre g src w o levels) i k

@@ -1,4 +1,5 @@
 -- The table after the ranks: its size, and that what is built is what the paper compiles.
+use Rattle.std.specs.Prelude.{Err, Ok}
 use mathlib.Core.Path.{◌≡◌, refl, sym, ap, ◌∙◌, subst}
 use mathlib.Core.Bool.{Bool, true, false}
 use mathlib.Core.List.{List, [], ◌∷◌, ◌++◌, append-nil}
@@ -25,7 +26,6 @@ use Rattle.locale_sheet.specs.Sheets.{rules_at}
 use Rattle.base_units.specs.declared.Refusal.TheVariants.{ShortArea, Unranked}
 use Rattle.table_items.specs.Items.{items_of, WholeSums, UnrankedAt}
 use Rattle.table_whole.specs.Building.{supplied_items, meaning_by, all_items, all_weights, table_size, Buildable, Built}
-use Rattle.locale_compile.specs.declared.Compiled.TheVariants.{Done, Refused}
 use Rattle.locale_compile.specs.Finishing.{AnswerIs, RanksGiven, TableFits}
 use Rattle.locale_compile.proofs.FinishLaws.{finish-unranked, finish-short, finish-granted, meant-good, answer-refused, answer-done}
 
@@ -73,7 +73,7 @@ module _ {src w : List ℕ} {g : Signs} {sh : Sheet} (v : RanksGiven src w g sh)
   work-room = v.meant.holds.roomy.room
 
   -- 8
-  pub unranked-answer : {line : ℕ} (area : List ℕ) → UnrankedAt g src w sh.order sh.levels line → AnswerIs src area area (Refused Unranked line)
+  pub unranked-answer : {line : ℕ} (area : List ℕ) → UnrankedAt g src w sh.order sh.levels line → AnswerIs src area area (Err (Unranked, line))
   unranked-answer {line} area u =
       answer-refused src area Unranked line
       (finish-unranked (length area) _ v.last v.run (sym v.meant.weighed ∙ u.unweighed-some v.meant.marks v.meant.lines v.meant.n v.meant.ds v.meant.holds)
@@ -113,7 +113,7 @@ module _ {src w : List ℕ} {g : Signs} {sh : Sheet} (v : RanksGiven src w g sh)
       meaning-size = same_size ∙ ap size_of same-meaning
 
       -- 9
-      pub short-answer : (area : List ℕ) (size : ℕ) → size ≡ table_size sh.levels items weights b → length area < size → AnswerIs src area area (Refused ShortArea 0)
+      pub short-answer : (area : List ℕ) (size : ℕ) → size ≡ table_size sh.levels items weights b → length area < size → AnswerIs src area area (Err (ShortArea, 0))
       short-answer area size z h =
           answer-refused src area ShortArea 0 (finish-short (length area) _ v.last v.run sums-ranked (let s = meaning-size in omega (arith, h, s, z)))
 
@@ -142,7 +142,7 @@ module _ {src w : List ℕ} {g : Signs} {sh : Sheet} (v : RanksGiven src w g sh)
         places = let a = u.few-items in let c = v.meant.places in omega (arith, a, c);
       }
 
-      pub done-answer : (after : List ℕ) → Built g src w sh items weights b area after → AnswerIs src area after (Done size)
+      pub done-answer : (after : List ℕ) → Built g src w sh items weights b area after → AnswerIs src area after (Ok size)
       done-answer after a =
           let m = meaning_of v.last in
           let z = meaning-size b f.flag in

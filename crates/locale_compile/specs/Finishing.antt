@@ -1,5 +1,5 @@
 -- What is known after the last line, and what the answer is then (Rattle.rules.specs.Compile). No public contract cites this file.
-use Rattle.std.specs.Prelude.{◌≡◌, Bool, List, ℕ, ◌≤◌, length, eqb}
+use Rattle.std.specs.Prelude.{◌≡◌, Bool, List, ℕ, ◌≤◌, length, eqb, Result}
 use Rattle.rules.specs.Tokens.{operands}
 use Rattle.rules.specs.State.{State, start}
 use Rattle.rules.specs.Compile.{finish}
@@ -14,14 +14,14 @@ use Rattle.locale_levels.specs.Levels.{start_refusal}
 use Rattle.locale_sheet.specs.Known.{behind}
 use Rattle.locale_sheet.specs.declared.Sheet.{Sheet}
 use Rattle.locale_sheet.specs.Sheets.{rules_at}
-use Rattle.locale_compile.specs.declared.Compiled.{Compiled}
 use Rattle.table_items.specs.Items.{LinesReady}
 use Rattle.table_items.proofs.MeaningLaws.{Meant}
 use Rattle.table_whole.specs.Building.{table_size}
 use Rattle.locale_compile.specs.Answers.{told_as}
+use Rattle.base_units.specs.declared.Refusal.{Refusal}
 
 -- The answer and the table area afterwards are those of the paper, where the work area is cleared in the end.
-pub record AnswerIs (src area after : List ℕ) (r : Compiled) : Type 0 where
+pub record AnswerIs (src area after : List ℕ) (r : Result ℕ (Refusal × ℕ)) : Type 0 where
   pub is : (work : List ℕ) → told_as r after (cleared work) ≡ compiled_as (finish (length area) (lines_from start 1 0 src)) area work
 
 -- Each order line has its rank: the area holds what the lines of the source have left.

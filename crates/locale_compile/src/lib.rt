@@ -13,28 +13,20 @@ ghost use Rattle.locale_compile.specs.Finishing.{AnswerIs, RanksGiven, TableFits
 
 use base_units::Refusal;
 use locale_sheet::Sheet;
-use locale_source::{Source, source_lines};
-use table_items::{Sums, measure_lines};
+use locale_source::source_lines;
+use table_items::measure_lines;
 use table_whole::{build_table, table_size};
 use text_lines::Signs;
 use work_order::{PLACE_NUMBER, give_ranks};
 use work_rows::told;
 use work_store::{clear, undefined_mark};
 
-// The size of the table, which stands in front of the area; or why there is none: the refusal and its line.
-#[derive(Clone, Copy)]
-pub enum Compiled {
-    Done(usize),
-    Refused(Refusal, usize),
-}
-
 // Whether UNDEFINED has no order line, so that it is supplied: its row is the one behind those of the source.
 fn is_supplied(work: &[u32], len: usize) -> bool
     requires { (len ≤ 1048576) × (len + 64 ≤ length work.now) }
     ensures { result ≡ eqb (cell work.now (undefined_mark len) place_number) 0 }
 {
-    let place = told(work, undefined_mark(len), PLACE_NUMBER);
-    place == 0
+    told(work, undefined_mark(len), PLACE_NUMBER) == 0
 }
 
 // The table, in an area that has room for it.
@@ -48,13 +40,13 @@ fn fill_table(
     supplied: bool,
     size: usize,
     area: &mut [u32],
-) -> Compiled
+) -> Result<usize, (Refusal, usize)>
     requires ranks_given { RanksGiven src.now work.old g sh × WholeSums g src.now work.old sh.order sh.levels items weights }
     requires table_fits { TableFits src.now work.old sh items weights supplied size area.old }
     ensures { AnswerIs src.now area.old area.new result }
 {
     build_table(src, g, work, sh, items, weights, supplied, area);
-    Compiled::Done(size)
+    Ok(size)
 }
 
 // The table of so many items and weights, if the area has room for it.
@@ -66,54 +58,60 @@ fn put_table(
     items: usize,
     weights: usize,
     area: &mut [u32],
-) -> Compiled
+) -> Result<usize, (Refusal, usize)>
     requires { RanksGiven src.now work.old g sh × WholeSums g src.now work.old sh.order sh.levels items weights }
     ensures { AnswerIs src.now area.old area.new result }
 {
     let supplied = is_supplied(work, src.len());
     let size = table_size(sh.levels, items, weights, supplied);
     if area.len() < size {
-        return Compiled::Refused(Refusal::ShortArea, 0);
+        return Err((Refusal::ShortArea, 0));
     }
     fill_table(src, g, work, sh, items, weights, supplied, size, area)
 }
 
 // What follows the last line: ranks, then the table.
-fn finish(src: &[u8], g: Signs, work: &mut [u32], sh: Sheet, area: &mut [u32]) -> Compiled
+fn finish(
+    src: &[u8],
+    g: Signs,
+    work: &mut [u32],
+    sh: Sheet,
+    area: &mut [u32],
+) -> Result<usize, (Refusal, usize)>
     requires { WholeSource src.now work.old g sh }
     ensures { AnswerIs src.now area.old area.new result }
 {
     give_ranks(work, sh.order);
     let s = measure_lines(src, g, work, sh.order, sh.levels);
     match s {
-        Sums::Unranked(line) => return Compiled::Refused(Refusal::Unranked, line),
-        Sums::Whole(items, weights) => return put_table(src, g, work, sh, items, weights, area),
+        Err(line) => Err((Refusal::Unranked, line)),
+        Ok((items, weights)) => put_table(src, g, work, sh, items, weights, area),
     }
 }
 
 // A source that is not too long, with an empty work area.
-fn compile_lines(src: &[u8], area: &mut [u32], work: &mut [u32]) -> Compiled
+fn compile_lines(src: &[u8], area: &mut [u32], work: &mut [u32]) -> Result<usize, (Refusal, usize)>
     requires { Empty src.now work.old }
     ensures { AnswerIs src.now area.old area.new result }
 {
     let s = source_lines(src, work);
     match s {
-        Source::Refused(r, line) => return Compiled::Refused(r, line),
-        Source::Lines(g, sh) => return finish(src, g, work, sh, area),
+        Err((r, line)) => Err((r, line)),
+        Ok((g, sh)) => finish(src, g, work, sh, area),
     }
 }
 
 // A locale source to its table in front of the area, which stays as it was behind it and in a refusal: 1, then by line the lowest of 2 to 7,
 // then 8 by line, then 9. The work area is all zeros afterwards.
-pub fn compile(src: &[u8], area: &mut [u32], work: &mut [u32]) -> Compiled
+pub fn compile(src: &[u8], area: &mut [u32], work: &mut [u32]) -> Result<usize, (Refusal, usize)>
     ensures { told_as result area.new work.new ≡ compile_call src.now area.old work.old }
 {
     clear(work);
     if 1048576 < src.len() {
-        return Compiled::Refused(Refusal::TooLong, 0);
+        return Err((Refusal::TooLong, 0));
     }
     if work.len() < src.len() + 64 {
-        return Compiled::Refused(Refusal::TooLong, 0);
+        return Err((Refusal::TooLong, 0));
     }
     let r = compile_lines(src, area, work);
     clear(work); // in a refusal too

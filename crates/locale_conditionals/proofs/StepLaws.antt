@@ -1,4 +1,5 @@
 -- The lines of define, undef, ifdef and ifndef as steps: from what is told of the toggle that they name to what the area and the sheet hold.
+use Rattle.std.specs.Prelude.{Bool, Err, Ok, Result, ℕ}
 use mathlib.Core.Path.{◌≡◌, refl, sym, ap, ◌∙◌, subst}
 use mathlib.Core.Logic.{◌⊎◌, inl, inr}
 use mathlib.Core.Bool.{Bool, true, false}
@@ -13,6 +14,8 @@ use Rattle.rules.specs.Tokens.{Token, operands, tokens_refusal}
 use Rattle.rules.specs.State.{Chain, State, with_blocks, Outcome, gives}
 use Rattle.rules.specs.Conditionals.{blocks, chain, define_line, if_line}
 use Rattle.rules.specs.Source.{collate_line}
+use Rattle.base_units.specs.declared.Refusal.{Refusal}
+use Rattle.base_units.specs.Numbers.{number_of}
 use Rattle.text_lines.specs.declared.Signs.{Signs}
 use Rattle.text_lines.specs.declared.Spot.{Spot}
 use Rattle.text_lines.specs.declared.LineEnd.{LineEnd}
@@ -24,8 +27,6 @@ use Rattle.locale_opening.proofs.KeywordLaws.{at-define, at-undef, at-ifdef, at-
 use Rattle.work_toggles.specs.Kept.{toggles_in}
 use Rattle.locale_toggle.specs.declared.Set.{Set}
 use Rattle.locale_toggle.specs.declared.Set.TheVariants as set
-use Rattle.locale_toggle.specs.declared.Toggled.{Toggled}
-use Rattle.locale_toggle.specs.declared.Toggled.TheVariants as toggled
 use Rattle.locale_toggle.specs.Named as named
 use Rattle.locale_toggle.specs.Named.{set_to, MayName, NamedIs, ToggledIs}
 use Rattle.locale_toggle.proofs.BranchLaws.{define-named, define-refused, if-named, if-refused}
@@ -42,19 +43,12 @@ which-low : (r : ℕ) → (r ≡ 3) ⊎ (r ≡ 7) → 2 ≤ r
 which-low r (inl e) = omega (arith, e)
 which-low r (inr e) = omega (arith, e)
 
-which-high : (r : ℕ) → (r ≡ 3) ⊎ (r ≡ 7) → r ≤ 7
-which-high r (inl e) = omega (arith, e)
-which-high r (inr e) = omega (arith, e)
-
-module _ (g : Signs) (src work after : List ℕ) (base n : ℕ) (os : List Token) (set : Set) (t : Toggled) (v : ToggledIs g src work after base n os set t) (r : ℕ) (f : t ≡ toggled.Refused r) where
-  told : named.RefusedIs g src work after base n os r
+module _ (g : Signs) (src work after : List ℕ) (base n : ℕ) (os : List Token) (set : Set) (t : Result (Bool × ℕ) Refusal) (v : ToggledIs g src work after base n os set t) (r : Refusal) (f : t ≡ Err r) where
+  told : named.RefusedIs g src work after base n os (number_of r)
   told = subst (ToggledIs g src work after base n os set) f v
 
-  pub toggled-low : 2 ≤ r
-  toggled-low = which-low r told.which
-
-  pub toggled-high : r ≤ 7
-  toggled-high = which-high r told.which
+  pub toggled-low : 2 ≤ number_of r
+  toggled-low = which-low (number_of r) told.which
 
 -- an outcome, and the refusals of bytes that are no text and of tokens
 abbrev pub with_refusals : Bool → ℕ → Outcome → Outcome
@@ -108,9 +102,9 @@ module _ {g : Signs} {src work : List ℕ} {sh : Sheet} {at depth : ℕ} {p : Sp
 -- ## define and undef
 
 module _ {g : Signs} {src work : List ℕ} {sh : Sheet} {at depth : ℕ} {p : Spot} {e : LineEnd} (on : Bool) (m : MayRead g src work sh at depth p e (defining on)) (number : ℕ)
-    {set : Set} {t : Toggled} (after : List ℕ) (k : set ≡ set_for on)
+    {set : Set} {t : Result (Bool × ℕ) Refusal} (after : List ℕ) (k : set ≡ set_for on)
     (v : ToggledIs g src work after (toggles_at (length src)) sh.toggles (operands (tokens_left g src p)) set t) where
-  pub define-next : {was : Bool} {n : ℕ} {sh' : Sheet} → t ≡ toggled.Named was n → e.text ≡ true → sh' ≡ with_toggles sh n
+  pub define-next : {was : Bool} {n : ℕ} {sh' : Sheet} → t ≡ Ok (was, n) → e.text ≡ true → sh' ≡ with_toggles sh n
       → NextIs g src work sh at number depth after sh' e.next e.feeds
   define-next {was} {n} f h y =
       let os = operands (tokens_left g src p) in
@@ -133,11 +127,11 @@ module _ {g : Signs} {src work : List ℕ} {sh : Sheet} {at depth : ℕ} {p : Sp
         };
       }
 
-  pub define-refuses : {r x : ℕ} → t ≡ toggled.Refused r → x ≡ lower (2 unless e.text) r → RefusedIs g src work sh at number depth x
+  pub define-refuses : {r : Refusal} {x : ℕ} → t ≡ Err r → x ≡ lower (2 unless e.text) (number_of r) → RefusedIs g src work sh at number depth x
   define-refuses {r} f y =
       let os = operands (tokens_left g src p) in
       let base = toggles_at (length src) in
-      let z : named.RefusedIs g src work after base sh.toggles os r = subst (ToggledIs g src work after base sh.toggles os set) f v in
+      let z : named.RefusedIs g src work after base sh.toggles os (number_of r) = subst (ToggledIs g src work after base sh.toggles os set) f v in
       record {
         refusal = λ cs s o d u.
             ap (λ (x : Outcome). x.refusal) (outcome-of m number cs s o u)
@@ -149,9 +143,9 @@ module _ {g : Signs} {src work : List ℕ} {sh : Sheet} {at depth : ℕ} {p : Sp
 -- ## ifdef and ifndef
 
 module _ {g : Signs} {src work : List ℕ} {sh : Sheet} {at depth : ℕ} {p : Spot} {e : LineEnd} (wanted : Bool) (m : MayRead g src work sh at depth p e (testing wanted)) (number : ℕ)
-    {t : Toggled} (after : List ℕ)
+    {t : Result (Bool × ℕ) Refusal} (after : List ℕ)
     (v : ToggledIs g src work after (toggles_at (length src)) sh.toggles (operands (tokens_left g src p)) set.Keep t) where
-  if-outcome : {was : Bool} {n : ℕ} → t ≡ toggled.Named was n → e.text ≡ true → (cs : List Chain) (s : State) → Open g src work sh cs at s → is_used cs ≡ true
+  if-outcome : {was : Bool} {n : ℕ} → t ≡ Ok (was, n) → e.text ≡ true → (cs : List Chain) (s : State) → Open g src work sh cs at s → is_used cs ≡ true
       → outcome_of g src at s number
       ≡ gives (7 unless ltb (length cs) 8) (with_blocks s (blocks (chain (holds_for wanted was) (holds_for wanted was) false ∷ cs) 0 (toggles_in g src after (toggles_at (length src)) n)))
   if-outcome {was} {n} f h cs s o u =
@@ -165,7 +159,7 @@ module _ {g : Signs} {src work : List ℕ} {sh : Sheet} {at depth : ℕ} {p : Sp
       ∙ ap (λ (z : List Chain). gives (7 unless ltb (length z) 8) (with_blocks s (blocks (c ∷ z) 0 (toggles_in g src after base n)))) o.chains)
       ∙ with_none h x.tokens
 
-  pub if-opens : {was holds : Bool} {n : ℕ} {sh' : Sheet} → t ≡ toggled.Named was n → e.text ≡ true → depth < 8 → holds ≡ holds_for wanted was → sh' ≡ with_toggles sh n
+  pub if-opens : {was holds : Bool} {n : ℕ} {sh' : Sheet} → t ≡ Ok (was, n) → e.text ≡ true → depth < 8 → holds ≡ holds_for wanted was → sh' ≡ with_toggles sh n
       → OpensIs g src work sh at number depth after holds sh' e.next e.feeds
   if-opens {was} {holds} {n} f h l b y =
       let base = toggles_at (length src) in
@@ -183,17 +177,17 @@ module _ {g : Signs} {src work : List ℕ} {sh : Sheet} {at depth : ℕ} {p : Sp
         };
       }
 
-  pub if-deep : {was : Bool} {n : ℕ} → t ≡ toggled.Named was n → e.text ≡ true → 8 ≤ depth → RefusedIs g src work sh at number depth 7
+  pub if-deep : {was : Bool} {n : ℕ} → t ≡ Ok (was, n) → e.text ≡ true → 8 ≤ depth → RefusedIs g src work sh at number depth 7
   if-deep f h l =
       record {
         refusal = λ cs s o d u. ap (λ (x : Outcome). x.refusal) (if-outcome f h cs s o u) ∙ rw (d, le-ltb depth 8 l);
       }
 
-  pub if-refuses : {r x : ℕ} → t ≡ toggled.Refused r → x ≡ lower (2 unless e.text) r → RefusedIs g src work sh at number depth x
+  pub if-refuses : {r : Refusal} {x : ℕ} → t ≡ Err r → x ≡ lower (2 unless e.text) (number_of r) → RefusedIs g src work sh at number depth x
   if-refuses {r} f y =
       let os = operands (tokens_left g src p) in
       let base = toggles_at (length src) in
-      let z : named.RefusedIs g src work after base sh.toggles os r = subst (ToggledIs g src work after base sh.toggles os set.Keep) f v in
+      let z : named.RefusedIs g src work after base sh.toggles os (number_of r) = subst (ToggledIs g src work after base sh.toggles os set.Keep) f v in
       record {
         refusal = λ cs s o d u.
             ap (λ (x : Outcome). x.refusal) (outcome-of m number cs s o u)

@@ -1,4 +1,5 @@
 -- The lines of elif, else and endif as the open chain reads them: from what is told of their operands to what the area and the sheet hold.
+use Rattle.std.specs.Prelude.{Bool, Err, Ok, Result, ℕ}
 use mathlib.Core.Path.{◌≡◌, refl, sym, ap, ◌∙◌, subst}
 use mathlib.Core.Bool.{Bool, true, false, not, ◌&&◌, ◌||◌, and-false}
 use mathlib.Core.List.{List, [], ◌∷◌}
@@ -12,6 +13,8 @@ use Rattle.rules.specs.Tokens.{Token, operands, tokens_refusal}
 use Rattle.rules.specs.State.{Chain, State, with_blocks, Outcome, gives}
 use Rattle.rules.specs.Conditionals.{blocks, chain, no_chain, toggle_refusal, elif_line}
 use Rattle.rules.specs.Source.{collate_line}
+use Rattle.base_units.specs.declared.Refusal.{Refusal}
+use Rattle.base_units.specs.Numbers.{number_of}
 use Rattle.text_lines.specs.declared.Signs.{Signs}
 use Rattle.text_lines.specs.declared.Spot.{Spot}
 use Rattle.text_lines.specs.declared.LineEnd.{LineEnd}
@@ -22,8 +25,6 @@ use Rattle.locale_opening.proofs.CollateLaws.{late-collate, late-toggle}
 use Rattle.locale_opening.proofs.KeywordLaws.{at-elif, at-else, at-endif}
 use Rattle.work_toggles.specs.Kept.{toggles_in}
 use Rattle.locale_toggle.specs.declared.Set.TheVariants as set
-use Rattle.locale_toggle.specs.declared.Toggled.{Toggled}
-use Rattle.locale_toggle.specs.declared.Toggled.TheVariants as toggled
 use Rattle.locale_toggle.specs.Named as named
 use Rattle.locale_toggle.specs.Named.{MayName, NamedIs, ToggledIs}
 use Rattle.locale_toggle.proofs.BranchLaws.{elif-named, elif-refused}
@@ -99,22 +100,22 @@ module _ {g : Signs} {src work : List ℕ} {sh : Sheet} {at : ℕ} {p : Spot} {e
         ap (λ (x : Outcome). lower (tokens_refusal os) x.refusal) (at-elif s number (bytes "elif") os refl) ∙ elif-closed s os taken used cs o.chains c)
         y
 
-    module _ {t : Toggled} (after : List ℕ) (c : closed ≡ false)
+    module _ {t : Result (Bool × ℕ) Refusal} (after : List ℕ) (c : closed ≡ false)
         (v : ToggledIs g src work after (toggles_at (length src)) sh.toggles (operands (tokens_left g src p)) set.Keep t) where
-      pub elif-refuses : {r x : ℕ} → t ≡ toggled.Refused r → x ≡ lower (2 unless e.text) r → TurnRefused g src work sh at number taken closed x
+      pub elif-refuses : {r : Refusal} {x : ℕ} → t ≡ Err r → x ≡ lower (2 unless e.text) (number_of r) → TurnRefused g src work sh at number taken closed x
       elif-refuses {r} f y =
           let os = operands (tokens_left g src p) in
           let base = toggles_at (length src) in
-          let z : named.RefusedIs g src work after base sh.toggles os r = subst (ToggledIs g src work after base sh.toggles os set.Keep) f v in
+          let z : named.RefusedIs g src work after base sh.toggles os (number_of r) = subst (ToggledIs g src work after base sh.toggles os set.Keep) f v in
           turn-refused m.line work sh number taken closed
           (λ used cs s o.
           ap (λ (x : Outcome). lower (tokens_refusal os) x.refusal) (at-elif s number (bytes "elif") os refl)
           ∙ elif-refused z s o.toggles
-          ∙ ap (λ (x : List Chain). lower (3 unless not (get_or x 0 no_chain).closed) r) o.chains
-          ∙ three-none r c)
+          ∙ ap (λ (x : List Chain). lower (3 unless not (get_or x 0 no_chain).closed) (number_of r)) o.chains
+          ∙ three-none (number_of r) c)
           y
 
-      pub elif-goes : {was taken' used' : Bool} {n : ℕ} {sh' : Sheet} → t ≡ toggled.Named was n → e.text ≡ true → taken' ≡ (taken || was) → used' ≡ (not taken && was)
+      pub elif-goes : {was taken' used' : Bool} {n : ℕ} {sh' : Sheet} → t ≡ Ok (was, n) → e.text ≡ true → taken' ≡ (taken || was) → used' ≡ (not taken && was)
           → sh' ≡ with_toggles sh n → GoesIs g src work sh at number taken closed after taken' used' false sh' e.next e.feeds
       elif-goes {was} {taken'} {used'} {n} f h a b y =
           let os = operands (tokens_left g src p) in

@@ -1,6 +1,6 @@
 -- The lines that an open chain reads itself, used or not: elif, else and endif. What is said is said of the line read whole
 -- (Rattle.rules.specs.Source, whole_line): a line of an open chain is, whether its branch is used or not.
-use Rattle.std.specs.Prelude.{◌≡◌, Bool, List, ◌∷◌, ℕ, ◌<◌, length}
+use Rattle.std.specs.Prelude.{◌≡◌, Bool, List, ◌∷◌, ℕ, ◌<◌, length, Err, Ok, Result}
 use Rattle.rules.specs.State.{Chain, State, Outcome, gives}
 use Rattle.rules.specs.Conditionals.{chain}
 use Rattle.rules.specs.Source.{whole_line}
@@ -15,7 +15,8 @@ use Rattle.locale_sheet.specs.declared.Sheet.{Sheet}
 use Rattle.locale_sheet.specs.Sheets.{Open, SomeOpen, Moves}
 use Rattle.locale_sheet.specs.Words.{TurnLine, WordLine}
 use Rattle.locale_conditionals.specs.declared.Turn.{Turn}
-use Rattle.locale_conditionals.specs.declared.Turn.TheVariants.{Goes, Ends, Refused}
+use Rattle.locale_conditionals.specs.declared.Turn.TheVariants.{Goes, Ends}
+use Rattle.base_units.specs.declared.Refusal.{Refusal}
 
 -- ## What a line does to the chain
 
@@ -48,13 +49,13 @@ pub record EndsIs (g : Signs) (src w : List ℕ) (sh : Sheet) (at number : ℕ) 
 pub record TurnRefused (g : Signs) (src w : List ℕ) (sh : Sheet) (at number : ℕ) (taken closed : Bool) (r : ℕ) : Type 0 where
   pub refusal : EveryChain g src w sh at taken closed (λ (cs : List Chain) (s : State). (whole_of g src at s number).refusal ≡ r)
 
-abbrev pub TurnIs : Signs → List ℕ → List ℕ → Sheet → ℕ → ℕ → Bool → Bool → List ℕ → Turn → Type 0
-TurnIs g src w sh at number taken closed w' (Goes taken' used' closed' sh' next k) = GoesIs g src w sh at number taken closed w' taken' used' closed' sh' next k
-TurnIs g src w sh at number taken closed w' (Ends sh' next k) = EndsIs g src w sh at number taken closed w' sh' next k
-TurnIs g src w sh at number taken closed w' (Refused r) = TurnRefused g src w sh at number taken closed (number_of r)
+abbrev pub TurnIs : Signs → List ℕ → List ℕ → Sheet → ℕ → ℕ → Bool → Bool → List ℕ → Result Turn Refusal → Type 0
+TurnIs g src w sh at number taken closed w' (Ok (Goes taken' used' closed' sh' next k)) = GoesIs g src w sh at number taken closed w' taken' used' closed' sh' next k
+TurnIs g src w sh at number taken closed w' (Ok (Ends sh' next k)) = EndsIs g src w sh at number taken closed w' sh' next k
+TurnIs g src w sh at number taken closed w' (Err r) = TurnRefused g src w sh at number taken closed (number_of r)
 
 -- so it is of a line that leaves the area as it is
-abbrev pub StillIs : Signs → List ℕ → Sheet → ℕ → ℕ → Bool → Bool → Turn → Type 0
+abbrev pub StillIs : Signs → List ℕ → Sheet → ℕ → ℕ → Bool → Bool → Result Turn Refusal → Type 0
 StillIs g src sh at number taken closed r = (w : List ℕ) → TurnIs g src w sh at number taken closed w r
 
 -- ## What the functions are given

@@ -15,7 +15,7 @@ ghost use Rattle.locale_conditionals.specs.Turns.{TurnIs, StillIs, MayTurn, Word
 use base_units::Refusal;
 use locale_opening::{Opening, malformed, open_line, refusal_with};
 use locale_sheet::{Line, Sheet, Step};
-use locale_toggle::{Set, Toggled, name_toggle};
+use locale_toggle::{Set, name_toggle};
 use text_lines::{LineEnd, Signs, Spot};
 use text_operands::no_operand;
 use text_tokens::{Tok, word_is};
@@ -39,47 +39,38 @@ pub enum Turn {
     Goes(bool, bool, bool, Sheet, usize, usize),
     // endif
     Ends(Sheet, usize, usize),
-    Refused(Refusal),
 }
 
 // The sheet with so many toggles named.
 fn with_toggles(sh: Sheet, m: usize) -> Sheet
     ensures { result ≡ with_toggles sh m }
 {
-    let order = sh.order;
-    let block = sh.block;
-    Sheet {
-        phase: sh.phase,
-        toggles: m,
-        rules: sh.rules,
-        levels: sh.levels,
-        order: order,
-        block: block,
-    }
+    Sheet { toggles: m, ..sh }
 }
 
 // What define (on) or undef does to a toggle.
 fn set_for(on: bool) -> Set
     ensures { result ≡ set_for on }
 {
-    if on {
-        return Set::On;
-    }
-    Set::Off
+    if on { Set::On } else { Set::Off }
 }
 
 // Whether the test of ifdef (wanted) or ifndef holds for a toggle.
 fn holds_for(wanted: bool, on: bool) -> bool
     ensures { result ≡ holds_for wanted on }
 {
-    if wanted {
-        return on;
-    }
-    !on
+    if wanted { on } else { !on }
 }
 
 // The toggle that a line names, from the spot after its first word on.
-fn named_at(src: &[u8], g: Signs, work: &mut [u32], n: usize, p: Spot, set: Set) -> Toggled
+fn named_at(
+    src: &[u8],
+    g: Signs,
+    work: &mut [u32],
+    n: usize,
+    p: Spot,
+    set: Set,
+) -> Result<(bool, usize), Refusal>
     requires { MayName g src.now work.old (toggles_at (length src.now)) n p }
     ensures { ToggledIs g src.now work.old work.new (toggles_at (length src.now)) n (operands (tokens_left g src.now p)) set result }
 {
@@ -95,18 +86,18 @@ pub fn define_line(
     l: Line,
     p: Spot,
     on: bool,
-) -> Step
+) -> Result<Step, Refusal>
     requires { MayRead g src.now work.old sh l.at l.depth p l.end (defining on) }
     ensures { StepIs g src.now work.old sh l.at l.number l.depth work.new result }
 {
-    let t = named_at(src, g, work, sh.toggles, p, set_for(on));
-    match t {
-        Toggled::Refused(r) => return Step::Refused(refusal_with(l.end.text, r)),
-        Toggled::Named(_, m) => {
+    match named_at(src, g, work, sh.toggles, p, set_for(on)) {
+        Err(r) => Err(refusal_with(l.end.text, r)),
+        Ok((_, m)) => {
             if l.end.text {
-                return Step::Next(with_toggles(sh, m), l.end.next, l.end.feeds);
+                Ok(Step::Next(with_toggles(sh, m), l.end.next, l.end.feeds))
+            } else {
+                Err(Refusal::BadByte)
             }
-            return Step::Refused(Refusal::BadByte);
         }
     }
 }
@@ -120,26 +111,25 @@ pub fn if_line(
     l: Line,
     p: Spot,
     wanted: bool,
-) -> Step
+) -> Result<Step, Refusal>
     requires { MayRead g src.now work.old sh l.at l.depth p l.end (testing wanted) }
     ensures { StepIs g src.now work.old sh l.at l.number l.depth work.new result }
 {
-    let t = named_at(src, g, work, sh.toggles, p, Set::Keep);
-    match t {
-        Toggled::Refused(r) => return Step::Refused(refusal_with(l.end.text, r)),
-        Toggled::Named(was, m) => {
-            if l.end.text {
-                if l.depth < 8 {
-                    return Step::Opens(
-                        holds_for(wanted, was),
-                        with_toggles(sh, m),
-                        l.end.next,
-                        l.end.feeds,
-                    );
-                }
-                return Step::Refused(Refusal::TooMany);
+    match named_at(src, g, work, sh.toggles, p, Set::Keep) {
+        Err(r) => Err(refusal_with(l.end.text, r)),
+        Ok((was, m)) => {
+            if !l.end.text {
+                Err(Refusal::BadByte)
+            } else if l.depth < 8 {
+                Ok(Step::Opens(
+                    holds_for(wanted, was),
+                    with_toggles(sh, m),
+                    l.end.next,
+                    l.end.feeds,
+                ))
+            } else {
+                Err(Refusal::TooMany)
             }
-            return Step::Refused(Refusal::BadByte);
         }
     }
 }
@@ -148,78 +138,79 @@ pub fn if_line(
 fn some_used(taken: bool, on: bool) -> bool
     ensures { result ≡ (taken || on) }
 {
-    if taken {
-        return true;
-    }
-    on
+    taken || on
 }
 
 // Whether its branch is used: the first whose test holds.
 fn first_used(taken: bool, on: bool) -> bool
     ensures { result ≡ (not taken && on) }
 {
-    if taken {
-        return false; // at most one is
-    }
-    on
+    !taken && on
 }
 
 // The line of elif: p is the spot after that word.
-fn elif_line(src: &[u8], g: Signs, work: &mut [u32], sh: Sheet, l: ChainLine, p: Spot) -> Turn
+fn elif_line(
+    src: &[u8],
+    g: Signs,
+    work: &mut [u32],
+    sh: Sheet,
+    l: ChainLine,
+    p: Spot,
+) -> Result<Turn, Refusal>
     requires { KeyTurn g src.now work.old sh l.at p l.end (bytes "elif") }
     ensures { TurnIs g src.now work.old sh l.at l.number l.taken l.closed work.new result }
 {
     if l.closed {
-        return Turn::Refused(malformed(l.end.text));
+        return Err(malformed(l.end.text));
     }
-    let t = named_at(src, g, work, sh.toggles, p, Set::Keep);
-    match t {
-        Toggled::Refused(r) => return Turn::Refused(refusal_with(l.end.text, r)),
-        Toggled::Named(was, m) => {
+    match named_at(src, g, work, sh.toggles, p, Set::Keep) {
+        Err(r) => Err(refusal_with(l.end.text, r)),
+        Ok((was, m)) => {
             if l.end.text {
-                return Turn::Goes(
+                Ok(Turn::Goes(
                     some_used(l.taken, was),
                     first_used(l.taken, was),
                     false,
                     with_toggles(sh, m),
                     l.end.next,
                     l.end.feeds,
-                );
+                ))
+            } else {
+                Err(Refusal::BadByte)
             }
-            return Turn::Refused(Refusal::BadByte);
         }
     }
 }
 
 // The line of else.
-fn else_line(src: &[u8], g: Signs, sh: Sheet, l: ChainLine, p: Spot) -> Turn
+fn else_line(src: &[u8], g: Signs, sh: Sheet, l: ChainLine, p: Spot) -> Result<Turn, Refusal>
     requires { WordLine g src.now l.at p l.end (bytes "else") }
     ensures { StillIs g src.now sh l.at l.number l.taken l.closed result }
 {
     if l.closed {
-        return Turn::Refused(malformed(l.end.text));
+        return Err(malformed(l.end.text));
     }
-    if no_operand(src, g, p) {
-        if l.end.text {
-            return Turn::Goes(true, !l.taken, true, sh, l.end.next, l.end.feeds);
-        }
-        return Turn::Refused(Refusal::BadByte);
+    if !no_operand(src, g, p) {
+        Err(malformed(l.end.text))
+    } else if l.end.text {
+        Ok(Turn::Goes(true, !l.taken, true, sh, l.end.next, l.end.feeds))
+    } else {
+        Err(Refusal::BadByte)
     }
-    Turn::Refused(malformed(l.end.text))
 }
 
 // The line of endif.
-fn endif_line(src: &[u8], g: Signs, sh: Sheet, l: ChainLine, p: Spot) -> Turn
+fn endif_line(src: &[u8], g: Signs, sh: Sheet, l: ChainLine, p: Spot) -> Result<Turn, Refusal>
     requires { WordLine g src.now l.at p l.end (bytes "endif") }
     ensures { StillIs g src.now sh l.at l.number l.taken l.closed result }
 {
-    if no_operand(src, g, p) {
-        if l.end.text {
-            return Turn::Ends(sh, l.end.next, l.end.feeds);
-        }
-        return Turn::Refused(Refusal::BadByte);
+    if !no_operand(src, g, p) {
+        Err(malformed(l.end.text))
+    } else if l.end.text {
+        Ok(Turn::Ends(sh, l.end.next, l.end.feeds))
+    } else {
+        Err(Refusal::BadByte)
     }
-    Turn::Refused(malformed(l.end.text))
 }
 
 // The line of a chain that opens with the word t, at the spot q.
@@ -231,21 +222,20 @@ fn word_turn(
     l: ChainLine,
     q: Spot,
     t: Tok,
-) -> Turn
+) -> Result<Turn, Refusal>
     requires { WordTurn g src.now work.old sh l.at q t l.end }
     ensures { TurnIs g src.now work.old sh l.at l.number l.taken l.closed work.new result }
 {
     let p = t.next;
     if word_is(src, g, q, b"elif") {
-        return elif_line(src, g, work, sh, l, p);
+        elif_line(src, g, work, sh, l, p)
+    } else if word_is(src, g, q, b"else") {
+        else_line(src, g, sh, l, p)
+    } else if word_is(src, g, q, b"endif") {
+        endif_line(src, g, sh, l, p)
+    } else {
+        Err(malformed(l.end.text))
     }
-    if word_is(src, g, q, b"else") {
-        return else_line(src, g, sh, l, p);
-    }
-    if word_is(src, g, q, b"endif") {
-        return endif_line(src, g, sh, l, p);
-    }
-    Turn::Refused(malformed(l.end.text))
 }
 
 // The line at a place, which the open chain reads itself. Taken: a branch of the chain was used; closed: `else` has stood.
@@ -258,25 +248,24 @@ pub fn branch_line(
     number: usize,
     taken: bool,
     closed: bool,
-) -> Turn
+) -> Result<Turn, Refusal>
     requires { MayTurn g src.now work.old sh at }
     ensures { TurnIs g src.now work.old sh at number taken closed work.new result }
 {
-    let o = open_line(src, g, at);
-    match o {
+    match open_line(src, g, at) {
         // never blank or a name: elif, else or endif stands there, malformed where an escape pair is in it
-        Opening::Blank(e) => return Turn::Refused(malformed(e.text)),
-        Opening::Foul(e) => return Turn::Refused(malformed(e.text)),
-        Opening::Name(_, _, e) => return Turn::Refused(malformed(e.text)),
+        Opening::Blank(e) => Err(malformed(e.text)),
+        Opening::Foul(e) => Err(malformed(e.text)),
+        Opening::Name(_, _, e) => Err(malformed(e.text)),
         Opening::Word(q, t, e) => {
             let l = ChainLine {
-                at: at,
-                number: number,
+                at,
+                number,
                 end: e,
-                taken: taken,
-                closed: closed,
+                taken,
+                closed,
             };
-            return word_turn(src, g, work, sh, l, q, t);
+            word_turn(src, g, work, sh, l, q, t)
         }
     }
 }

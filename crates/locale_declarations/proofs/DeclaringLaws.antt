@@ -1,4 +1,5 @@
 -- What both lines that declare share: what the store holds beside what is declared, names that can be declared, and the steps.
+use Rattle.std.specs.Prelude.{None, Option, Some, ℕ, Err, Ok}
 use mathlib.Core.Path.{◌≡◌, refl, sym, ap, ◌∙◌, subst}
 use mathlib.Core.Bool.{Bool, true, false, not, ◌&&◌, ◌||◌, or-true, false≢true}
 use mathlib.Core.List.{List, [], ◌∷◌, map}
@@ -28,14 +29,12 @@ use Rattle.work_subjects.specs.Keys.{Key, item, chars, key_at}
 use Rattle.work_subjects.specs.Numbers.{is_declarable}
 use Rattle.work_subjects.proofs.NumberLaws.{name-declarable}
 use Rattle.work_store.specs.Store.{Decl, first, is_found, known_in, heads_of, Sound}
-use Rattle.work_store.specs.declared.Found.{Found}
-use Rattle.work_store.specs.declared.Found.TheVariants.{At, Nothing}
 use Rattle.work_rows.specs.Cells.{cell}
 use Rattle.locale_sheet.specs.Known.{declared_at, Says, none, symbols, elements, characters, is_row, Known}
 use Rattle.locale_symbols.specs.Symbols.{is_new_in, Alike, operands_after, Gives, Reaches}
 use Rattle.locale_symbols.proofs.PaperLaws.{alike-none, alike-symbol, alike-element, alike-character}
 use Rattle.locale_sheet.specs.declared.Sheet.{Sheet}
-use Rattle.locale_sheet.specs.declared.Step.TheVariants.{Next, Refused}
+use Rattle.locale_sheet.specs.declared.Step.TheVariants.{Next}
 use Rattle.locale_sheet.specs.Sheets.{Open}
 use Rattle.locale_sheet.proofs.OrderLaws.{open-declared}
 use Rattle.locale_declarations.specs.Worded.{Opened, Writes}
@@ -50,12 +49,12 @@ says-alike (symbols {n = n} {v = v} z s) = alike-symbol (declared_at (item (name
 says-alike (elements {n = n} {xs = xs} {v = v} {q = q} z l s) = alike-element (declared_at (item (named n)) v) (says-alike s) (declared_at (chars xs) q) refl refl
 says-alike (characters {c = c} {v = v} z s) = alike-character (declared_at (item (character c)) v) (says-alike s) refl
 
-not_found : (f : Found) → is_found f ≡ false → f ≡ Nothing
-not_found (At v) e = absurd (false≢true (sym e))
-not_found Nothing e = refl
+not_found : (f : Option ℕ) → is_found f ≡ false → f ≡ None
+not_found (Some v) e = absurd (false≢true (sym e))
+not_found None e = refl
 
 -- a key that is not known is not found
-pub first-none : (k : Key) (ds : List Decl) → known_in k ds ≡ false → first k ds ≡ Nothing
+pub first-none : (k : Key) (ds : List Decl) → known_in k ds ≡ false → first k ds ≡ None
 unfolding known_in
 first-none k ds e = not_found (first k ds) e
 
@@ -92,7 +91,7 @@ module _ {g : Signs} {src : List ℕ} {at : ℕ} {p : Spot} {e : LineEnd} {key :
       omega (arith, a, b, c, d)
 
   -- bytes that are no text
-  pub foul-step : (w w' : List ℕ) (sh : Sheet) → e.text ≡ false → Writes g src w sh at w' (Refused BadByte)
+  pub foul-step : (w w' : List ℕ) (sh : Sheet) → e.text ≡ false → Writes g src w sh at w' (Err BadByte)
   foul-step w w' sh x = record { is = λ number depth. line-foul l w sh number depth x }
 
 -- ## What a keyword has, and the steps of its line
@@ -103,32 +102,17 @@ may sh = eqb sh.phase before_order || eqb sh.phase after_order
 
 -- A keyword with its line in the paper, what that declares, its refusal by what the store holds, and what its reader answers.
 pub record Declaring (key : String) (line : State → List Token → Outcome) (adds : List Token → Declaration) (refusal : List Decl → List Token → ℕ)
-    {A : Type 0} (Is : Signs → List ℕ → Spot → List ℕ → List ℕ → A → Type 0) (refused : ℕ → A) : Type 0 where
+    {A : Type 0} (Is : Signs → List ℕ → Spot → List ℕ → List ℕ → A → Type 0) (refused : Refusal → A) : Type 0 where
   pub collate : (s : State) (number : ℕ) (os : List Token) → collate_line s number (bytes key) os ≡ line s os
   pub long : 16 ≤ length (bytes key)
   pub state : (s : State) (os : List Token) → (line s os).state ≡ with_declared s (adds os ∷ s.declared)
   pub paper : (s : State) (os : List Token) (ds : List Decl) → Alike ds s.declared → may_declare s ≡ true → refusal ds os ≡ lower (tokens_refusal os) (line s os).refusal
   pub misplaced : (s : State) (os : List Token) → may_declare s ≡ false → lower (tokens_refusal os) (line s os).refusal ≡ 3
-  pub bounded : (ds : List Decl) (os : List Token) → Bounded 3 7 (refusal ds os)
-  pub told : {g : Signs} {src : List ℕ} {p : Spot} {w w' : List ℕ} {r : ℕ} → Is g src p w w' (refused r)
-      → Gives (key_at g src) (length src) w (λ (ds : List Decl). refusal ds (operands_after g src p)) r × (r ≡ 0 → ⊥)
+  pub told : {g : Signs} {src : List ℕ} {p : Spot} {w w' : List ℕ} {r : Refusal} → Is g src p w w' (refused r)
+      → Gives (key_at g src) (length src) w (λ (ds : List Decl). refusal ds (operands_after g src p)) (number_of r)
 
 module _ {key : String} {line : State → List Token → Outcome} {adds : List Token → Declaration} {refusal : List Decl → List Token → ℕ}
-    {A : Type 0} {Is : Signs → List ℕ → Spot → List ℕ → List ℕ → A → Type 0} {refused : ℕ → A} (d : Declaring key line adds refusal Is refused) where
-  -- between which numbers its refusal is
-  module _ (g : Signs) (src : List ℕ) (p : Spot) (w w' : List ℕ) (i : Sound (key_at g src) (length src) w) (y : A) (a : Is g src p w w' y) (r : ℕ) (z : y ≡ refused r) where
-    some : r ≡ 0 → ⊥
-    some = (d.told (subst (Is g src p w w') z a)).1
-
-    bounded : Bounded 3 7 r
-    bounded = subst (Bounded 3 7) ((d.told (subst (Is g src p w w') z a)).0.is i.n i.ds i.holds) (d.bounded i.ds (operands_after g src p))
-
-    pub refused-low : 2 ≤ r
-    refused-low = let h = bounded-low 3 7 r bounded some in omega (arith, h)
-
-    pub refused-high : r ≤ 10
-    refused-high = let h = bounded-high 3 7 r bounded some in omega (arith, h)
-
+    {A : Type 0} {Is : Signs → List ℕ → Spot → List ℕ → List ℕ → A → Type 0} {refused : Refusal → A} (d : Declaring key line adds refusal Is refused) where
   module _ (g : Signs) (src : List ℕ) (at : ℕ) (p : Spot) (e : LineEnd) (l : Opened g src at p e key) where
     abbrev left : List Token
     left = operands_after g src p
@@ -146,14 +130,14 @@ module _ {key : String} {line : State → List Token → Outcome} {adds : List T
           fault s number ∙ sym (d.paper s left k.ds (says-alike k.says) (rw o.phase m)) ∙ h.is o.n k.ds k.holds
 
       module _ (w' : List ℕ) {t : Bool} (m : t ≡ may sh) where
-        pub misplaced-step : {v : Refusal} → number_of v ≡ lower (2 unless e.text) 3 → t ≡ false → Writes g src w sh at w' (Refused v)
+        pub misplaced-step : {v : Refusal} → number_of v ≡ lower (2 unless e.text) 3 → t ≡ false → Writes g src w sh at w' (Err v)
         misplaced-step b n =
             record { is = λ number depth. line_refused l w sh number depth b (λ cs s o q u. fault s number ∙ d.misplaced s left (rw o.phase (sym m ∙ n))) }
 
-        pub refused-step : t ≡ true → e.text ≡ true → {y : A} → Is g src p w w' y → {r : ℕ} {v : Refusal} → y ≡ refused r → number_of v ≡ r → Writes g src w sh at w' (Refused v)
-        refused-step f x a {r} z c =
-            let b = (d.told (subst (Is g src p w w') z a)).0 in
-            record { is = λ number depth. line_refused l w sh number depth (c ∙ with-text e.text r x) (λ cs s o q u. line-fault (sym m ∙ f) b number o) }
+        pub refused-step : t ≡ true → e.text ≡ true → {y : A} → Is g src p w w' y → {r : Refusal} → y ≡ refused r → Writes g src w sh at w' (Err r)
+        refused-step f x a {r} z =
+            let b = d.told (subst (Is g src p w w') z a) in
+            record { is = λ number depth. line_refused l w sh number depth (with-text e.text (number_of r) x) (λ cs s o q u. line-fault (sym m ∙ f) b number o) }
 
         -- it is accepted: its name stands at the mark v, and q is the last mark that it declares
         pub accepted-step : t ≡ true → e.text ≡ true → (v q : ℕ) → Gives (key_at g src) (length src) w (λ (ds : List Decl). refusal ds left) 0
@@ -161,7 +145,7 @@ module _ {key : String} {line : State → List Token → Outcome} {adds : List T
             → ((cs : List Chain) (s : State) (o : Open g src w sh cs at s) → o.n + 1 ≤ v / 16 → refusal o.known.ds left ≡ 0
             → Known g src w' sh.order s.ordered.rules (q / 16 + 1) (adds left ∷ s.declared) s.ordered.lines
             × ((u j : ℕ) → is_row (length src) o.known.ds u ≡ true → j < 5 → cell w' u j ≡ cell w u j))
-            → Writes g src w sh at w' (Next sh e.next e.feeds)
+            → Writes g src w sh at w' (Ok (Next sh e.next e.feeds))
         accepted-step f x v q r behind room same beyond h =
             let declares : may sh ≡ true = sym m ∙ f in
             let a = l.first.long in

@@ -1,5 +1,6 @@
 -- For the reader that calls by the keyword: what the functions require follows from how the line opens and from what is held, and what they
 -- give is the step.
+use Rattle.std.specs.Prelude.{Result}
 use mathlib.Core.Path.{◌≡◌, sym, ◌∙◌, subst}
 use mathlib.Core.List.{List}
 use Prim.Native.Nat.{ℕ, ◌<◌}
@@ -21,6 +22,7 @@ use Rattle.locale_sheet.specs.declared.Step.{Step}
 use Rattle.locale_sheet.specs.Sheets.{SomeOpen, StepIs}
 use Rattle.locale_sheet.specs.Words.{WordLine}
 use Rattle.locale_declarations.specs.Worded.{Opened, StillAt, Still, Writes}
+use Rattle.base_units.specs.declared.Refusal.{Refusal}
 
 -- ## What is required
 
@@ -53,7 +55,7 @@ open-sound o = record { n = o.held.n; ds = o.held.known.ds; holds = o.held.known
 
 -- ## What is given
 
-module _ (g : Signs) (src w : List ℕ) (sh : Sheet) (at number depth : ℕ) {r : Step} where
+module _ (g : Signs) (src w : List ℕ) (sh : Sheet) (at number depth : ℕ) {r : Result Step Refusal} where
   pub still-step : Still g src sh at r → StepIs g src w sh at number depth w r
   still-step h = (h.is depth).is w number
 

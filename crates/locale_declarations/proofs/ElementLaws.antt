@@ -1,4 +1,6 @@
 -- collating-element: what it does where it may stand.
+use Rattle.base_units.specs.declared.Refusal.{Refusal}
+use Rattle.std.specs.Prelude.{Err, None, Ok, Result, ℕ}
 use mathlib.Core.Path.{◌≡◌, refl, sym, ap, ◌∙◌, subst}
 use mathlib.Core.Bool.{Bool, true, false, not, ◌&&◌, false≢true}
 use mathlib.Core.List.{List, [], ◌∷◌, map}
@@ -22,7 +24,6 @@ use Rattle.work_subjects.specs.Keys.{Key, item, chars, key_at, same_key}
 use Rattle.work_subjects.specs.Numbers.{is_declarable, kind_of}
 use Rattle.work_subjects.proofs.NumberLaws.{chars-declarable}
 use Rattle.work_store.specs.Store.{Decl, first, known_in, is_place, fresh}
-use Rattle.work_store.specs.declared.Found.TheVariants.{Nothing}
 use Rattle.work_store.proofs.ListLaws.{first-fresh-other, is_place-older, place-below}
 use Rattle.work_rows.specs.Cells.{cell}
 use Rattle.work_order.specs.declared.Order.{Order}
@@ -32,8 +33,6 @@ use Rattle.locale_sheet.proofs.MarkLaws.{row_by}
 use Rattle.locale_sheet.proofs.GrownLaws.{Grown, known_grown}
 use Rattle.locale_sheet.proofs.NewLaws.{says_on, kind-name}
 use Rattle.locale_symbols.specs.Symbols.{is_new_in, operands_after}
-use Rattle.locale_elements.specs.declared.Element.{Element}
-use Rattle.locale_elements.specs.declared.Element.TheVariants as answer
 use Rattle.locale_elements.specs.Element.{element_refusal, chars_in, DeclaresBoth, ElementAt, ElementIs}
 use Rattle.locale_elements.proofs.PaperLaws.{element-paper, element-misplaced}
 use Rattle.locale_opening.proofs.KeywordLaws.{at-element}
@@ -90,7 +89,7 @@ module _ (g : Signs) (src w : List ℕ) (o : Order) (rs : List Rule) (n : ℕ) (
           some = λ u p z. two-by key v q k.ds u p z (λ e. omega (arith, e, later)) (λ e. omega (arith, e, first_some));
         }
 
-    pub known-element-new : is_declarable (item (named m)) ≡ true → is_declarable (chars xs) ≡ true → first (item (named m)) k.ds ≡ Nothing → first (chars xs) k.ds ≡ Nothing
+    pub known-element-new : is_declarable (item (named m)) ≡ true → is_declarable (chars xs) ≡ true → first (item (named m)) k.ds ≡ None → first (chars xs) k.ds ≡ None
         → Known g src w' o rs (q / 16 + 1) (element m xs ∷ cs) ls
     unfolding same_key
     known-element-new fit fits a b =
@@ -142,7 +141,7 @@ element-new ds os h =
 
 -- ## collating-element
 
-pub element-declaring : Declaring "collating-element" element_line (λ os. element (the_name (token_at os 0)) (chars_in os)) element_refusal ElementIs answer.Refused
+pub element-declaring : Declaring "collating-element" element_line (λ os. element (the_name (token_at os 0)) (chars_in os)) element_refusal ElementIs Err
 unfolding bytes element_line
 element-declaring = record {
   collate = λ s number os. at-element s number (bytes "collating-element") os refl;
@@ -150,13 +149,12 @@ element-declaring = record {
   state = λ s os. refl;
   paper = element-paper;
   misplaced = element-misplaced;
-  bounded = bounded-element;
-  told = λ a. (a.0.refusal, a.0.some);
+  told = λ a. a.0.refusal;
 }
 
 module _ (g : Signs) (src : List ℕ) (at : ℕ) (p : Spot) (e : LineEnd) (l : Opened g src at p e "collating-element")
-    (w w' : List ℕ) (sh : Sheet) {t : Bool} (j : t ≡ may sh) (f : t ≡ true) (x : e.text ≡ true) {y : Element} (a : ElementIs g src p w w' y) where
-  pub element-done : {v q : ℕ} → y ≡ answer.Declared v q → Writes g src w sh at w' (Next sh e.next e.feeds)
+    (w w' : List ℕ) (sh : Sheet) {t : Bool} (j : t ≡ may sh) (f : t ≡ true) (x : e.text ≡ true) {y : Result (ℕ × ℕ) Refusal} (a : ElementIs g src p w w' y) where
+  pub element-done : {v q : ℕ} → y ≡ Ok (v, q) → Writes g src w sh at w' (Ok (Next sh e.next e.feeds))
   element-done {v} {q} z =
       let b : ElementAt g src p w v q = (subst (ElementIs g src p w w') z a).0 in
       let c : DeclaresBoth (key_at g src) (length src) w v q w' = (subst (ElementIs g src p w w') z a).1 in

@@ -1,4 +1,5 @@
 -- order_start: what it does before the order, and its refusal.
+use Rattle.std.specs.Prelude.{Err, Ok, Result, ℕ}
 use mathlib.Core.Path.{◌≡◌, refl, sym, ap, ◌∙◌, subst}
 use mathlib.Core.Bool.{true, false}
 use mathlib.Core.List.{List, [], map}
@@ -20,13 +21,11 @@ use Rattle.text_lines.specs.declared.Spot.{Spot}
 use Rattle.text_lines.specs.declared.LineEnd.{LineEnd}
 use Rattle.text_tokens.specs.Left.{tokens_left}
 use Rattle.locale_opening.proofs.KeywordLaws.{at-order-start}
-use Rattle.locale_levels.specs.declared.Levels.{Levels}
-use Rattle.locale_levels.specs.declared.Levels.TheVariants as levels
 use Rattle.locale_levels.specs.Levels.{start_refusal, LevelsAre, LevelsRefused, LevelsIs}
 use Rattle.locale_levels.proofs.LevelLaws.{start-line, start-elsewhere, start-state}
 use Rattle.locale_sheet.specs.Known.{behind}
 use Rattle.locale_sheet.specs.declared.Sheet.{Sheet}
-use Rattle.locale_sheet.specs.declared.Step.TheVariants.{Next, Refused}
+use Rattle.locale_sheet.specs.declared.Step.TheVariants.{Next}
 use Rattle.locale_sheet.specs.Sheets.{rules_at}
 use Rattle.locale_sheet.proofs.SheetLaws.{spot-behind}
 use Rattle.locale_sheet.proofs.OrderLaws.{open-ordered}
@@ -35,21 +34,18 @@ use Rattle.locale_declarations.proofs.RefusalLaws.{bounded-start}
 use Rattle.locale_declarations.proofs.OpenedLaws.{line-moves, line-accepted, line_refused, line-foul}
 
 -- the refusal of its operands
-module _ (os : List Token) (v : Levels) (k : LevelsIs os v) (m : ℕ) (i : v ≡ levels.Refused m) where
-  told : LevelsRefused os m
+module _ (os : List Token) (v : Result ℕ Refusal) (k : LevelsIs os v) (m : Refusal) (i : v ≡ Err m) where
+  told : LevelsRefused os (number_of m)
   told = subst (LevelsIs os) i k
 
-  bounded : Bounded 3 7 m
+  bounded : Bounded 3 7 (number_of m)
   bounded = subst (Bounded 3 7) told.refusal (bounded-start os)
 
-  some : m ≡ 0 → ⊥
+  some : number_of m ≡ 0 → ⊥
   some z = let h = told.some in omega (arith, h, z)
 
-  pub start-low : 2 ≤ m
-  start-low = let h = bounded-low 3 7 m bounded some in omega (arith, h)
-
-  pub start-high : m ≤ 7
-  start-high = bounded-high 3 7 m bounded some
+  pub start-low : 2 ≤ number_of m
+  start-low = let h = bounded-low 3 7 (number_of m) bounded some in omega (arith, h)
 
 module _ {g : Signs} {src : List ℕ} {at : ℕ} {p : Spot} {e : LineEnd} (l : Opened g src at p e "order_start") where
   abbrev left : List Token
@@ -79,7 +75,7 @@ module _ {g : Signs} {src : List ℕ} {at : ℕ} {p : Spot} {e : LineEnd} (l : O
       omega (arith, a, d)
 
   module _ (sh : Sheet) where
-    pub start-misplaced : {x : Refusal} → number_of x ≡ lower (2 unless e.text) 3 → (sh.phase ≡ 3 → ⊥) → Still g src sh at (Refused x)
+    pub start-misplaced : {x : Refusal} → number_of x ≡ lower (2 unless e.text) 3 → (sh.phase ≡ 3 → ⊥) → Still g src sh at (Err x)
     start-misplaced b n =
         record {
           is = λ depth. record {
@@ -88,10 +84,10 @@ module _ {g : Signs} {src : List ℕ} {at : ℕ} {p : Spot} {e : LineEnd} (l : O
           };
         }
 
-    module _ (f : sh.phase ≡ 3) {v : Levels} (k : LevelsIs left v) where
-      pub start-refused : {m : ℕ} {x : Refusal} → v ≡ levels.Refused m → number_of x ≡ lower (2 unless e.text) m → Still g src sh at (Refused x)
+    module _ (f : sh.phase ≡ 3) {v : Result ℕ Refusal} (k : LevelsIs left v) where
+      pub start-refused : {m x : Refusal} → v ≡ Err m → number_of x ≡ lower (2 unless e.text) (number_of m) → Still g src sh at (Err x)
       start-refused {m} i b =
-          let r : LevelsRefused left m = subst (LevelsIs left) i k in
+          let r : LevelsRefused left (number_of m) = subst (LevelsIs left) i k in
           record {
             is = λ depth. record {
               is = λ w number. line_refused l w sh number depth b (λ cs s o d u.
@@ -99,7 +95,7 @@ module _ {g : Signs} {src : List ℕ} {at : ℕ} {p : Spot} {e : LineEnd} (l : O
             };
           }
 
-      module _ {n : ℕ} (i : v ≡ levels.Some n) where
+      module _ {n : ℕ} (i : v ≡ Ok n) where
         are : LevelsAre left n
         are = subst (LevelsIs left) i k
 
@@ -107,12 +103,12 @@ module _ {g : Signs} {src : List ℕ} {at : ℕ} {p : Spot} {e : LineEnd} (l : O
             → lower (tokens_refusal left) (collate_line s number (bytes "order_start") left).refusal ≡ 0
         fine s number z = start-fault s number ∙ start-line s left (rw (z, f)) ∙ are.accepted
 
-        pub start-foul : e.text ≡ false → Still g src sh at (Refused BadByte)
+        pub start-foul : e.text ≡ false → Still g src sh at (Err BadByte)
         start-foul x =
             record { is = λ depth. record { is = λ w number. line-foul l w sh number depth x } }
 
         pub start-done : e.text ≡ true
-            → Still g src sh at (Next (record { phase = 4; toggles = sh.toggles; rules = p.at; levels = n; order = sh.order; block = sh.block }) e.next e.feeds)
+            → Still g src sh at (Ok (Next (record { phase = 4; toggles = sh.toggles; rules = p.at; levels = n; order = sh.order; block = sh.block }) e.next e.feeds))
         start-done x =
             record {
               is = λ depth. record {

@@ -1,4 +1,6 @@
 -- collating-symbol: what it does where it may stand.
+use Rattle.base_units.specs.declared.Refusal.{Refusal}
+use Rattle.std.specs.Prelude.{Err, Ok, Result, ℕ}
 use mathlib.Core.Path.{◌≡◌, refl, ap, ◌∙◌, subst}
 use mathlib.Core.Bool.{Bool, true}
 use mathlib.Core.List.{List, [], ◌∷◌}
@@ -17,8 +19,6 @@ use Rattle.work_subjects.specs.Keys.{Key, item, key_at}
 use Rattle.work_subjects.specs.Numbers.{is_declarable, kind_of}
 use Rattle.work_store.specs.Store.{Decl, known_in, above_of, Declares}
 use Rattle.locale_sheet.proofs.NewLaws.{name-above, declared-older, known-symbol-new}
-use Rattle.locale_symbols.specs.declared.Symbol.{Symbol}
-use Rattle.locale_symbols.specs.declared.Symbol.TheVariants as answer
 use Rattle.locale_symbols.specs.Symbols.{is_new_in, operands_after, symbol_refusal, SymbolAt, SymbolIs}
 use Rattle.locale_symbols.proofs.PaperLaws.{symbol-paper, symbol-misplaced}
 use Rattle.locale_opening.proofs.KeywordLaws.{at_symbol}
@@ -37,7 +37,7 @@ symbol-new ds os h =
     let b = (lowest-unless 3 (single name os) (5 unless new ∷ []) (omega arith) a.1).1 in
     ((lowest-unless 5 new [] (omega arith) b).0, first-declarable os a.0)
 
-pub symbol-declaring : Declaring "collating-symbol" symbol_line (λ os. symbol (the_name (token_at os 0))) symbol_refusal SymbolIs answer.Refused
+pub symbol-declaring : Declaring "collating-symbol" symbol_line (λ os. symbol (the_name (token_at os 0))) symbol_refusal SymbolIs Err
 unfolding bytes symbol_line
 symbol-declaring = record {
   collate = λ s number os. at_symbol s number (bytes "collating-symbol") os refl;
@@ -45,13 +45,12 @@ symbol-declaring = record {
   state = λ s os. refl;
   paper = symbol-paper;
   misplaced = symbol-misplaced;
-  bounded = bounded-symbol;
-  told = λ a. (a.0.refusal, a.0.some);
+  told = λ a. a.0.refusal;
 }
 
 module _ (g : Signs) (src : List ℕ) (at : ℕ) (p : Spot) (e : LineEnd) (l : Opened g src at p e "collating-symbol")
-    (w w' : List ℕ) (sh : Sheet) {t : Bool} (j : t ≡ may sh) (f : t ≡ true) (x : e.text ≡ true) {y : Symbol} (a : SymbolIs g src p w w' y) where
-  pub symbol-done : {v : ℕ} → y ≡ answer.Declared v → Writes g src w sh at w' (Next sh e.next e.feeds)
+    (w w' : List ℕ) (sh : Sheet) {t : Bool} (j : t ≡ may sh) (f : t ≡ true) (x : e.text ≡ true) {y : Result ℕ Refusal} (a : SymbolIs g src p w w' y) where
+  pub symbol-done : {v : ℕ} → y ≡ Ok v → Writes g src w sh at w' (Ok (Next sh e.next e.feeds))
   symbol-done {v} z =
       let b : SymbolAt g src p w v = (subst (SymbolIs g src p w w') z a).0 in
       let c : Declares (key_at g src) (length src) w v w' = (subst (SymbolIs g src p w w') z a).1 in

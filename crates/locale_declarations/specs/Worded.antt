@@ -1,6 +1,6 @@
 -- A line in LC_COLLATE that opens with a word, as the functions of its keyword find it, and what such a function does: a step of the reader
 -- (Rattle.locale_sheet.specs.Sheets), whatever is held.
-use Rattle.std.specs.Prelude.{◌≡◌, Bool, true, ◌&&◌, List, ℕ}
+use Rattle.std.specs.Prelude.{◌≡◌, Bool, true, ◌&&◌, List, ℕ, Result}
 use Prim.Native.String.{String}
 use Rattle.rules.specs.Text.{bytes, is}
 use Rattle.rules.specs.Tokens.{word, Token, token_at, single, tokens_refusal}
@@ -12,6 +12,7 @@ use Rattle.locale_sheet.specs.declared.Sheet.{Sheet}
 use Rattle.locale_sheet.specs.declared.Step.{Step}
 use Rattle.locale_sheet.specs.Sheets.{StepIs}
 use Rattle.locale_sheet.specs.Words.{WordLine}
+use Rattle.base_units.specs.declared.Refusal.{Refusal}
 
 -- ## The line
 
@@ -23,15 +24,15 @@ pub record Opened (g : Signs) (src : List ℕ) (at : ℕ) (p : Spot) (e : LineEn
 -- ## What it does
 
 -- A step at a depth that leaves the area as it is, whatever that holds and whatever number the line has.
-pub record StillAt (g : Signs) (src : List ℕ) (sh : Sheet) (at depth : ℕ) (r : Step) : Type 0 where
+pub record StillAt (g : Signs) (src : List ℕ) (sh : Sheet) (at depth : ℕ) (r : Result Step Refusal) : Type 0 where
   pub is : (w : List ℕ) (number : ℕ) → StepIs g src w sh at number depth w r
 
 -- The same at every depth.
-pub record Still (g : Signs) (src : List ℕ) (sh : Sheet) (at : ℕ) (r : Step) : Type 0 where
+pub record Still (g : Signs) (src : List ℕ) (sh : Sheet) (at : ℕ) (r : Result Step Refusal) : Type 0 where
   pub is : (depth : ℕ) → StillAt g src sh at depth r
 
 -- A step that leaves the area w', at every depth and whatever number the line has.
-pub record Writes (g : Signs) (src w : List ℕ) (sh : Sheet) (at : ℕ) (w' : List ℕ) (r : Step) : Type 0 where
+pub record Writes (g : Signs) (src w : List ℕ) (sh : Sheet) (at : ℕ) (w' : List ℕ) (r : Result Step Refusal) : Type 0 where
   pub is : (number depth : ℕ) → StepIs g src w sh at number depth w' r
 
 -- ## END

@@ -11,71 +11,61 @@ ghost use Rattle.work_subjects.specs.Keys.{key_at};
 ghost use Rattle.work_store.specs.Store.{Sound};
 ghost use Rattle.locale_declarations.specs.Worded.{Opened, StillAt, Still, Writes, CollateIs};
 
-use base_units::{Refusal, refusal_of};
-use locale_elements::{Element, element_line};
-use locale_levels::{Levels, levels_of};
+use base_units::Refusal;
+use locale_elements::element_line;
+use locale_levels::levels_of;
 use locale_opening::{malformed, refusal_with};
 use locale_sheet::{AFTER_ORDER, BEFORE_ORDER, IN_ORDER, Line, Sheet, Step};
-use locale_symbols::{Symbol, symbol_line};
+use locale_symbols::symbol_line;
 use text_lines::{Signs, Spot};
-use text_operands::{One, no_operand, single_word};
+use text_operands::{no_operand, single_word};
 use text_tokens::word_is;
 
 // order_start, before the order: its operands are the rules of the levels, read again from the spot after the word.
-pub fn order_start_line(src: &[u8], g: Signs, sh: Sheet, l: Line, p: Spot) -> Step
+pub fn order_start_line(src: &[u8], g: Signs, sh: Sheet, l: Line, p: Spot) -> Result<Step, Refusal>
     requires { Opened g src.now l.at p l.end "order_start" }
     ensures { Still g src.now sh l.at result }
 {
-    let order = sh.order;
-    let block = sh.block;
     if sh.phase == BEFORE_ORDER { // once
-        let found = levels_of(src, g, p);
-        match found {
-            Levels::Refused(r) => return Step::Refused(refusal_with(l.end.text, r)),
-            Levels::Some(n) => {
+        match levels_of(src, g, p) {
+            Err(r) => Err(refusal_with(l.end.text, r)),
+            Ok(levels) => {
                 if l.end.text {
                     let next = Sheet {
                         phase: IN_ORDER,
-                        toggles: sh.toggles,
                         rules: p.at,
-                        levels: n,
-                        order: order,
-                        block: block,
+                        levels,
+                        ..sh
                     };
-                    return Step::Next(next, l.end.next, l.end.feeds);
+                    Ok(Step::Next(next, l.end.next, l.end.feeds))
+                } else {
+                    Err(Refusal::BadByte)
                 }
-                return Step::Refused(Refusal::BadByte);
             }
         }
+    } else {
+        Err(malformed(l.end.text))
     }
-    Step::Refused(malformed(l.end.text))
 }
 
 // order_end, in the order and with no operand.
-pub fn order_end_line(src: &[u8], g: Signs, sh: Sheet, l: Line, p: Spot) -> Step
+pub fn order_end_line(src: &[u8], g: Signs, sh: Sheet, l: Line, p: Spot) -> Result<Step, Refusal>
     requires { Opened g src.now l.at p l.end "order_end" }
     ensures { Still g src.now sh l.at result }
 {
-    let order = sh.order;
-    let block = sh.block;
-    if sh.phase == IN_ORDER {
-        if no_operand(src, g, p) {
-            if l.end.text {
-                let next = Sheet {
-                    phase: AFTER_ORDER,
-                    toggles: sh.toggles,
-                    rules: sh.rules,
-                    levels: sh.levels,
-                    order: order,
-                    block: block,
-                };
-                return Step::Next(next, l.end.next, l.end.feeds);
-            }
-            return Step::Refused(Refusal::BadByte);
+    if sh.phase == IN_ORDER && no_operand(src, g, p) {
+        if l.end.text {
+            let next = Sheet {
+                phase: AFTER_ORDER,
+                ..sh
+            };
+            Ok(Step::Next(next, l.end.next, l.end.feeds))
+        } else {
+            Err(Refusal::BadByte)
         }
-        return Step::Refused(malformed(l.end.text)); // an operand
+    } else {
+        Err(malformed(l.end.text))
     }
-    Step::Refused(malformed(l.end.text))
 }
 
 // Whether a line's operands are the word LC_COLLATE, from the spot after its first token on.
@@ -83,80 +73,82 @@ fn collate_alone(src: &[u8], g: Signs, p: Spot) -> bool
     requires { (p.at ≤ length src.now) × (p.mode ≡ in_plain) }
     ensures { CollateIs (operands (tokens_left g src.now p)) result }
 {
-    let o = single_word(src, g, p);
-    match o {
-        One::Other => return false,
-        One::Word(q) => return word_is(src, g, q, b"LC_COLLATE"),
+    match single_word(src, g, p) {
+        None => false,
+        Some(q) => word_is(src, g, q, b"LC_COLLATE"),
     }
 }
 
 // END LC_COLLATE, after the order, outside every block and every chain.
-pub fn end_line(src: &[u8], g: Signs, sh: Sheet, l: Line, p: Spot) -> Step
+pub fn end_line(src: &[u8], g: Signs, sh: Sheet, l: Line, p: Spot) -> Result<Step, Refusal>
     requires { Opened g src.now l.at p l.end "END" }
     ensures { StillAt g src.now sh l.at l.depth result }
 {
-    if sh.phase == AFTER_ORDER {
-        if l.depth == 0 {
-            if collate_alone(src, g, p) {
-                if l.end.text {
-                    return Step::Closes(l.end.next, l.end.feeds);
-                }
-                return Step::Refused(Refusal::BadByte);
-            }
-            return Step::Refused(malformed(l.end.text));
+    // in a chain it is malformed
+    if sh.phase == AFTER_ORDER && l.depth == 0 && collate_alone(src, g, p) {
+        if l.end.text {
+            Ok(Step::Closes(l.end.next, l.end.feeds))
+        } else {
+            Err(Refusal::BadByte)
         }
-        return Step::Refused(malformed(l.end.text)); // in a chain
+    } else {
+        Err(malformed(l.end.text))
     }
-    Step::Refused(malformed(l.end.text))
 }
 
 // Whether a declaration may stand in this phase: before order_start, or after the order and outside every block.
 fn may_declare(phase: u8) -> bool
     ensures { result ≡ (eqb phase before_order || eqb phase after_order) }
 {
-    if phase == BEFORE_ORDER {
-        return true;
-    }
-    if phase == AFTER_ORDER {
-        return true;
-    }
-    false
+    phase == BEFORE_ORDER || phase == AFTER_ORDER
 }
 
 // collating-symbol, where a declaration may stand: a collating symbol is declared.
-pub fn symbol_step(src: &[u8], g: Signs, work: &mut [u32], sh: Sheet, l: Line, p: Spot) -> Step
+pub fn symbol_step(
+    src: &[u8],
+    g: Signs,
+    work: &mut [u32],
+    sh: Sheet,
+    l: Line,
+    p: Spot,
+) -> Result<Step, Refusal>
     requires opened { Opened g src.now l.at p l.end "collating-symbol" }
     requires sound { Sound (key_at g src.now) (length src.now) work.old }
     ensures { Writes g src.now work.old sh l.at work.new result }
 {
     if may_declare(sh.phase) { // outside the order and every block
         if l.end.text {
-            let s = symbol_line(src, g, work, p);
-            match s {
-                Symbol::Declared(_) => return Step::Next(sh, l.end.next, l.end.feeds),
-                Symbol::Refused(r) => return Step::Refused(refusal_of(r)),
-            }
+            symbol_line(src, g, work, p)?;
+            Ok(Step::Next(sh, l.end.next, l.end.feeds))
+        } else {
+            Err(Refusal::BadByte)
         }
-        return Step::Refused(Refusal::BadByte);
+    } else {
+        Err(malformed(l.end.text))
     }
-    Step::Refused(malformed(l.end.text))
 }
 
 // collating-element, where a declaration may stand: a collating element is declared.
-pub fn element_step(src: &[u8], g: Signs, work: &mut [u32], sh: Sheet, l: Line, p: Spot) -> Step
+pub fn element_step(
+    src: &[u8],
+    g: Signs,
+    work: &mut [u32],
+    sh: Sheet,
+    l: Line,
+    p: Spot,
+) -> Result<Step, Refusal>
     requires opened { Opened g src.now l.at p l.end "collating-element" }
     requires sound { Sound (key_at g src.now) (length src.now) work.old }
     ensures { Writes g src.now work.old sh l.at work.new result }
 {
-    if may_declare(sh.phase) {
+    if may_declare(sh.phase) { // outside the order and every block
         if l.end.text {
-            let s = element_line(src, g, work, p);
-            match s {
-                Element::Declared(_, _) => return Step::Next(sh, l.end.next, l.end.feeds),
-                Element::Refused(r) => return Step::Refused(refusal_of(r)),
-            }
+            element_line(src, g, work, p)?;
+            Ok(Step::Next(sh, l.end.next, l.end.feeds))
+        } else {
+            Err(Refusal::BadByte)
         }
-        return Step::Refused(Refusal::BadByte);
+    } else {
+        Err(malformed(l.end.text))
     }
-    Step::Refused(malformed(l.end.text))
 }

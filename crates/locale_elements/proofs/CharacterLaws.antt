@@ -1,4 +1,5 @@
 -- Names of characters, one and all those in quotes.
+use Rattle.std.specs.Prelude.{None, Option, Some, ℕ}
 use mathlib.Core.Path.{◌≡◌, refl, sym, ◌∙◌, subst}
 use mathlib.Core.Bool.{Bool, true, false}
 use mathlib.Core.List.{List, []}
@@ -8,17 +9,12 @@ use lib.ListN.{length}
 use Rattle.rules.specs.Text.{every}
 use Rattle.rules.specs.Names.{is_character, is_char_name}
 use Rattle.rules.specs.Lines.{quoted}
+use Rattle.base_units.specs.declared.Refusal.{Refusal}
 use Rattle.text_lines.specs.declared.Signs.{Signs}
 use Rattle.text_lines.specs.declared.Spot.{Spot}
 use Rattle.text_lines.specs.Stream.{marks_left}
-use Rattle.text_tokens.specs.declared.Closing.{Closing}
-use Rattle.text_tokens.specs.declared.Closing.TheVariants as closing
 use Rattle.text_tokens.specs.Left.{is_inside, names_from, names_in, ClosingIs}
 use Rattle.base_units.specs.declared.CodePoint.{CodePoint}
-use Rattle.text_names.specs.declared.Code.{Code}
-use Rattle.text_names.specs.declared.Code.TheVariants as code
-use Rattle.text_names.specs.declared.Named.{Named}
-use Rattle.text_names.specs.declared.Named.TheVariants as next
 use Rattle.text_names.specs.Named.{name_left, CharIs, CodeIs, NameAt, NamedIs}
 use Rattle.text_lines.proofs.LineLaws.{ends-source}
 use native.Mathlib.Nat.{le_refl}
@@ -27,12 +23,12 @@ use Rattle.work_subjects.proofs.CharsLaws.{after-closed, after_open}
 
 -- ## One name
 
-module _ (n : List ℕ) {c : Code} (v : CodeIs n c) where
-  pub char_is : {x : CodePoint} {t : Bool} → c ≡ code.Char x → t ≡ is_character x.0 → t ≡ is_char_name n
+module _ (n : List ℕ) {c : Option CodePoint} (v : CodeIs n c) where
+  pub char_is : {x : CodePoint} {t : Bool} → c ≡ Some x → t ≡ is_character x.0 → t ≡ is_char_name n
   unfolding is_char_name
   char_is {x} e f = let z : CharIs n x.0 = subst (CodeIs n) e v in f ∙ sym (rw (z.shaped, ← z.code))
 
-  pub char-not : c ≡ code.Other → false ≡ is_char_name n
+  pub char-not : c ≡ None → false ≡ is_char_name n
   unfolding is_char_name
   char-not e = let z = subst (CodeIs n) e v in sym (rw z)
 
@@ -47,12 +43,12 @@ pub record Passed (g : Signs) (src : List ℕ) (p q : Spot) : Type 0 where
 pub passed_none : (g : Signs) (src : List ℕ) (p : Spot) → p.at ≤ length src → p.mode ≡ quoted → Passed g src p p
 passed_none g src p h m = record { rest = refl; mode = m; to = h }
 
-module _ {g : Signs} {src : List ℕ} {p q : Spot} (v : Passed g src p q) {n : Named} (w : NamedIs g src q n) where
-  pub passed-end : n ≡ next.Close → true ≡ every is_char_name (names_in (marks_left g src p))
+module _ {g : Signs} {src : List ℕ} {p q : Spot} (v : Passed g src p q) {n : Option Spot} (w : NamedIs g src q n) where
+  pub passed-end : n ≡ None → true ≡ every is_char_name (names_in (marks_left g src p))
   unfolding every
   passed-end e = let z : names_in (marks_left g src q) ≡ [] = subst (NamedIs g src q) e w in sym (v.rest ∙ rw z)
 
-  module _ {i : Spot} (e : n ≡ next.Name i) where
+  module _ {i : Spot} (e : n ≡ Some i) where
     there : NameAt g src q i
     there = subst (NamedIs g src q) e w
 
@@ -72,14 +68,14 @@ module _ {g : Signs} {src : List ℕ} {p q : Spot} (v : Passed g src p q) {n : N
         unfolding every
         beyond a = v.rest ∙ rw (there.names, sym f ∙ h, a.names)
 
-        module _ {c : Closing} (k : ClosingIs g src i c) where
-          pub passed-more : {r : ℕ} {y : Spot} → c ≡ closing.Closed r y → Passed g src p y
+        module _ {c : Option (Option Refusal × Spot)} (k : ClosingIs g src i c) where
+          pub passed-more : {r : Option Refusal} {y : Spot} → c ≡ Some (r, y) → Passed g src p y
           passed-more d = let a = after-closed g src i k d in record { rest = beyond a; mode = a.mode (there.mode v.mode); to = a.to }
 
-          pub passed-less : {r : ℕ} {y : Spot} → c ≡ closing.Closed r y → length (names_in (marks_left g src y)) < length (names_in (marks_left g src q))
+          pub passed-less : {r : Option Refusal} {y : Spot} → c ≡ Some (r, y) → length (names_in (marks_left g src y)) < length (names_in (marks_left g src q))
           passed-less d = let a = after-closed g src i k d in rw (there.names, a.names) (omega arith)
 
-          pub passed-open : c ≡ closing.Open → true ≡ every is_char_name (names_in (marks_left g src p))
+          pub passed-open : c ≡ None → true ≡ every is_char_name (names_in (marks_left g src p))
           unfolding every names_from
           passed-open d =
               let a = after_open g src i k d in

@@ -1,4 +1,5 @@
 -- The line `collating-element`: a law for each answer.
+use Rattle.std.specs.Prelude.{Err, None, Ok, Option, Result, Some, ℕ}
 use mathlib.Core.Path.{◌≡◌, refl, sym, ap, ◌∙◌, subst}
 use mathlib.Core.Logic.{inl, inr}
 use mathlib.Core.Bool.{true, not, ◌&&◌}
@@ -16,6 +17,8 @@ use Rattle.rules.specs.Tokens.{name, quote, Token, token_at, the_name, tokens_re
 use Rattle.rules.specs.State.{named}
 use Rattle.rules.specs.Declarations.{element_formed}
 use Rattle.rules.proofs.TextLaws.{lower-none, lowest-unless}
+use Rattle.base_units.specs.declared.Refusal.{Refusal}
+use Rattle.base_units.specs.Numbers.{number_of}
 use Rattle.text_lines.specs.declared.Signs.{Signs}
 use Rattle.text_lines.specs.declared.Spot.{Spot}
 use Rattle.text_lines.specs.Stream.{marks_left}
@@ -26,16 +29,10 @@ use Rattle.text_operands.specs.Operand.{operands_left}
 use Rattle.text_names.specs.Named.{name_left}
 use Rattle.work_subjects.specs.Keys.{item, chars, key_at}
 use Rattle.work_store.specs.Store.{Decl, known_in, Sound}
-use Rattle.locale_symbols.specs.declared.Head.{Head}
-use Rattle.locale_symbols.specs.declared.Head.TheVariants as head
 use Rattle.locale_symbols.specs.Symbols.{is_new_in, operands_after, Unfit, Gives, NameFirst, HeadIs}
 use Rattle.locale_symbols.proofs.UnfitLaws.{unfit-three, unfit-other}
 use Rattle.locale_symbols.proofs.NewLaws.{new-shape, key-named}
 use Rattle.locale_symbols.proofs.SymbolLaws.{name-some, head-within, head-inside}
-use Rattle.locale_elements.specs.declared.Tail.{Tail}
-use Rattle.locale_elements.specs.declared.Tail.TheVariants as tail
-use Rattle.locale_elements.specs.declared.Element.{Element}
-use Rattle.locale_elements.specs.declared.Element.TheVariants as element
 use Rattle.locale_elements.specs.Element.{element_fault, element_refusal, from_formed, FromQuotes, FromIs, FaultIs, ElementAt, ElementNot, ElementChecked}
 use Rattle.locale_elements.proofs.FaultLaws.{key-chars}
 
@@ -114,18 +111,18 @@ fault-new ds n ns h =
 
 -- ## The answers
 
-module _ (g : Signs) (src : List ℕ) (p : Spot) (w : List ℕ) {h : Head} (v : HeadIs g src p (operands_after g src p) h) where
-  pub element-other : h ≡ head.Other → ElementNot g src p w 3
+module _ (g : Signs) (src : List ℕ) (p : Spot) (w : List ℕ) {h : Option (Spot × Spot)} (v : HeadIs g src p (operands_after g src p) h) where
+  pub element-other : h ≡ None → ElementNot g src p w 3
   element-other e =
       let os = operands_after g src p in
       not_three g src p w (unfit-other os (eqb (token_at os 0).kind name) (element_formed os) (formed-name os) (subst (HeadIs g src p os) e v))
 
-  module _ {i e : Spot} (k : h ≡ head.Name i e) where
+  module _ {i e : Spot} (k : h ≡ Some (i, e)) where
     named-first : NameFirst g src p (operands_after g src p) i e
     named-first = subst (HeadIs g src p (operands_after g src p)) k v
 
-    module _ {t : Tail} (u : FromIs g src e t) where
-      pub element-unformed : t ≡ tail.Other → ElementNot g src p w 3
+    module _ {t : Option (Spot × ℕ)} (u : FromIs g src e t) where
+      pub element-unformed : t ≡ None → ElementNot g src p w 3
       element-unformed d = not_three g src p w (unfit (subst (FromIs g src e) d u))
         where
           unfit : Unfit (operands_left g src true e) (from_formed (operands_left g src true e)) → Unfit (operands_after g src p) (element_formed (operands_after g src p))
@@ -134,7 +131,7 @@ module _ (g : Signs) (src : List ℕ) (p : Spot) (w : List ℕ) {h : Head} (v : 
               inr (rw named-first.first (by (element_formed (named-first.token ∷ operands_left g src true e))
               (λ y. clash (formed-rest named-first.token (operands_left g src true e) y) z) (λ y. y)))
 
-      module _ {s : Spot} {n : ℕ} (d : t ≡ tail.Quotes s n) where
+      module _ {s : Spot} {n : ℕ} (d : t ≡ Some (s, n)) where
         after-name : FromQuotes g src e s n
         after-name = subst (FromIs g src e) d u
 
@@ -210,11 +207,11 @@ module _ (g : Signs) (src : List ℕ) (p : Spot) (w : List ℕ) {h : Head} (v : 
 
 -- ## The declaration
 
-module _ (g : Signs) (src : List ℕ) (p : Spot) (w : List ℕ) {s : Element} (v : ElementChecked g src p w s) where
-  pub element-not : {r : ℕ} → s ≡ element.Refused r → ElementNot g src p w r
+module _ (g : Signs) (src : List ℕ) (p : Spot) (w : List ℕ) {s : Result (ℕ × ℕ) Refusal} (v : ElementChecked g src p w s) where
+  pub element-not : {r : Refusal} → s ≡ Err r → ElementNot g src p w (number_of r)
   element-not e = subst (ElementChecked g src p w) e v
 
-  module _ {x y : ℕ} (e : s ≡ element.Declared x y) where
+  module _ {x y : ℕ} (e : s ≡ Ok (x, y)) where
     pub element-marks : ElementAt g src p w x y
     element-marks = subst (ElementChecked g src p w) e v
 

@@ -1,4 +1,5 @@
 -- What the name and the quotes of an element are refused for: a law for each answer.
+use Rattle.std.specs.Prelude.{None, Option, Some, is_some, ℕ}
 use mathlib.Core.Path.{◌≡◌, refl, sym, ap, ◌∙◌}
 use mathlib.Core.Bool.{Bool, true, false, not, ◌&&◌}
 use mathlib.Core.List.{List, [], ◌∷◌, map}
@@ -18,8 +19,6 @@ use Rattle.text_names.specs.Named.{name_left}
 use Rattle.work_subjects.specs.Keys.{Key, chars_left, chars, key_at}
 use Rattle.work_subjects.proofs.CharsLaws.{chars_of-names}
 use Rattle.work_subjects.proofs.SpotLaws.{key_at-quoted}
-use Rattle.work_store.specs.declared.Found.{Found}
-use Rattle.work_store.specs.declared.Found.TheVariants.{At, Nothing}
 use Rattle.work_store.specs.Store.{Decl, is_found, known_in, Holds, Finds}
 use Rattle.locale_symbols.specs.Symbols.{is_new_in, NewIs}
 use Rattle.locale_symbols.proofs.NewLaws.{known_is}
@@ -66,6 +65,11 @@ pub key-chars : (g : Signs) (src : List ℕ) (s : Spot) → s.mode ≡ quoted �
 unfolding chars_left
 key-chars g src s m h = key_at-quoted g src s m ∙ ap chars (chars_of-names (names_in (marks_left g src s)) h)
 
+-- what is found
+pub found-some : (x : Option ℕ) {t : Bool} → t ≡ is_some x → is_found x ≡ t
+found-some None e = sym e
+found-some (Some q) e = sym e
+
 -- ## The answers
 
 module _ (g : Signs) (src w : List ℕ) (i s : Spot) {a : Bool} (u : NewIs (key_at g src) (length src) w (name_left g src i) a) where
@@ -93,19 +97,19 @@ module _ (g : Signs) (src w : List ℕ) (i s : Spot) {a : Bool} (u : NewIs (key_
               ∙ by_names (known_in (chars (map code_of names)) ds) short;
         }
 
-    module _ (k : b ≡ true) (mode : s.mode ≡ quoted) {x : Found} (d : Finds (key_at g src) (length src) w (key_at g src (2 * s.at + 1)) x) where
+    module _ (k : b ≡ true) (mode : s.mode ≡ quoted) {x : Option ℕ} (d : Finds (key_at g src) (length src) w (key_at g src (2 * s.at + 1)) x) where
       known : (m : ℕ) (ds : List Decl) → Holds (key_at g src) (length src) w m ds → known_in (chars (map code_of names)) ds ≡ is_found x
       known m ds o = ap (λ (z : Key). known_in z ds) (sym (key-chars g src s mode (sym f ∙ k))) ∙ known_is d m ds o
 
-      pub fault-same : {q : ℕ} → x ≡ At q → FaultIs g src w i s 5
+      pub fault-same : is_found x ≡ true → FaultIs g src w i s 5
       fault-same e =
           record {
             is = λ m ds o.
-                fault-by ds (name_left g src i) names (sym (u.is m ds o) ∙ h) (sym f ∙ k) (known m ds o ∙ ap is_found e) refl
+                fault-by ds (name_left g src i) names (sym (u.is m ds o) ∙ h) (sym f ∙ k) (known m ds o ∙ e) refl
                 ∙ by-same short;
           }
 
-      module _ (e : x ≡ Nothing) {n : ℕ} (c : length (names_in (marks_left g src s)) ≡ n) where
+      module _ (e : is_found x ≡ false) {n : ℕ} (c : length (names_in (marks_left g src s)) ≡ n) where
         many : length (map code_of names) ≡ n
         many = length-map names code_of ∙ c
 
@@ -113,7 +117,7 @@ module _ (g : Signs) (src w : List ℕ) (i s : Spot) {a : Bool} (u : NewIs (key_
         by-many l z r y =
             record {
               is = λ m ds o.
-                  fault-by ds (name_left g src i) names (sym (u.is m ds o) ∙ h) (sym f ∙ k) (known m ds o ∙ ap is_found e) (ap (within 2 4) many ∙ z)
+                  fault-by ds (name_left g src i) names (sym (u.is m ds o) ∙ h) (sym f ∙ k) (known m ds o ∙ e) (ap (within 2 4) many ∙ z)
                   ∙ by_length l ∙ y;
             }
 

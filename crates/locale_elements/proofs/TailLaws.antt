@@ -1,4 +1,5 @@
 -- The operands after an element's name: `from` and quotes, and how far the quotes are from the spot after the name.
+use Rattle.std.specs.Prelude.{None, Option, Some, ℕ}
 use mathlib.Core.Path.{◌≡◌, refl, sym, ap, ◌∙◌, subst}
 use mathlib.Core.Logic.{inl, inr}
 use mathlib.Core.Bool.{Bool, true, false, ◌&&◌, false≢true}
@@ -30,8 +31,6 @@ use Rattle.text_operands.specs.Operand.{operands_left, OperandAt, OperandIs}
 use Rattle.text_operands.proofs.ListLaws.{single-first, single_more}
 use Rattle.locale_symbols.specs.Symbols.{Unfit}
 use Rattle.locale_symbols.proofs.HeadLaws.{walk-long, walk-on}
-use Rattle.locale_elements.specs.declared.Tail.{Tail}
-use Rattle.locale_elements.specs.declared.Tail.TheVariants as tail
 use Rattle.locale_elements.specs.Element.{from_formed, QuotesAlone, AloneIs, FromIs}
 use Rattle.locale_elements.proofs.ThinLaws.{thin, tokens-thin, thin-word}
 
@@ -256,8 +255,8 @@ module _ (g : Signs) (src : List ℕ) (x : Spot) {o : Operand} (v : OperandIs g 
             let m = run-marks g src q u.walk.run in
             rw (← m) at (word-run q.fresh u.walk.passed (marks_left g src y) (rw (← m) (sym u.after)))
 
-        pub from-quotes : (r : Tail) → AloneIs g src y r → FromIs g src x r
-        from-quotes (tail.Quotes s n) a =
+        pub from-quotes : (r : Option (Spot × ℕ)) → AloneIs g src y r → FromIs g src x r
+        from-quotes (Some (s, n)) a =
             let l = run.0 in
             record {
               said = from;
@@ -275,7 +274,7 @@ module _ (g : Signs) (src : List ℕ) (x : Spot) {o : Operand} (v : OperandIs g 
               full = a.full;
               ends = a.ends;
             }
-        from-quotes tail.Other a = unfit a
+        from-quotes None a = unfit a
           where
             unfit : Unfit (operands_left g src true y) (single quote (operands_left g src true y)) → Unfit (operands_left g src true x) (from_formed (operands_left g src true x))
             unfit (inl z) = inl (rw both (refusal-later from (operands_left g src true y) z))

@@ -1,12 +1,14 @@
 -- The line `collating-element` as code reads it: from the spot after its first word on, with what is declared so far in the work area
 -- (Rattle.locale_symbols.specs.Symbols).
-use Rattle.std.specs.Prelude.{◌≡◌, Bool, true, false, not, ◌&&◌, List, [], ◌∷◌, map, ℕ, ◌+◌, ◌*◌, ◌/◌, ◌%◌, ◌≤◌, ◌<◌, length, get_or, eqb}
+use Rattle.std.specs.Prelude.{◌≡◌, Bool, true, false, not, ◌&&◌, List, [], ◌∷◌, map, ℕ, ◌+◌, ◌*◌, ◌/◌, ◌%◌, ◌≤◌, ◌<◌, length, get_or, eqb, Err, None, Ok, Option, Result, Some}
 use Rattle.rules.specs.Text.{within, every, is, ◌unless◌, lower, lowest}
 use Rattle.rules.specs.Names.{code_of, is_char_name}
 use Rattle.rules.specs.Lines.{quoted}
 use Rattle.rules.specs.Tokens as tokens
 use Rattle.rules.specs.Tokens.{Token, token_at, the_name, single, tokens_refusal}
 use Rattle.rules.specs.Declarations.{element_formed}
+use Rattle.base_units.specs.declared.Refusal.{Refusal}
+use Rattle.base_units.specs.Numbers.{number_of}
 use Rattle.text_lines.specs.declared.Signs.{Signs}
 use Rattle.text_lines.specs.declared.Spot.{Spot}
 use Rattle.text_lines.specs.Stream.{marks_left, end_of}
@@ -16,14 +18,9 @@ use Rattle.text_names.specs.Named.{name_left}
 use Rattle.work_rows.specs.Cells.{cell}
 use Rattle.work_subjects.specs.Keys.{Key, chars, key_at}
 use Rattle.work_subjects.specs.Numbers.{is_declarable, kind_of}
-use Rattle.work_store.specs.declared.Found.TheVariants.{Nothing}
 use Rattle.work_store.specs.Store.{Decl, first, known_in, fresh, heads_of, Holds}
 use Rattle.work_order.specs.Links.{chars_number}
 use Rattle.locale_symbols.specs.Symbols.{is_new_in, operands_after, Unfit, Gives, Reaches, NameMark}
-use Rattle.locale_elements.specs.declared.Tail.{Tail}
-use Rattle.locale_elements.specs.declared.Tail.TheVariants as tail
-use Rattle.locale_elements.specs.declared.Element.{Element}
-use Rattle.locale_elements.specs.declared.Element.TheVariants as element
 
 -- ## The line
 
@@ -74,9 +71,9 @@ pub record QuotesAlone (g : Signs) (src : List ℕ) (x s : Spot) (n : ℕ) : Typ
   pub full : 1 ≤ n → s.at + 2 ≤ after.at
   pub ends : after.at ≤ length src
 
-abbrev pub AloneIs : Signs → List ℕ → Spot → Tail → Type 0
-AloneIs g src x (tail.Quotes s n) = QuotesAlone g src x s n
-AloneIs g src x tail.Other = Unfit (operands_left g src true x) (single tokens.quote (operands_left g src true x))
+abbrev pub AloneIs : Signs → List ℕ → Spot → Option (Spot × ℕ) → Type 0
+AloneIs g src x (Some (s, n)) = QuotesAlone g src x s n
+AloneIs g src x None = Unfit (operands_left g src true x) (single tokens.quote (operands_left g src true x))
 
 -- `from` and quotes
 unfoldable pub from_formed : List Token → Bool
@@ -99,9 +96,9 @@ pub record FromQuotes (g : Signs) (src : List ℕ) (x s : Spot) (n : ℕ) : Type
   pub full : 1 ≤ n → s.at + 2 ≤ after.at
   pub ends : after.at ≤ length src
 
-abbrev pub FromIs : Signs → List ℕ → Spot → Tail → Type 0
-FromIs g src x (tail.Quotes s n) = FromQuotes g src x s n
-FromIs g src x tail.Other = Unfit (operands_left g src true x) (from_formed (operands_left g src true x))
+abbrev pub FromIs : Signs → List ℕ → Spot → Option (Spot × ℕ) → Type 0
+FromIs g src x (Some (s, n)) = FromQuotes g src x s n
+FromIs g src x None = Unfit (operands_left g src true x) (from_formed (operands_left g src true x))
 
 -- the refusal of the name at i and the quotes at s
 abbrev pub FaultIs : Signs → List ℕ → List ℕ → Spot → Spot → ℕ → Type 0
@@ -127,15 +124,15 @@ pub record ElementNot (g : Signs) (src : List ℕ) (p : Spot) (w : List ℕ) (r 
   pub refusal : Gives (key_at g src) (length src) w (λ (ds : List Decl). element_refusal ds (operands_after g src p)) r
   pub some : r ≡ 0 → ⊥
 
-abbrev pub ElementChecked : Signs → List ℕ → Spot → List ℕ → Element → Type 0
-ElementChecked g src p w (element.Declared v q) = ElementAt g src p w v q
-ElementChecked g src p w (element.Refused r) = ElementNot g src p w r
+abbrev pub ElementChecked : Signs → List ℕ → Spot → List ℕ → Result (ℕ × ℕ) Refusal → Type 0
+ElementChecked g src p w (Ok (v, q)) = ElementAt g src p w v q
+ElementChecked g src p w (Err r) = ElementNot g src p w (number_of r)
 
 -- The name at v and the quotes at q are declared, if they can be and were not yet, and the row of v tells q; the other numbers of that row stay, so do the five of the rows
 -- before and behind those that the two take, and what is behind the rows.
 pub record DeclaresBoth (key : ℕ → Key) (len : ℕ) (w : List ℕ) (v q : ℕ) (w' : List ℕ) : Type 0 where
-  pub is : (n : ℕ) (ds : List Decl) → Holds key len w n ds → n + 1 ≤ v / 16 → kind_of (key v) ≡ 1 → is_declarable (key v) ≡ true → first (key v) ds ≡ Nothing
-      → kind_of (key q) ≡ 2 → is_declarable (key q) ≡ true → first (key q) (fresh key v ∷ ds) ≡ Nothing → Holds key len w' (q / 16 + 1) (fresh key q ∷ fresh key v ∷ ds)
+  pub is : (n : ℕ) (ds : List Decl) → Holds key len w n ds → n + 1 ≤ v / 16 → kind_of (key v) ≡ 1 → is_declarable (key v) ≡ true → first (key v) ds ≡ None
+      → kind_of (key q) ≡ 2 → is_declarable (key q) ≡ true → first (key q) (fresh key v ∷ ds) ≡ None → Holds key len w' (q / 16 + 1) (fresh key q ∷ fresh key v ∷ ds)
   pub long : length w' ≡ length w
   pub chars : cell w' v chars_number ≡ q
   pub own : (k : ℕ) → 1 ≤ k → k < 5 → 1 ≤ v / 16 → kind_of (key v) ≡ 1 → kind_of (key q) ≡ 2 → cell w' v k ≡ cell w v k
@@ -144,6 +141,6 @@ pub record DeclaresBoth (key : ℕ → Key) (len : ℕ) (w : List ℕ) (v q : �
   pub beyond : (i : ℕ) → 8 * heads_of len ≤ i → get_or w' i 0 ≡ get_or w i 0
 
 -- what the line leaves: its name and its characters declared; or its refusal, and the area as it was
-abbrev pub ElementIs : Signs → List ℕ → Spot → List ℕ → List ℕ → Element → Type 0
-ElementIs g src p w w' (element.Declared v q) = ElementAt g src p w v q × DeclaresBoth (key_at g src) (length src) w v q w'
-ElementIs g src p w w' (element.Refused r) = ElementNot g src p w r × (w' ≡ w)
+abbrev pub ElementIs : Signs → List ℕ → Spot → List ℕ → List ℕ → Result (ℕ × ℕ) Refusal → Type 0
+ElementIs g src p w w' (Ok (v, q)) = ElementAt g src p w v q × DeclaresBoth (key_at g src) (length src) w v q w'
+ElementIs g src p w w' (Err r) = ElementNot g src p w (number_of r) × (w' ≡ w)

@@ -5,6 +5,7 @@ ghost use Rattle.std.specs.Prelude.{◌≡◌, true, ◌+◌, ◌/◌, ◌≤◌
 ghost use Rattle.rules.specs.Text.{every};
 ghost use Rattle.rules.specs.Names.{is_char_name};
 ghost use Rattle.rules.specs.Lines.{in_plain, quoted};
+ghost use Rattle.base_units.specs.Numbers.{number_or_none};
 ghost use Rattle.text_lines.specs.Stream.{marks_left};
 ghost use Rattle.text_tokens.specs.Left.{names_in, is_inside};
 ghost use Rattle.text_names.specs.Named.{name_left};
@@ -12,68 +13,46 @@ ghost use Rattle.work_subjects.specs.Keys.{key_at};
 ghost use Rattle.work_store.specs.Store.{Roomy, Sound};
 ghost use Rattle.locale_elements.specs.Element.{AloneIs, FromIs, FaultIs, ElementChecked, DeclaresBoth, ElementIs};
 
-use base_units::is_character;
-use locale_symbols::{Head, is_new, name_first};
+use base_units::{Refusal, is_character, lower_of};
+use locale_symbols::{is_new, name_first};
 use text_lines::{Signs, Spot};
-use text_names::{Code, Named, name_char, next_name};
+use text_names::{name_char, next_name};
 use text_operands::{Operand, next_operand, none_left, operands_refusal};
-use text_tokens::{Closing, QUOTE, end_of_name, end_of_word, lower_of, word_is};
+use text_tokens::{QUOTE, end_of_name, end_of_word, word_is};
 use work_order::CHARS_NUMBER;
 use work_rows::tell;
-use work_store::{Found, declare, find};
-
-// Quotes and nothing after them: the spot after the opening `"`, and how many names they hold; or anything else.
-#[derive(Clone, Copy)]
-pub enum Tail {
-    Quotes(Spot, usize),
-    Other,
-}
-
-// What a line declares: the marks of its name and of its quotes; or its refusal.
-#[derive(Clone, Copy)]
-pub enum Element {
-    Declared(usize, usize),
-    Refused(u8),
-}
+use work_store::{declare, find};
 
 // Whether quotes are the one operand still to come after another.
-fn quotes_alone(src: &[u8], g: Signs, x: Spot) -> Tail
+fn quotes_alone(src: &[u8], g: Signs, x: Spot) -> Option<(Spot, usize)>
     requires { (x.at ≤ length src.now) × (x.mode ≡ in_plain) }
     ensures { AloneIs g src.now x result }
 {
-    let o = next_operand(src, g, x, true);
-    match o {
-        Operand::End => return Tail::Other,
-        Operand::Broken => return Tail::Other,
+    match next_operand(src, g, x, true) {
+        Operand::End | Operand::Broken => None,
         Operand::Token(_, t) => {
-            if t.kind == QUOTE {
-                let s = t.inside;
-                let e = t.next;
-                if none_left(src, g, e, true) {
-                    return Tail::Quotes(s, t.names);
-                }
-                return Tail::Other;
+            if t.kind == QUOTE && none_left(src, g, t.next, true) {
+                Some((t.inside, t.names))
+            } else {
+                None
             }
-            return Tail::Other;
         }
     }
 }
 
 // Whether `from` and quotes are the operands still to come after a name.
-fn quotes_after_from(src: &[u8], g: Signs, x: Spot) -> Tail
+fn quotes_after_from(src: &[u8], g: Signs, x: Spot) -> Option<(Spot, usize)>
     requires { (x.at ≤ length src.now) × (x.mode ≡ in_plain) }
     ensures { FromIs g src.now x result }
 {
-    let o = next_operand(src, g, x, true);
-    match o {
-        Operand::End => return Tail::Other,
-        Operand::Broken => return Tail::Other,
+    match next_operand(src, g, x, true) {
+        Operand::End | Operand::Broken => None,
         Operand::Token(q, _) => {
             if word_is(src, g, q, b"from") {
-                let y = end_of_word(src, g, q);
-                return quotes_alone(src, g, y);
+                quotes_alone(src, g, end_of_word(src, g, q))
+            } else {
+                None
             }
-            return Tail::Other;
         }
     }
 }
@@ -83,10 +62,9 @@ fn is_char_name(src: &[u8], g: Signs, p: Spot) -> bool
     requires { p.at ≤ length src.now }
     ensures { result ≡ is_char_name (name_left g src.now p) }
 {
-    let c = name_char(src, g, p);
-    match c {
-        Code::Char(x) => return is_character(x),
-        Code::Other => return false,
+    match name_char(src, g, p) {
+        Some(x) => is_character(x),
+        None => false,
     }
 }
 
@@ -96,79 +74,58 @@ fn all_characters(src: &[u8], g: Signs, p: Spot) -> bool
     ensures { result ≡ every is_char_name (names_in (marks_left g src.now p)) }
 {
     let mut q = p;
-    loop {
-        let n = next_name(src, g, q);
-        match n {
-            Named::Close => return true,
-            Named::Name(i) => {
-                if is_char_name(src, g, i) {
-                    let c = end_of_name(src, g, i);
-                    match c {
-                        Closing::Closed(_, e) => {
-                            q = e;
-                        }
-                        Closing::Open => return true,
-                    }
-                } else {
-                    return false;
-                }
-            }
+    while let Some(i) = next_name(src, g, q) {
+        if !is_char_name(src, g, i) {
+            return false;
         }
+        let Some((_, e)) = end_of_name(src, g, i) else {
+            return true;
+        };
+        q = e;
     }
+    true
 }
 
 // What the name and the n names in quotes are refused for.
-fn element_fault(src: &[u8], g: Signs, work: &[u32], i: Spot, s: Spot, n: usize) -> u8
+fn element_fault(src: &[u8], g: Signs, work: &[u32], i: Spot, s: Spot, n: usize) -> Option<Refusal>
     requires at_in_bounds { (i.at ≤ length src.now) × (is_inside i.mode ≡ true) }
     requires at_in_bounds_2 { (s.at ≤ length src.now) × (s.mode ≡ quoted) }
     requires s_len { length (names_in (marks_left g src.now s)) ≡ n }
     requires sound { Sound (key_at g src.now) (length src.now) work.now }
-    ensures { FaultIs g src.now work.now i s result }
+    ensures { FaultIs g src.now work.now i s (number_or_none result) }
 {
-    if is_new(src, g, work, i) {
-        if all_characters(src, g, s) {
-            let f = find(src, g, work, 2 * s.at + 1);
-            match f {
-                Found::At(_) => return 5, // the same characters
-                Found::Nothing => {
-                    if n < 2 {
-                        return 7;
-                    }
-                    if n <= 4 {
-                        return 0;
-                    }
-                    return 7;
-                }
-            }
-        }
-        return 6;
+    if !is_new(src, g, work, i) {
+        return Some(Refusal::Twice);
     }
-    5
+    if !all_characters(src, g, s) {
+        return Some(Refusal::Unknown);
+    }
+    if find(src, g, work, 2 * s.at + 1).is_some() {
+        return Some(Refusal::Twice); // the same characters
+    }
+    if 2 <= n && n <= 4 {
+        None
+    } else {
+        Some(Refusal::TooMany)
+    }
 }
 
 // The marks that the line is to declare, or its refusal.
-fn check_element(src: &[u8], g: Signs, work: &[u32], p: Spot) -> Element
+fn check_element(src: &[u8], g: Signs, work: &[u32], p: Spot) -> Result<(usize, usize), Refusal>
     requires at_in_bounds { (p.at ≤ length src.now) × (p.mode ≡ in_plain) }
     requires sound { Sound (key_at g src.now) (length src.now) work.now }
     ensures { ElementChecked g src.now p work.now result }
 {
-    let h = name_first(src, g, p);
-    match h {
-        Head::Other => return Element::Refused(3),
-        Head::Name(i, e) => {
-            let t = quotes_after_from(src, g, e);
-            match t {
-                Tail::Other => return Element::Refused(3),
-                Tail::Quotes(s, n) => {
-                    let f = element_fault(src, g, work, i, s, n);
-                    let r = lower_of(operands_refusal(src, g, p), f);
-                    if r == 0 {
-                        return Element::Declared(2 * i.at, 2 * s.at + 1);
-                    }
-                    return Element::Refused(r);
-                }
-            }
-        }
+    let Some((i, e)) = name_first(src, g, p) else {
+        return Err(Refusal::Malformed);
+    };
+    let Some((s, n)) = quotes_after_from(src, g, e) else {
+        return Err(Refusal::Malformed);
+    };
+    let f = element_fault(src, g, work, i, s, n);
+    match lower_of(operands_refusal(src, g, p), f) {
+        None => Ok((2 * i.at, 2 * s.at + 1)),
+        Some(r) => Err(r),
     }
 }
 
@@ -184,17 +141,17 @@ fn declare_both(src: &[u8], g: Signs, work: &mut [u32], v: usize, q: usize)
 }
 
 // A line `collating-element <name> from "<U..><U..>"`, from the spot after its first word on.
-pub fn element_line(src: &[u8], g: Signs, work: &mut [u32], p: Spot) -> Element
+pub fn element_line(
+    src: &[u8],
+    g: Signs,
+    work: &mut [u32],
+    p: Spot,
+) -> Result<(usize, usize), Refusal>
     requires at_in_bounds { (p.at ≤ length src.now) × (p.mode ≡ in_plain) }
     requires sound { Sound (key_at g src.now) (length src.now) work.old }
     ensures { ElementIs g src.now p work.old work.new result }
 {
-    let s = check_element(src, g, work, p);
-    match s {
-        Element::Refused(r) => return Element::Refused(r),
-        Element::Declared(v, q) => {
-            declare_both(src, g, work, v, q);
-            return Element::Declared(v, q);
-        }
-    }
+    let (v, q) = check_element(src, g, work, p)?;
+    declare_both(src, g, work, v, q);
+    Ok((v, q))
 }

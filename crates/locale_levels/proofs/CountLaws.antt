@@ -1,4 +1,5 @@
 -- The rules counted, one after the other, and judged.
+use Rattle.std.specs.Prelude.{Option}
 use mathlib.Core.Path.{◌≡◌, refl, sym, ap, ◌∙◌, subst}
 use mathlib.Core.Bool.{Bool, true, false, ◌&&◌, and-true}
 use mathlib.Core.List.{List}
@@ -16,20 +17,13 @@ use Rattle.text_lines.specs.declared.Signs.{Signs}
 use Rattle.text_lines.specs.declared.Spot.{Spot}
 use Rattle.text_tokens.proofs.RefusalLaws.{lower-none-right}
 use Rattle.text_operands.specs.Operand.{operands_left}
+use Rattle.locale_levels.specs.declared.Rule.{Rule}
+use Rattle.locale_levels.specs.Numbers.{code_or_none}
 use Rattle.locale_levels.specs.declared.RuleStep.{RuleStep}
 use Rattle.locale_levels.specs.declared.RuleStep.TheVariants as ruleStep
 use Rattle.locale_levels.specs.Rules.{codes_left, malformed, RuleMore, RuleLast, RuleIs}
 use Rattle.locale_levels.specs.Levels.{Counts, count_refusal}
 use Rattle.locale_levels.proofs.RuleLaws.{malformed-tokens, malformed-formed}
-
--- ## Whether each is known
-
-module _ (known : Bool) (code : ℕ) where
-  pub known-so-far : known ≡ true → leb 1 code ≡ (known && leb 1 code)
-  known-so-far h = rw h
-
-  pub known-not : known ≡ false → false ≡ (known && leb 1 code)
-  known-not h = rw h
 
 and_assoc : (a b c : Bool) → (a && (b && c)) ≡ ((a && b) && c)
 and_assoc true b c = refl
@@ -64,9 +58,10 @@ module _ (g : Signs) (src : List ℕ) (p q : Spot) (n : ℕ) (known : Bool) {s :
   passed-broken e =
       malformed-later (operands_left g src false p) (operands_left g src false q) v.formed v.refusal (subst (RuleIs g src q) e w)
 
-  pub passed-last : {code : ℕ} {k : Bool} → s ≡ ruleStep.Last code → k ≡ (known && leb 1 code) → Counts g src p (n + 1) k
+  pub passed-last : {rule : Option Rule} {k : Bool} → s ≡ ruleStep.Last rule → k ≡ (known && leb 1 (code_or_none rule)) → Counts g src p (n + 1) k
   unfolding every
-  passed-last {code} e f =
+  passed-last {rule} e f =
+      let code = code_or_none rule in
       let z : RuleLast g src q code = subst (RuleIs g src q) e w in
       record {
         many = v.many ∙ ap (λ (cs : List ℕ). n + length cs) z.codes;
@@ -75,15 +70,18 @@ module _ (g : Signs) (src : List ℕ) (p q : Spot) (n : ℕ) (known : Bool) {s :
         formed = v.formed ∙ z.formed;
       }
 
-  module _ {code : ℕ} {next : Spot} (e : s ≡ ruleStep.More code next) where
-    more : RuleMore g src q code next
+  module _ {rule : Option Rule} {next : Spot} (e : s ≡ ruleStep.More rule next) where
+    code : ℕ
+    code = code_or_none rule
+
+    more : RuleMore g src q (code_or_none rule) next
     more = subst (RuleIs g src q) e w
 
     pub passed-less : length src - next.at < length src - q.at
     passed-less = let a = more.on in let b = more.to in omega arith
 
-    pub passed-more : {k : Bool} → k ≡ (known && leb 1 code) → Passed g src p next (n + 1) k
-    unfolding every
+    pub passed-more : {k : Bool} → k ≡ (known && leb 1 (code_or_none rule)) → Passed g src p next (n + 1) k
+    unfolding every code
     passed-more {k} f =
         let l : length (codes_left g src q) ≡ suc (length (codes_left g src next)) = ap length more.codes in
         record {

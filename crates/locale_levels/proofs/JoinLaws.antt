@@ -1,89 +1,108 @@
 -- The tests of joined, code_of and well_placed, one way after the other.
 use mathlib.Core.Path.{◌≡◌, refl}
 use mathlib.Core.Bool.{Bool, true, false, not, ◌&&◌}
-use Prim.Native.Nat.{ℕ, ◌≤◌, ◌<◌}
+use Prim.Native.Nat.{ℕ}
 use lib.Dec.{eqb, leb, ltb}
-use borrow.Author.Tests.{ne_eqb, le-leb, lt-leb, leb-true, leb-false, le-ltb, lt-ltb}
+use borrow.Author.Tests.{ne_eqb, leb-true, leb-false, le-ltb, lt-ltb}
 use Rattle.base_lists.proofs.Bools.{by}
+use Rattle.locale_levels.specs.declared.Symbol.{Symbol}
+use Rattle.locale_levels.specs.declared.Symbol.TheVariants as symbol
+use Rattle.locale_levels.specs.declared.Reading.{Reading}
+use Rattle.locale_levels.specs.declared.Reading.TheVariants as reading
+use Rattle.locale_levels.specs.Numbers.{symbol_number, reading_number}
 use Rattle.locale_levels.specs.Rules.{joined_to, code_of}
 
 -- ## joined
 
--- both numbers are known
-module _ {s x : ℕ} where
-  known : (a b : ℕ) {r : ℕ} → s ≡ a → x ≡ b → r ≡ joined_to a b → r ≡ joined_to s x
-  known a b h k e = rw (h, k) e
+-- anything else makes no rule of what is read: a law for what is begun, and one for the rest
+first-other : (x : Symbol) → (x ≡ symbol.Forward → ⊥) → (x ≡ symbol.Backward → ⊥) → (x ≡ symbol.Position → ⊥) → 7 ≡ joined_to 0 (symbol_number x)
+unfolding joined_to
+first-other symbol.Forward f b p = absurd (f refl)
+first-other symbol.Backward f b p = absurd (b refl)
+first-other symbol.Position f b p = absurd (p refl)
+first-other symbol.Comma f b p = refl
+first-other symbol.Other f b p = refl
 
-  pub join-unknown : s ≡ 0 → x ≡ 0 → 7 ≡ joined_to s x
-  unfolding joined_to
-  join-unknown h k = known 0 0 h k refl
+no-comma : (x : Symbol) → (x ≡ symbol.Comma → ⊥) → eqb (symbol_number x) 3 ≡ false
+no-comma symbol.Forward c = refl
+no-comma symbol.Backward c = refl
+no-comma symbol.Position c = refl
+no-comma symbol.Comma c = absurd (c refl)
+no-comma symbol.Other c = refl
 
-  pub join-comma-first : s ≡ 0 → x ≡ 3 → 7 ≡ joined_to s x
-  unfolding joined_to
-  join-comma-first h k = known 0 3 h k refl
+no-position : (x : Symbol) → (x ≡ symbol.Position → ⊥) → eqb (symbol_number x) 4 ≡ false
+no-position symbol.Forward p = refl
+no-position symbol.Backward p = refl
+no-position symbol.Position p = absurd (p refl)
+no-position symbol.Comma p = refl
+no-position symbol.Other p = refl
 
-  pub join_first : s ≡ 0 → (x ≡ 0 → ⊥) → (x ≡ 3 → ⊥) → x ≡ joined_to s x
-  unfolding joined_to
-  join_first h k l = rw h (simp (ne_eqb x 0 k, ne_eqb x 3 l))
+position-comma-other : (x : Symbol) → (x ≡ symbol.Forward → ⊥) → (x ≡ symbol.Backward → ⊥) → 7 ≡ joined_to 12 (symbol_number x)
+unfolding joined_to
+position-comma-other symbol.Forward f b = absurd (f refl)
+position-comma-other symbol.Backward f b = absurd (b refl)
+position-comma-other symbol.Position f b = refl
+position-comma-other symbol.Comma f b = refl
+position-comma-other symbol.Other f b = refl
 
-  pub join-forward-comma : x ≡ 3 → s ≡ 1 → 9 ≡ joined_to s x
-  unfolding joined_to
-  join-forward-comma k h = known 1 3 h k refl
+module _ {s : Reading} (x : Symbol) where
+  pub join-first : s ≡ reading.Nothing → (x ≡ symbol.Forward → ⊥) → (x ≡ symbol.Backward → ⊥) → (x ≡ symbol.Position → ⊥) → 7 ≡ joined_to (reading_number s) (symbol_number x)
+  join-first h f b p = rw h (first-other x f b p)
 
-  pub join-backward-comma : x ≡ 3 → s ≡ 2 → 10 ≡ joined_to s x
+  pub join-forward : s ≡ reading.Forward → (x ≡ symbol.Comma → ⊥) → 7 ≡ joined_to (reading_number s) (symbol_number x)
   unfolding joined_to
-  join-backward-comma k h = known 2 3 h k refl
+  join-forward h c = rw (h, no-comma x c)
 
-  pub join-position-comma : x ≡ 3 → s ≡ 4 → 12 ≡ joined_to s x
+  pub join-backward : s ≡ reading.Backward → (x ≡ symbol.Comma → ⊥) → 7 ≡ joined_to (reading_number s) (symbol_number x)
   unfolding joined_to
-  join-position-comma k h = known 4 3 h k refl
+  join-backward h c = rw (h, no-comma x c)
 
-  pub join-comma : (s ≡ 0 → ⊥) → x ≡ 3 → (s ≡ 1 → ⊥) → (s ≡ 2 → ⊥) → (s ≡ 4 → ⊥) → 7 ≡ joined_to s x
+  pub join-position : s ≡ reading.Position → (x ≡ symbol.Comma → ⊥) → 7 ≡ joined_to (reading_number s) (symbol_number x)
   unfolding joined_to
-  join-comma z k a b c = rw k (simp (ne_eqb s 0 z, ne_eqb s 1 a, ne_eqb s 2 b, ne_eqb s 4 c))
+  join-position h c = rw (h, no-comma x c)
 
-  pub join-forward-position : s ≡ 9 → x ≡ 4 → 5 ≡ joined_to s x
+  pub join-forward-comma : s ≡ reading.ForwardComma → (x ≡ symbol.Position → ⊥) → 7 ≡ joined_to (reading_number s) (symbol_number x)
   unfolding joined_to
-  join-forward-position h k = known 9 4 h k refl
+  join-forward-comma h p = rw h (by (eqb (symbol_number x) 3) (λ e. rw e) (λ e. rw (e, no-position x p)))
 
-  pub join-forward-other : (x ≡ 3 → ⊥) → s ≡ 9 → (x ≡ 4 → ⊥) → 7 ≡ joined_to s x
+  pub join-backward-comma : s ≡ reading.BackwardComma → (x ≡ symbol.Position → ⊥) → 7 ≡ joined_to (reading_number s) (symbol_number x)
   unfolding joined_to
-  join-forward-other k h l = rw h (simp (ne_eqb x 3 k, ne_eqb x 4 l))
+  join-backward-comma h p = rw h (by (eqb (symbol_number x) 3) (λ e. rw e) (λ e. rw (e, no-position x p)))
 
-  pub join-backward-position : s ≡ 10 → x ≡ 4 → 6 ≡ joined_to s x
-  unfolding joined_to
-  join-backward-position h k = known 10 4 h k refl
+  pub join-position-comma : s ≡ reading.PositionComma → (x ≡ symbol.Forward → ⊥) → (x ≡ symbol.Backward → ⊥) → 7 ≡ joined_to (reading_number s) (symbol_number x)
+  join-position-comma h f b = rw h (position-comma-other x f b)
 
-  pub join-backward-other : (x ≡ 3 → ⊥) → s ≡ 10 → (x ≡ 4 → ⊥) → 7 ≡ joined_to s x
-  unfolding joined_to
-  join-backward-other k h l = rw h (simp (ne_eqb x 3 k, ne_eqb x 4 l))
-
-  pub join-position-forward : s ≡ 12 → x ≡ 1 → 5 ≡ joined_to s x
-  unfolding joined_to
-  join-position-forward h k = known 12 1 h k refl
-
-  pub join-position-backward : s ≡ 12 → x ≡ 2 → 6 ≡ joined_to s x
-  unfolding joined_to
-  join-position-backward h k = known 12 2 h k refl
-
-  pub join-position-other : (x ≡ 3 → ⊥) → s ≡ 12 → (x ≡ 1 → ⊥) → (x ≡ 2 → ⊥) → 7 ≡ joined_to s x
-  unfolding joined_to
-  join-position-other k h l m = rw h (simp (ne_eqb x 3 k, ne_eqb x 1 l, ne_eqb x 2 m))
-
-  pub join-other : (s ≡ 0 → ⊥) → (x ≡ 3 → ⊥) → (s ≡ 9 → ⊥) → (s ≡ 10 → ⊥) → (s ≡ 12 → ⊥) → 7 ≡ joined_to s x
-  unfolding joined_to
-  join-other z k a b c = simp (ne_eqb s 0 z, ne_eqb x 3 k, ne_eqb s 9 a, ne_eqb s 10 b, ne_eqb s 12 c)
+-- a rule of two words, and what is none, with anything
+pub join-other : (s : Reading) (x : Symbol) → (s ≡ reading.Nothing → ⊥) → (s ≡ reading.Forward → ⊥) → (s ≡ reading.Backward → ⊥) → (s ≡ reading.Position → ⊥)
+    → (s ≡ reading.ForwardComma → ⊥) → (s ≡ reading.BackwardComma → ⊥) → (s ≡ reading.PositionComma → ⊥)
+    → 7 ≡ joined_to (reading_number s) (symbol_number x)
+unfolding joined_to
+join-other reading.Nothing x n f b p c d e = absurd (n refl)
+join-other reading.Forward x n f b p c d e = absurd (f refl)
+join-other reading.Backward x n f b p c d e = absurd (b refl)
+join-other reading.Position x n f b p c d e = absurd (p refl)
+join-other reading.ForwardComma x n f b p c d e = absurd (c refl)
+join-other reading.BackwardComma x n f b p c d e = absurd (d refl)
+join-other reading.PositionComma x n f b p c d e = absurd (e refl)
+join-other reading.ForwardPosition x n f b p c d e = by (eqb (symbol_number x) 3) (λ e. rw e) (λ e. rw e)
+join-other reading.BackwardPosition x n f b p c d e = by (eqb (symbol_number x) 3) (λ e. rw e) (λ e. rw e)
+join-other reading.NoRule x n f b p c d e = by (eqb (symbol_number x) 3) (λ e. rw e) (λ e. rw e)
 
 -- ## code_of
 
-module _ {s : ℕ} where
-  pub code-rule : s ≤ 6 → s ≡ code_of s
-  unfolding code_of
-  code-rule h = rw (le-leb s 6 h)
-
-  pub code-none : 6 < s → 0 ≡ code_of s
-  unfolding code_of
-  code-none h = rw (lt-leb s 6 h)
+pub code-none : (s : Reading) → (s ≡ reading.Forward → ⊥) → (s ≡ reading.Backward → ⊥) → (s ≡ reading.Position → ⊥)
+    → (s ≡ reading.ForwardPosition → ⊥) → (s ≡ reading.BackwardPosition → ⊥) → 0 ≡ code_of (reading_number s)
+unfolding code_of
+code-none reading.Nothing f b p x y = refl
+code-none reading.Forward f b p x y = absurd (f refl)
+code-none reading.Backward f b p x y = absurd (b refl)
+code-none reading.Position f b p x y = absurd (p refl)
+code-none reading.ForwardComma f b p x y = refl
+code-none reading.BackwardComma f b p x y = refl
+code-none reading.PositionComma f b p x y = refl
+code-none reading.ForwardPosition f b p x y = absurd (x refl)
+code-none reading.BackwardPosition f b p x y = absurd (y refl)
+code-none reading.NoRule f b p x y = refl
 
 -- ## well_placed
 

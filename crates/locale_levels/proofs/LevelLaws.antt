@@ -1,4 +1,5 @@
 -- The levels of the operands of order_start: what the count and the tests say of the paper's refusal.
+use Rattle.std.specs.Prelude.{Bool, Err, None, Ok, Option, Result, Some, ℕ}
 use mathlib.Core.Path.{◌≡◌, refl, sym, ap, ◌∙◌, subst}
 use mathlib.Core.Bool.{Bool, true, false, false≢true}
 use mathlib.Core.List.{List, [], ◌∷◌, map}
@@ -13,6 +14,7 @@ use Rattle.rules.specs.Tokens.{broken, Token, token, operands, tokens_refusal}
 use Rattle.rules.specs.State.{before_order, in_order, State, with_ordered, in_phase, to_phase}
 use Rattle.rules.specs.OrderLines.{split_at, rule_code, rule_of, rule_codes, rules_formed, order_start_line}
 use Rattle.rules.proofs.TextLaws.{lower-none, unless-none}
+use Rattle.base_units.specs.declared.Refusal.{Refusal}
 use Rattle.text_lines.specs.declared.Signs.{Signs}
 use Rattle.text_lines.specs.declared.Spot.{Spot}
 use Rattle.text_tokens.specs.Left.{tokens_left}
@@ -20,10 +22,6 @@ use Rattle.text_tokens.proofs.RefusalLaws.{lower-none-left, lower-none-right, lo
 use Rattle.text_operands.specs.declared.After.{After}
 use Rattle.text_operands.specs.declared.After.TheVariants as after
 use Rattle.text_operands.specs.Operand.{operands_left, OperandsFrom, AfterIs}
-use Rattle.locale_levels.specs.declared.Tally.{Tally}
-use Rattle.locale_levels.specs.declared.Tally.TheVariants as tally
-use Rattle.locale_levels.specs.declared.Levels.{Levels}
-use Rattle.locale_levels.specs.declared.Levels.TheVariants as levels
 use Rattle.locale_levels.specs.Rules.{codes_left, malformed}
 use Rattle.locale_levels.specs.Levels.{Counts, TallyIs, count_refusal, JudgedIs, start_refusal, LevelsAre, LevelsRefused, LevelsIs}
 use Rattle.locale_levels.proofs.RuleLaws.{malformed-tokens}
@@ -70,11 +68,11 @@ module _ (g : Signs) (src : List ℕ) (p : Spot) {e : Bool} (z : e ≡ eqb (leng
       let os = operands_left g src false p in
       subst (λ (ts : List Token). LevelsAre ts 1) (sym (length-zero os (eqb-true (length os) 0 (sym z ∙ h)))) start_none
 
-  module _ (h : e ≡ false) {t : Tally} (v : TallyIs g src p t) where
-    pub left-broken : t ≡ tally.Broken → LevelsRefused (operands_left g src false p) 3
+  module _ (h : e ≡ false) {t : Option (ℕ × Bool)} (v : TallyIs g src p t) where
+    pub left-broken : t ≡ None → LevelsRefused (operands_left g src false p) 3
     left-broken f = record { refusal = start-malformed (operands_left g src false p) (subst (TallyIs g src p) f v); some = omega arith }
 
-    module _ {n : ℕ} {known : Bool} (f : t ≡ tally.Rules n known) where
+    module _ {n : ℕ} {known : Bool} (f : t ≡ Some (n, known)) where
       counts : Counts g src p n known
       counts = subst (TallyIs g src p) f v
 
@@ -85,9 +83,9 @@ module _ (g : Signs) (src : List ℕ) (p : Spot) {e : Bool} (z : e ≡ eqb (leng
       judged-as : {r : ℕ} → r ≡ tokens_refusal (operands_left g src false p) → start_refusal (operands_left g src false p) ≡ lower r (count_refusal n known)
       judged-as k = start-formed (operands_left g src false p) counts.formed ∙ rw (codes, counts.many, counts.all, ← k)
 
-      pub left-judged : {r : ℕ} → r ≡ tokens_refusal (operands_left g src false p) → (l : Levels) → JudgedIs r n known l → LevelsIs (operands_left g src false p) l
+      pub left-judged : {r : ℕ} → r ≡ tokens_refusal (operands_left g src false p) → (l : Result ℕ Refusal) → JudgedIs r n known l → LevelsIs (operands_left g src false p) l
       unfolding count_refusal
-      left-judged {r} k (levels.Some l) j =
+      left-judged {r} k (Ok l) j =
           let c = (lower-none r (count_refusal n known) j.0).1 in
           let d = lower-none (4 unless known) (7 unless leb n 8) c in
           let s = counts.some in
@@ -100,7 +98,7 @@ module _ (g : Signs) (src : List ℕ) (p : Spot) {e : Bool} (z : e ≡ eqb (leng
             few = omega arith;
             known = ap (every (leb 1)) codes ∙ counts.all ∙ unless-none 4 known (omega arith) d.0;
           }
-      left-judged k (levels.Refused m) j = record { refusal = judged-as k ∙ j.0; some = j.1 }
+      left-judged k (Err m) j = record { refusal = judged-as k ∙ j.0; some = j.1 }
 
 -- ## After the word
 
@@ -114,7 +112,7 @@ module _ (g : Signs) (src : List ℕ) (p : Spot) {a : After} (v : AfterIs g src 
       let z : os ≡ token broken [] [] ∷ [] = subst (AfterIs g src p) e v in
       record { refusal = start-malformed os (malformed-tokens os (ap tokens_refusal z ∙ refusal-broken (token broken [] []) [] refl)); some = omega arith }
 
-  pub after-levels : {x : Spot} → a ≡ after.Operands x → (l : Levels) → LevelsIs (operands_left g src false x) l → LevelsIs (operands (tokens_left g src p)) l
+  pub after-levels : {x : Spot} → a ≡ after.Operands x → (l : Result ℕ Refusal) → LevelsIs (operands_left g src false x) l → LevelsIs (operands (tokens_left g src p)) l
   after-levels {x} e l h =
       let z : OperandsFrom g src p x = subst (AfterIs g src p) e v in
       subst (λ (ts : List Token). LevelsIs ts l) (sym z.operands) h

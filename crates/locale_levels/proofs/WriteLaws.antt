@@ -1,4 +1,5 @@
 -- The rules written into an area, one after the other.
+use Rattle.std.specs.Prelude.{Option}
 use mathlib.Core.Path.{◌≡◌, refl, sym, ap, ◌∙◌, subst}
 use mathlib.Core.Bool.{Bool, true, false}
 use mathlib.Core.List.{List, [], ◌∷◌}
@@ -8,7 +9,7 @@ use native.Mathlib.Omega.{arith}
 use lib.ListN.{length, set, length-set}
 use lib.Seq.{sets}
 use lib.Dec.{eqb}
-use borrow.Author.Tests.{ne_eqb, le-leb, lt-leb, eqb-true}
+use borrow.Author.Tests.{eqb-true}
 use Rattle.base_lists.proofs.Lists.{length-zero}
 use Rattle.rules.specs.Lines.{in_plain}
 use Rattle.rules.specs.Tokens.{Token, operands}
@@ -20,6 +21,8 @@ use Rattle.text_tokens.specs.Left.{tokens_left}
 use Rattle.text_operands.specs.declared.After.{After}
 use Rattle.text_operands.specs.declared.After.TheVariants as after
 use Rattle.text_operands.specs.Operand.{operands_left, OperandsFrom, AfterIs}
+use Rattle.locale_levels.specs.declared.Rule.{Rule}
+use Rattle.locale_levels.specs.Numbers.{code_or_none}
 use Rattle.locale_levels.specs.declared.RuleStep.{RuleStep}
 use Rattle.locale_levels.specs.declared.RuleStep.TheVariants as ruleStep
 use Rattle.locale_levels.specs.Rules.{codes_left, malformed, RuleMore, RuleLast, RuleIs}
@@ -27,25 +30,6 @@ use Rattle.locale_levels.specs.Levels.{start_refusal}
 use Rattle.locale_levels.specs.Writing.{rule_numbers, LeftFits, RulesFit}
 use Rattle.locale_levels.proofs.CountLaws.{malformed-later}
 use Rattle.locale_levels.proofs.LevelLaws.{start-malformed, codes-some, after-broken}
-
--- ## The number of a rule
-
-module _ (c : ℕ) where
-  pub number-backward : c ≡ 2 → 1 ≡ rule_number (rule_of c)
-  unfolding rule_number
-  number-backward h = rw h
-
-  pub number-both : c ≡ 6 → 3 ≡ rule_number (rule_of c)
-  unfolding rule_number
-  number-both h = rw h
-
-  pub number-position : (c ≡ 2 → ⊥) → (c ≡ 6 → ⊥) → 4 ≤ c → 2 ≡ rule_number (rule_of c)
-  unfolding rule_number
-  number-position h k l = simp (ne_eqb c 2 h, ne_eqb c 6 k, le-leb 4 c l)
-
-  pub number-forward : (c ≡ 2 → ⊥) → (c ≡ 6 → ⊥) → c < 4 → 0 ≡ rule_number (rule_of c)
-  unfolding rule_number
-  number-forward h k l = simp (ne_eqb c 2 h, ne_eqb c 6 k, lt-leb 4 c l)
 
 -- ## The turns
 
@@ -67,18 +51,18 @@ module _ (g : Signs) (src : List ℕ) (p : Spot) (room : List ℕ) (at : ℕ) (q
   pub writing-broken : s ≡ ruleStep.Broken → now ≡ sets room at (rule_numbers (codes_left g src p))
   writing-broken e = absurd (v.whole (subst (RuleIs g src q) e w))
 
-  module _ {code : ℕ} (e : s ≡ ruleStep.Last code) where
-    last : RuleLast g src q code
+  module _ {r : Option Rule} (e : s ≡ ruleStep.Last r) where
+    last : RuleLast g src q (code_or_none r)
     last = subst (RuleIs g src q) e w
 
     pub writing-last-inside : i < length now
     writing-last-inside = let a = v.inside in let b = ap length last.codes in omega arith
 
-    pub writing-last : {x : ℕ} → x ≡ rule_number (rule_of code) → set now i x ≡ sets room at (rule_numbers (codes_left g src p))
+    pub writing-last : {x : ℕ} → x ≡ rule_number (rule_of (code_or_none r)) → set now i x ≡ sets room at (rule_numbers (codes_left g src p))
     writing-last {x} h = ap (set now i) h ∙ sym (ap (λ (cs : List ℕ). sets now i (rule_numbers cs)) last.codes) ∙ v.same
 
-  module _ {code : ℕ} {next : Spot} (e : s ≡ ruleStep.More code next) where
-    more : RuleMore g src q code next
+  module _ {r : Option Rule} {next : Spot} (e : s ≡ ruleStep.More r next) where
+    more : RuleMore g src q (code_or_none r) next
     more = subst (RuleIs g src q) e w
 
     pub writing-inside : i < length now
@@ -87,7 +71,7 @@ module _ (g : Signs) (src : List ℕ) (p : Spot) (room : List ℕ) (at : ℕ) (q
     pub writing-less : length src - next.at < length src - q.at
     writing-less = let a = more.on in let b = more.to in omega arith
 
-    pub writing_more : {x : ℕ} → x ≡ rule_number (rule_of code) → Writing g src p room at next (set now i x) (i + 1)
+    pub writing_more : {x : ℕ} → x ≡ rule_number (rule_of (code_or_none r)) → Writing g src p room at next (set now i x) (i + 1)
     writing_more {x} h =
         let cs = codes_left g src next in
         let l : length (codes_left g src q) ≡ suc (length cs) = ap length more.codes in

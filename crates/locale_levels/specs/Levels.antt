@@ -1,15 +1,13 @@
 -- The levels that the operands of `order_start` give: how many, or the refusal that the paper's line gives (Rattle.rules.specs.OrderLines).
-use Rattle.std.specs.Prelude.{◌≡◌, Bool, true, false, List, [], ◌∷◌, ℕ, ◌≤◌, length, leb}
+use Rattle.std.specs.Prelude.{◌≡◌, Bool, true, false, List, [], ◌∷◌, ℕ, ◌≤◌, length, leb, Err, None, Ok, Option, Result, Some}
 use Rattle.rules.specs.Text.{every, ◌unless◌, lower, lowest}
 use Rattle.rules.specs.Tokens.{Token, tokens_refusal}
 use Rattle.rules.specs.OrderLines.{rule_codes, rules_formed}
+use Rattle.base_units.specs.declared.Refusal.{Refusal}
+use Rattle.base_units.specs.Numbers.{number_of}
 use Rattle.text_lines.specs.declared.Signs.{Signs}
 use Rattle.text_lines.specs.declared.Spot.{Spot}
 use Rattle.text_operands.specs.Operand.{operands_left}
-use Rattle.locale_levels.specs.declared.Tally.{Tally}
-use Rattle.locale_levels.specs.declared.Tally.TheVariants as tally
-use Rattle.locale_levels.specs.declared.Levels.{Levels}
-use Rattle.locale_levels.specs.declared.Levels.TheVariants as levels
 use Rattle.locale_levels.specs.Rules.{codes_left, malformed}
 
 -- ## Counting
@@ -21,9 +19,9 @@ pub record Counts (g : Signs) (src : List ℕ) (p : Spot) (n : ℕ) (known : Boo
   pub all : every (leb 1) (codes_left g src p) ≡ known
   pub formed : rules_formed false (operands_left g src false p) ≡ true
 
-abbrev pub TallyIs : Signs → List ℕ → Spot → Tally → Type 0
-TallyIs g src p (tally.Rules n known) = Counts g src p n known
-TallyIs g src p tally.Broken = malformed (operands_left g src false p) ≡ 3
+abbrev pub TallyIs : Signs → List ℕ → Spot → Option (ℕ × Bool) → Type 0
+TallyIs g src p (Some (n, known)) = Counts g src p n known
+TallyIs g src p None = malformed (operands_left g src false p) ≡ 3
 
 -- ## Judging
 
@@ -32,9 +30,9 @@ unfoldable pub count_refusal : ℕ → Bool → ℕ
 count_refusal n known = lower (4 unless known) (7 unless leb n 8)
 
 -- n levels; or a refusal
-abbrev pub JudgedIs : ℕ → ℕ → Bool → Levels → Type 0
-JudgedIs r n known (levels.Some l) = (lower r (count_refusal n known) ≡ 0) × (l ≡ n)
-JudgedIs r n known (levels.Refused f) = (lower r (count_refusal n known) ≡ f) × (1 ≤ f)
+abbrev pub JudgedIs : ℕ → ℕ → Bool → Result ℕ Refusal → Type 0
+JudgedIs r n known (Ok l) = (lower r (count_refusal n known) ≡ 0) × (l ≡ n)
+JudgedIs r n known (Err f) = (lower r (count_refusal n known) ≡ number_of f) × (1 ≤ number_of f)
 
 -- ## The levels
 
@@ -57,6 +55,6 @@ pub record LevelsRefused (os : List Token) (f : ℕ) : Type 0 where
   pub refusal : start_refusal os ≡ f
   pub some : 1 ≤ f
 
-abbrev pub LevelsIs : List Token → Levels → Type 0
-LevelsIs os (levels.Some l) = LevelsAre os l
-LevelsIs os (levels.Refused f) = LevelsRefused os f
+abbrev pub LevelsIs : List Token → Result ℕ Refusal → Type 0
+LevelsIs os (Ok l) = LevelsAre os l
+LevelsIs os (Err f) = LevelsRefused os (number_of f)

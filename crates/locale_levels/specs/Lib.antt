@@ -1,3 +1,4 @@
+pub mod Numbers
 pub mod Rules
 pub mod Levels
 pub mod Writing

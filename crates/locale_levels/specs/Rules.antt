@@ -8,6 +8,7 @@ use Rattle.rules.specs.OrderLines.{split_at, rule_word, rule_code, rules_formed}
 use Rattle.text_lines.specs.declared.Signs.{Signs}
 use Rattle.text_lines.specs.declared.Spot.{Spot}
 use Rattle.text_operands.specs.Operand.{operands_left}
+use Rattle.locale_levels.specs.Numbers.{code_or_none}
 use Rattle.locale_levels.specs.declared.RuleStep.{RuleStep}
 use Rattle.locale_levels.specs.declared.RuleStep.TheVariants as ruleStep
 
@@ -56,6 +57,6 @@ pub record RuleLast (g : Signs) (src : List ℕ) (p : Spot) (code : ℕ) : Type 
   pub formed : rules_formed false (operands_left g src false p) ≡ true
 
 abbrev pub RuleIs : Signs → List ℕ → Spot → RuleStep → Type 0
-RuleIs g src p (ruleStep.More code next) = RuleMore g src p code next
-RuleIs g src p (ruleStep.Last code) = RuleLast g src p code
+RuleIs g src p (ruleStep.More r next) = RuleMore g src p (code_or_none r) next
+RuleIs g src p (ruleStep.Last r) = RuleLast g src p (code_or_none r)
 RuleIs g src p ruleStep.Broken = malformed (operands_left g src false p) ≡ 3

@@ -7,119 +7,116 @@ ghost use Rattle.rules.specs.Lines.{in_plain};
 ghost use Rattle.rules.specs.Tokens.{operands};
 ghost use Rattle.rules.specs.OrderLines.{rule_of, rule_codes};
 ghost use Rattle.rules.specs.Table.{rule_number};
+ghost use Rattle.base_units.specs.Numbers.{number_or_none};
 ghost use Rattle.text_tokens.specs.Left.{tokens_left, token_there, TokenIs};
 ghost use Rattle.text_operands.specs.Operand.{operands_left};
+ghost use Rattle.locale_levels.specs.Numbers.{code_or_none, symbol_number, reading_number};
 ghost use Rattle.locale_levels.specs.Rules.{symbol_of, joined_to, code_of, codes_left, RuleIs};
 ghost use Rattle.locale_levels.specs.Levels.{count_refusal, TallyIs, JudgedIs, LevelsIs};
 ghost use Rattle.locale_levels.specs.Writing.{rule_numbers, LeftFits, RulesFit};
 
+use base_units::{Refusal, lower_of};
 use text_lines::{Signs, Spot};
 use text_operands::{After, Operand, after_first, next_operand, none_left, refusal_left};
-use text_tokens::{COMMA, QUOTE, SEMI, Tok, WORD, lower_of, word_is};
+use text_tokens::{COMMA, QUOTE, SEMI, Tok, WORD, word_is};
 
-// One rule: its code, 0 where it is none, with the spot after the `;` that follows it, or as the last. Broken: the operands still to come
-// are malformed.
+// The rule of a level.
+#[derive(Clone, Copy)]
+pub enum Rule {
+    Forward,
+    Backward,
+    Position,
+    ForwardPosition,
+    BackwardPosition,
+}
+
+// One rule, None where it is none, with the spot after the `;` that follows it, or as the last. Broken: the operands still to come are malformed.
 #[derive(Clone, Copy)]
 pub enum RuleStep {
-    More(u8, Spot),
-    Last(u8),
+    More(Option<Rule>, Spot),
+    Last(Option<Rule>),
     Broken,
 }
 
-// How many rules there are, and whether each is known; or they are malformed.
+// What a token is in a rule.
 #[derive(Clone, Copy)]
-pub enum Tally {
-    Rules(usize, bool),
-    Broken,
+enum Symbol {
+    Forward,
+    Backward,
+    Position,
+    Comma,
+    Other,
 }
 
-// How many levels there are, or the refusal.
+// What is read of a rule so far: nothing yet, a rule, a word and a comma, or what is no rule.
 #[derive(Clone, Copy)]
-pub enum Levels {
-    Some(usize),
-    Refused(u8),
+enum Reading {
+    Nothing,
+    Forward,
+    Backward,
+    Position,
+    ForwardComma,
+    BackwardComma,
+    PositionComma,
+    ForwardPosition,
+    BackwardPosition,
+    NoRule,
 }
 
-// What a token is in a rule: 1 forward, 2 backward, 4 position, 3 a comma, 0 any other.
-fn symbol_at(src: &[u8], g: Signs, q: Spot, t: Tok) -> u8
+// What a token is in a rule.
+fn symbol_at(src: &[u8], g: Signs, q: Spot, t: Tok) -> Symbol
     requires { (q.at ≤ length src.now) × TokenIs g src.now q t }
-    ensures { result ≡ symbol_of (token_there g src.now q) }
+    ensures { symbol_number result ≡ symbol_of (token_there g src.now q) }
 {
     if t.kind == COMMA {
-        return 3;
+        return Symbol::Comma;
     }
     if t.kind != WORD {
-        return 0;
+        return Symbol::Other;
     }
     if word_is(src, g, q, b"forward") {
-        return 1;
+        return Symbol::Forward;
     }
     if word_is(src, g, q, b"backward") {
-        return 2;
+        return Symbol::Backward;
     }
     if word_is(src, g, q, b"position") {
-        return 4;
+        return Symbol::Position;
     }
-    0
+    Symbol::Other
 }
 
-// What a rule is with one more token. 0: nothing yet; 1, 2, 4, 5, 6: a rule with this code; 9, 10, 12: such a word and a comma; 7: no rule.
-fn joined(s: u8, x: u8) -> u8
-    ensures { result ≡ joined_to s x }
+// What a rule is with one more token.
+fn joined(s: Reading, x: Symbol) -> Reading
+    ensures { reading_number result ≡ joined_to (reading_number s) (symbol_number x) }
 {
-    if s == 0 {
-        if x == 0 {
-            return 7;
-        }
-        if x == 3 {
-            return 7;
-        }
-        return x;
+    match (s, x) {
+        (Reading::Nothing, Symbol::Forward) => Reading::Forward,
+        (Reading::Nothing, Symbol::Backward) => Reading::Backward,
+        (Reading::Nothing, Symbol::Position) => Reading::Position,
+        (Reading::Forward, Symbol::Comma) => Reading::ForwardComma,
+        (Reading::Backward, Symbol::Comma) => Reading::BackwardComma,
+        (Reading::Position, Symbol::Comma) => Reading::PositionComma,
+        (Reading::ForwardComma, Symbol::Position) | (Reading::PositionComma, Symbol::Forward) =>
+            Reading::ForwardPosition,
+        (Reading::BackwardComma, Symbol::Position) | (Reading::PositionComma, Symbol::Backward) =>
+            Reading::BackwardPosition,
+        _ => Reading::NoRule,
     }
-    if x == 3 {
-        if s == 1 {
-            return 9;
-        }
-        if s == 2 {
-            return 10;
-        }
-        if s == 4 {
-            return 12;
-        }
-        return 7;
-    }
-    if s == 9 {
-        if x == 4 { // forward,position
-            return 5;
-        }
-        return 7;
-    }
-    if s == 10 {
-        if x == 4 {
-            return 6;
-        }
-        return 7;
-    }
-    if s == 12 {
-        if x == 1 {
-            return 5;
-        }
-        if x == 2 {
-            return 6;
-        }
-        return 7;
-    }
-    7
 }
 
-// The code of what was read: 0 where it is no rule.
-fn code_of(s: u8) -> u8
-    ensures { result ≡ code_of s }
+// The rule that was read, where it is one.
+fn code_of(s: Reading) -> Option<Rule>
+    ensures { code_or_none result ≡ code_of (reading_number s) }
 {
-    if s <= 6 {
-        return s;
+    match s {
+        Reading::Forward => Some(Rule::Forward),
+        Reading::Backward => Some(Rule::Backward),
+        Reading::Position => Some(Rule::Position),
+        Reading::ForwardPosition => Some(Rule::ForwardPosition),
+        Reading::BackwardPosition => Some(Rule::BackwardPosition),
+        _ => None,
     }
-    0
 }
 
 // Whether a token of this kind may stand among rules; held: a word or a name stands right before.
@@ -129,10 +126,7 @@ fn well_placed(held: bool, kind: u8) -> bool
     if kind == QUOTE {
         return false;
     }
-    if held {
-        return kind < 3;
-    }
-    true
+    if held { kind < 3 } else { true }
 }
 
 // The next rule.
@@ -142,22 +136,19 @@ fn rule_at(src: &[u8], g: Signs, p: Spot) -> RuleStep
 {
     let mut q = p;
     let mut held = false;
-    let mut s: u8 = 0;
+    let mut s = Reading::Nothing;
     loop {
-        let o = next_operand(src, g, q, held);
-        match o {
+        match next_operand(src, g, q, held) {
             Operand::Token(r, t) => {
                 if t.kind == SEMI {
-                    let next = t.next;
-                    return RuleStep::More(code_of(s), next);
+                    return RuleStep::More(code_of(s), t.next);
                 }
-                if well_placed(held, t.kind) {
-                    s = joined(s, symbol_at(src, g, r, t));
-                    held = t.kind >= 3;
-                    q = t.next;
-                } else {
+                if !well_placed(held, t.kind) {
                     return RuleStep::Broken;
                 }
+                s = joined(s, symbol_at(src, g, r, t));
+                held = t.kind >= 3;
+                q = t.next;
             }
             Operand::Broken => return RuleStep::Broken,
             Operand::End => return RuleStep::Last(code_of(s)),
@@ -166,17 +157,14 @@ fn rule_at(src: &[u8], g: Signs, p: Spot) -> RuleStep
 }
 
 // Whether each rule is known, with one more.
-fn known_with(known: bool, code: u8) -> bool
-    ensures { result ≡ (known && leb 1 code) }
+fn known_with(known: bool, rule: Option<Rule>) -> bool
+    ensures { result ≡ (known && leb 1 (code_or_none rule)) }
 {
-    if known {
-        return code >= 1;
-    }
-    false
+    known && rule.is_some()
 }
 
 // The rules from a spot on, counted.
-fn rules_left(src: &[u8], g: Signs, p: Spot) -> Tally
+fn rules_left(src: &[u8], g: Signs, p: Spot) -> Option<(usize, bool)>
     requires { (p.at ≤ length src.now) × (p.mode ≡ in_plain) }
     ensures { TallyIs g src.now p result }
 {
@@ -184,85 +172,75 @@ fn rules_left(src: &[u8], g: Signs, p: Spot) -> Tally
     let mut n: usize = 0;
     let mut known = true;
     loop {
-        let s = rule_at(src, g, q);
-        match s {
-            RuleStep::More(code, next) => {
-                known = known_with(known, code);
+        match rule_at(src, g, q) {
+            RuleStep::More(rule, next) => {
+                known = known_with(known, rule);
                 n += 1;
                 q = next;
             }
-            RuleStep::Last(code) => return Tally::Rules(n + 1, known_with(known, code)),
-            RuleStep::Broken => return Tally::Broken,
+            RuleStep::Last(rule) => return Some((n + 1, known_with(known, rule))),
+            RuleStep::Broken => return None,
         }
     }
 }
 
-// The refusal of n rules: 4 where one is not known, 7 where they are too many.
-fn count_refusal(n: usize, known: bool) -> u8
-    ensures { result ≡ count_refusal n known }
+// The refusal of n rules: where one is not known, or where they are too many.
+fn count_refusal(n: usize, known: bool) -> Option<Refusal>
+    ensures { number_or_none result ≡ count_refusal n known }
 {
     if known {
-        if n <= 8 {
-            return 0;
-        }
-        return 7;
+        if n <= 8 { None } else { Some(Refusal::TooMany) }
+    } else {
+        Some(Refusal::BadRule)
     }
-    4
 }
 
 // The levels of n rules, or the lowest refusal of them and of their tokens.
-fn judged(refusal: u8, n: usize, known: bool) -> Levels
-    ensures { JudgedIs refusal n known result }
+fn judged(refusal: Option<Refusal>, n: usize, known: bool) -> Result<usize, Refusal>
+    ensures { JudgedIs (number_or_none refusal) n known result }
 {
-    let lowest = lower_of(refusal, count_refusal(n, known));
-    if lowest == 0 {
-        return Levels::Some(n);
+    match lower_of(refusal, count_refusal(n, known)) {
+        None => Ok(n),
+        Some(lowest) => Err(lowest),
     }
-    Levels::Refused(lowest)
 }
 
 // The levels of the operands still to come.
-fn levels_left(src: &[u8], g: Signs, p: Spot) -> Levels
+fn levels_left(src: &[u8], g: Signs, p: Spot) -> Result<usize, Refusal>
     requires { (p.at ≤ length src.now) × (p.mode ≡ in_plain) }
     ensures { LevelsIs (operands_left g src.now false p) result }
 {
     if none_left(src, g, p, false) {
-        return Levels::Some(1);
+        return Ok(1);
     }
-    let t = rules_left(src, g, p);
-    match t {
-        Tally::Broken => return Levels::Refused(3),
-        Tally::Rules(n, known) => return judged(refusal_left(src, g, p, false), n, known),
-    }
+    let Some((n, known)) = rules_left(src, g, p) else {
+        return Err(Refusal::Malformed);
+    };
+    judged(refusal_left(src, g, p, false), n, known)
 }
 
 // The levels that the operands of `order_start` give, from the spot after that word on.
-pub fn levels_of(src: &[u8], g: Signs, p: Spot) -> Levels
+pub fn levels_of(src: &[u8], g: Signs, p: Spot) -> Result<usize, Refusal>
     requires { (p.at ≤ length src.now) × (p.mode ≡ in_plain) }
     ensures { LevelsIs (operands (tokens_left g src.now p)) result }
 {
-    let a = after_first(src, g, p);
-    match a {
-        After::None => return Levels::Some(1),
-        After::Broken => return Levels::Refused(3),
-        After::Operands(x) => return levels_left(src, g, x),
+    match after_first(src, g, p) {
+        After::None => Ok(1),
+        After::Broken => Err(Refusal::Malformed),
+        After::Operands(x) => levels_left(src, g, x),
     }
 }
 
-// The number that stores the rule with a code.
-fn rule_number(code: u8) -> u32
-    ensures { result ≡ rule_number (rule_of code) }
+// The number that stores a rule: that of a forward one where it is none.
+fn rule_number(rule: Option<Rule>) -> u32
+    ensures { result ≡ rule_number (rule_of (code_or_none rule)) }
 {
-    if code == 2 {
-        return 1;
+    match rule {
+        Some(Rule::Backward) => 1,
+        Some(Rule::Position | Rule::ForwardPosition) => 2,
+        Some(Rule::BackwardPosition) => 3,
+        Some(Rule::Forward) | None => 0,
     }
-    if code == 6 {
-        return 3;
-    }
-    if code >= 4 {
-        return 2;
-    }
-    0
 }
 
 // The rules from a spot on, written into the area from a place on.
@@ -274,15 +252,14 @@ fn write_left(src: &[u8], g: Signs, p: Spot, area: &mut [u32], at: usize)
     let mut q = p;
     let mut i = at;
     loop {
-        let s = rule_at(src, g, q);
-        match s {
-            RuleStep::More(code, next) => {
-                area[i] = rule_number(code);
+        match rule_at(src, g, q) {
+            RuleStep::More(rule, next) => {
+                area[i] = rule_number(rule);
                 i += 1;
                 q = next;
             }
-            RuleStep::Last(code) => {
-                area[i] = rule_number(code);
+            RuleStep::Last(rule) => {
+                area[i] = rule_number(rule);
                 return;
             }
             RuleStep::Broken => return, // never: rules that are accepted are whole
@@ -296,20 +273,15 @@ pub fn write_rules(src: &[u8], g: Signs, p: Spot, area: &mut [u32], at: usize)
     requires rules_fit { RulesFit (operands (tokens_left g src.now p)) area.old at }
     ensures { area.new ≡ sets area.old at (rule_numbers (rule_codes (operands (tokens_left g src.now p)))) }
 {
-    let a = after_first(src, g, p);
-    match a {
-        After::None => {
-            area[at] = 0; // one forward level
-            return;
-        }
-        After::Broken => return, // never: rules that are accepted are whole
+    match after_first(src, g, p) {
+        After::None => area[at] = 0, // one forward level
+        After::Broken => {} // never: rules that are accepted are whole
         After::Operands(x) => {
             if none_left(src, g, x, false) {
                 area[at] = 0;
-                return;
+            } else {
+                write_left(src, g, x, area, at);
             }
-            write_left(src, g, x, area, at);
-            return;
         }
     }
 }

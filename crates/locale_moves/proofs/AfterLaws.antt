@@ -1,4 +1,5 @@
 -- reorder-after: what it does after the order, and its refusal.
+use Rattle.std.specs.Prelude.{Err, Ok, Result, ℕ}
 use mathlib.Core.Path.{◌≡◌, refl, sym, ap, ◌∙◌, subst}
 use mathlib.Core.Logic.{inr}
 use mathlib.Core.Bool.{Bool, true, false, ◌||◌}
@@ -23,14 +24,12 @@ use Rattle.rules.proofs.RefusalLaws.{Bounded, bounded-lowest, bounded-unless, bo
 use Rattle.locale_opening.proofs.KeywordLaws.{at-reorder-after}
 use Rattle.locale_symbols.proofs.UnfitLaws.{unfit-three}
 use Rattle.locale_sheet.specs.declared.Sheet.{Sheet}
-use Rattle.locale_sheet.specs.declared.Step.TheVariants.{Next, Refused}
+use Rattle.locale_sheet.specs.declared.Step.TheVariants.{Next}
 use Rattle.locale_sheet.specs.Sheets.{Open, SomeOpen}
 use Rattle.locale_sheet.proofs.BlockLaws.{open_block}
 use Rattle.locale_declarations.specs.Worded.{Opened, Writes}
 use Rattle.locale_declarations.proofs.RefusalLaws.{bounded-operands}
 use Rattle.locale_declarations.proofs.OpenedLaws.{line-moves, line-accepted, line_refused, line-foul}
-use Rattle.locale_moves.specs.declared.Named.{Named}
-use Rattle.locale_moves.specs.declared.Named.TheVariants as answer
 use Rattle.locale_moves.specs.Named.{Holding, subject_named, after_refusal, NamedAt, NamedNot, NamedIs}
 use Rattle.locale_moves.proofs.NamedLaws.{line-listed, line-subject}
 
@@ -70,18 +69,15 @@ open-holding {sh = sh} o = record {
 
 -- ## The refusal of the operand
 
-module _ (g : Signs) (src w : List ℕ) (os : List Token) (i : Holding g src w) (v : Named) (k : NamedIs g src w os v) (r : ℕ) (z : v ≡ answer.Refused r) where
-  told : NamedNot g src w os r
+module _ (g : Signs) (src w : List ℕ) (os : List Token) (i : Holding g src w) (v : Result ℕ Refusal) (k : NamedIs g src w os v) (r : Refusal) (z : v ≡ Err r) where
+  told : NamedNot g src w os (number_of r)
   told = subst (NamedIs g src w os) z k
 
-  bounded : Bounded 3 7 r
+  bounded : Bounded 3 7 (number_of r)
   bounded = subst (Bounded 3 7) (told.refusal i.order i.rules i.n i.declared i.ordered i.known) (bounded-after i.ordered os)
 
-  pub after-low : 2 ≤ r
-  after-low = let h = bounded-low 3 7 r bounded told.some in omega (arith, h)
-
-  pub after-high : r ≤ 7
-  after-high = bounded-high 3 7 r bounded told.some
+  pub after-low : 2 ≤ number_of r
+  after-low = let h = bounded-low 3 7 (number_of r) bounded told.some in omega (arith, h)
 
 -- ## The step
 
@@ -113,14 +109,14 @@ module _ {g : Signs} {src : List ℕ} {at : ℕ} {p : Spot} {e : LineEnd} (l : O
     abbrev may : Bool
     may = eqb sh.phase after_order || eqb sh.phase in_block
 
-    pub after-misplaced : {x : Refusal} → number_of x ≡ lower (2 unless e.text) 3 → {t : Bool} → t ≡ may → t ≡ false → Writes g src w sh at w (Refused x)
+    pub after-misplaced : {x : Refusal} → number_of x ≡ lower (2 unless e.text) 3 → {t : Bool} → t ≡ may → t ≡ false → Writes g src w sh at w (Err x)
     after-misplaced b m n =
         record {
           is = λ number depth. line_refused l w sh number depth b (λ cs s o d u.
               after-fault s number ∙ after-elsewhere s left (rw o.phase (sym m ∙ n)));
         }
 
-    pub after-foul : e.text ≡ false → Writes g src w sh at w (Refused BadByte)
+    pub after-foul : e.text ≡ false → Writes g src w sh at w (Err BadByte)
     after-foul x = record { is = λ number depth. line-foul l w sh number depth x }
 
     module _ {t : Bool} (m : t ≡ may) (f : t ≡ true) where
@@ -132,18 +128,18 @@ module _ {g : Signs} {src : List ℕ} {at : ℕ} {p : Spot} {e : LineEnd} (l : O
           → lower (tokens_refusal left) (collate_line s number (bytes "reorder-after") left).refusal ≡ r
       paper h {cs} {s} number o = after-fault s number ∙ sym (after-paper s left (rw o.phase opens)) ∙ h cs s o
 
-      module _ {v : Named} (k : NamedIs g src w left v) where
-        pub after-refused : {r : ℕ} {x : Refusal} → v ≡ answer.Refused r → number_of x ≡ lower (2 unless e.text) r → Writes g src w sh at w (Refused x)
+      module _ {v : Result ℕ Refusal} (k : NamedIs g src w left v) where
+        pub after-refused : {r x : Refusal} → v ≡ Err r → number_of x ≡ lower (2 unless e.text) (number_of r) → Writes g src w sh at w (Err x)
         after-refused {r} z b =
-            let c : NamedNot g src w left r = subst (NamedIs g src w left) z k in
+            let c : NamedNot g src w left (number_of r) = subst (NamedIs g src w left) z k in
             record {
               is = λ number depth. line_refused l w sh number depth b (λ cs s o d u.
                   paper (λ cs₁ s₁ o₁. c.refusal sh.order s₁.ordered.rules o₁.n s₁.declared s₁.ordered.lines o₁.known) number o);
             }
 
-        pub after-done : {n : ℕ} → v ≡ answer.Stands n → e.text ≡ true
+        pub after-done : {n : ℕ} → v ≡ Ok n → e.text ≡ true
             → Writes g src w sh at w
-            (Next (record { phase = 6; toggles = sh.toggles; rules = sh.rules; levels = sh.levels; order = sh.order; block = record { named = n; last = n; from = e.next } }) e.next e.feeds)
+            (Ok (Next (record { phase = 6; toggles = sh.toggles; rules = sh.rules; levels = sh.levels; order = sh.order; block = record { named = n; last = n; from = e.next } }) e.next e.feeds))
         after-done {n} z x =
             let c : NamedAt g src w left n = subst (NamedIs g src w left) z k in
             record {

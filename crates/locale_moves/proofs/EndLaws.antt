@@ -1,4 +1,5 @@
 -- reorder-end: what it does in a block, and its refusal anywhere else.
+use Rattle.std.specs.Prelude.{Err, Ok}
 use mathlib.Core.Path.{◌≡◌, refl, sym, ap, ◌∙◌}
 use mathlib.Core.Bool.{Bool, true, false, ◌&&◌}
 use mathlib.Core.List.{List, []}
@@ -20,7 +21,7 @@ use Rattle.text_lines.specs.declared.LineEnd.{LineEnd}
 use Rattle.text_tokens.specs.Left.{tokens_left}
 use Rattle.locale_opening.proofs.KeywordLaws.{at-reorder-end}
 use Rattle.locale_sheet.specs.declared.Sheet.{Sheet}
-use Rattle.locale_sheet.specs.declared.Step.TheVariants.{Next, Refused}
+use Rattle.locale_sheet.specs.declared.Step.TheVariants.{Next}
 use Rattle.locale_sheet.proofs.BlockLaws.{open-unblocked}
 use Rattle.locale_declarations.specs.Worded.{Opened, Still}
 use Rattle.locale_declarations.proofs.RefusalLaws.{tokens-three, tokens_none}
@@ -42,7 +43,7 @@ module _ {g : Signs} {src : List ℕ} {at : ℕ} {p : Spot} {e : LineEnd} (l : O
   end-state s number = ap (λ (o : Outcome). o.state) (at-reorder-end s number (bytes "reorder-end") left refl)
 
   module _ (sh : Sheet) where
-    pub end-misplaced : {x : Refusal} → number_of x ≡ lower (2 unless e.text) 3 → (sh.phase ≡ 6 → ⊥) → Still g src sh at (Refused x)
+    pub end-misplaced : {x : Refusal} → number_of x ≡ lower (2 unless e.text) 3 → (sh.phase ≡ 6 → ⊥) → Still g src sh at (Err x)
     end-misplaced b n =
         record {
           is = λ depth. record {
@@ -52,7 +53,7 @@ module _ {g : Signs} {src : List ℕ} {at : ℕ} {p : Spot} {e : LineEnd} (l : O
         }
 
     module _ (f : sh.phase ≡ 6) {t : Bool} (z : t ≡ eqb (length left) 0) where
-      pub end_more : {x : Refusal} → number_of x ≡ lower (2 unless e.text) 3 → t ≡ false → Still g src sh at (Refused x)
+      pub end_more : {x : Refusal} → number_of x ≡ lower (2 unless e.text) 3 → t ≡ false → Still g src sh at (Err x)
       end_more b h =
           record {
             is = λ depth. record {
@@ -66,12 +67,12 @@ module _ {g : Signs} {src : List ℕ} {at : ℕ} {p : Spot} {e : LineEnd} (l : O
             → lower (tokens_refusal left) (collate_line s number (bytes "reorder-end") left).refusal ≡ 0
         fine s number i = end-fault s number ∙ tokens_none (in_phase in_block s && eqb (length left) 0) (none-refused left (sym z ∙ h)) (rw (i, f, ← z, h))
 
-        pub end-foul : e.text ≡ false → Still g src sh at (Refused BadByte)
+        pub end-foul : e.text ≡ false → Still g src sh at (Err BadByte)
         end-foul x =
             record { is = λ depth. record { is = λ w number. line-foul l w sh number depth x } }
 
         pub end-done : e.text ≡ true
-            → Still g src sh at (Next (record { phase = 5; toggles = sh.toggles; rules = sh.rules; levels = sh.levels; order = sh.order; block = sh.block }) e.next e.feeds)
+            → Still g src sh at (Ok (Next (record { phase = 5; toggles = sh.toggles; rules = sh.rules; levels = sh.levels; order = sh.order; block = sh.block }) e.next e.feeds))
         end-done x =
             record {
               is = λ depth. record {

@@ -6,7 +6,8 @@ use Prim.Native.Nat.{ℕ, ◌≤◌, ◌<◌}
 use native.Mathlib.Omega.{arith}
 use lib.ListN.{length, get_or}
 use lib.Seq.{drop-cons}
-use borrow.Author.Tests.{ne_eqb}
+use lib.Dec.{ltb}
+use borrow.Author.Tests.{ne_eqb, ltb-false}
 use Rattle.base_lists.proofs.Bools.{by, cond_both}
 use Rattle.rules.specs.Text.{◌unless◌, lower}
 use Rattle.rules.specs.Names.{name_refusal}
@@ -18,6 +19,7 @@ use Rattle.rules.specs.Source.{token_line}
 use Rattle.rules.proofs.TextLaws.{every-head}
 use Rattle.rules.proofs.RefusalLaws.{lower-keeps}
 use Rattle.rules.proofs.RunLaws.{scan-size}
+use Rattle.base_units.specs.Numbers.{number_or_none}
 use Rattle.text_lines.specs.declared.Signs.{Signs}
 use Rattle.text_lines.specs.declared.Spot.{Spot}
 use Rattle.text_lines.specs.declared.LineEnd.{LineEnd}
@@ -47,21 +49,11 @@ module _ (t : Bool) (r : ℕ) where
   pub with-foul : {x : ℕ} → x ≡ lower 2 r → t ≡ false → x ≡ lower (2 unless t) r
   with-foul e h = rw h e
 
-  -- where r is the refusal of a source, so is that
-  pub with-within : {x : ℕ} → x ≡ lower (2 unless t) r → (2 ≤ r) × (r ≤ 7) → (2 ≤ x) × (x ≤ 10)
-  with-within e h =
-      let P : ℕ → Type 0 = λ y. (2 ≤ y) × (y ≤ 10) in
-      let k : P r = (h.0, let l = h.1 in omega (arith, l)) in
-      subst P (sym e) (by t (λ u. rw (u, lower-none-left r) k) (λ u. rw u (lower-keeps P 2 r (omega arith, omega arith) k)))
-
--- a malformed line
-module _ (t : Bool) where
-  pub three-text : t ≡ true → 3 ≡ lower (2 unless t) 3
-  three-text h = with-text t 3 h
-
-  pub three-foul : t ≡ false → 2 ≡ lower (2 unless t) 3
+  -- where r is that of a line
+  pub with-byte : 2 ≤ r → t ≡ false → 2 ≡ lower (2 unless t) r
   unfolding lower
-  three-foul h = with-foul t 3 refl h
+  with-byte l h =
+      rw h (simp (ne_eqb r 0 (λ e. omega arith)) (by (ltb 2 r) (λ k. rw k) (λ k. let m = ltb-false 2 r k in rw k (omega arith))))
 
 -- ## A line takes a byte more
 
@@ -93,7 +85,7 @@ unfolding tokens_refusal
 name-refusal t n k h = rw (k, h) (refusal-name n)
 
 -- a word gives none
-word_none : {g : Signs} {src : List ℕ} {q : Spot} {t : Tok} → TokenIs g src q t → t.kind ≡ word → t.refusal ≡ 0
+word_none : {g : Signs} {src : List ℕ} {q : Spot} {t : Tok} → TokenIs g src q t → t.kind ≡ word → number_or_none t.refusal ≡ 0
 word_none {g} {src} {q} {t} w k =
     sym w.refusal
     ∙ word-refusal (token_there g src q) (w.kind ∙ k) (every-head tidy (token_there g src q) (tokens_left g src t.next) (rw (← w.first) (left-tidy g src q)))

@@ -7,6 +7,7 @@ use Rattle.rules.specs.Tokens.{word, name, Token, tokens_of, operands, tokens_re
 use Rattle.rules.specs.State.{State, in_collate, Outcome, gives}
 use Rattle.rules.specs.OrderLines.{subject_of, order_line}
 use Rattle.rules.specs.Source.{collate_line, whole_line}
+use Rattle.base_units.specs.Numbers.{number_or_none}
 use Rattle.text_lines.specs.declared.Signs.{Signs}
 use Rattle.text_lines.specs.declared.Spot.{Spot}
 use Rattle.text_lines.specs.declared.LineEnd.{LineEnd}
@@ -64,10 +65,10 @@ pub record WordLine (g : Signs) (src : List ℕ) (at : ℕ) (q : Spot) (t : Tok)
 pub record NameLine (g : Signs) (src : List ℕ) (at : ℕ) (q : Spot) (t : Tok) (e : LineEnd) : Type 0 where
   pub first : FirstAt g src at q t e
   pub kind : t.kind ≡ name
-  pub refusal : t.refusal ≡ name_refusal (name_in (marks_left g src t.inside))
+  pub refusal : number_or_none t.refusal ≡ name_refusal (name_in (marks_left g src t.inside))
   pub outcome : (s : State) (number : ℕ) → in_collate s ≡ true
       → whole_line s number (line_marks g src at)
-      ≡ refused_with e.text (lower t.refusal (tokens_refusal (operands_after g src t))) (order_line s number (subject_of (name_in (marks_left g src t.inside))) (operands_after g src t))
+      ≡ refused_with e.text (lower (number_or_none t.refusal) (tokens_refusal (operands_after g src t))) (order_line s number (subject_of (name_in (marks_left g src t.inside))) (operands_after g src t))
 
 abbrev pub OpeningIs : Signs → List ℕ → ℕ → Opening → Type 0
 OpeningIs g src at (opening.Blank e) = BlankLine g src at e

@@ -6,12 +6,12 @@ ghost use Rattle.text_lines.specs.Stream.{marks_left};
 ghost use Rattle.text_tokens.specs.Left.{word_in};
 ghost use Rattle.locale_opening.specs.Keyed.{KeywordIs, LaterIs};
 ghost use Rattle.rules.specs.Text.{◌unless◌, lower};
-ghost use Rattle.base_units.specs.Numbers.{number_of};
+ghost use Rattle.base_units.specs.Numbers.{number_of, number_or_none};
 ghost use Rattle.locale_opening.specs.Begun.{OpeningIs};
 
-use base_units::{Refusal, refusal_of};
+use base_units::{Refusal, lower_of};
 use text_lines::{IN_PLAIN, LineEnd, Signs, Spot, line_end};
-use text_tokens::{NAME, Next, Tok, WORD, lower_of, next_token, skip_gaps, word_is};
+use text_tokens::{NAME, Next, Tok, WORD, next_token, skip_gaps, word_is};
 
 // The first words that the paper's collate_line tells apart, in its order; Other: none of them.
 #[derive(Clone, Copy)]
@@ -40,30 +40,24 @@ fn later_at(src: &[u8], g: Signs, p: Spot) -> Keyword
     ensures { LaterIs (word_in (marks_left g src.now p)) result }
 {
     if word_is(src, g, p, b"collating-symbol") {
-        return Keyword::Symbol;
+        Keyword::Symbol
+    } else if word_is(src, g, p, b"collating-element") {
+        Keyword::Element
+    } else if word_is(src, g, p, b"order_start") {
+        Keyword::OrderStart
+    } else if word_is(src, g, p, b"order_end") {
+        Keyword::OrderEnd
+    } else if word_is(src, g, p, b"UNDEFINED") {
+        Keyword::Undefined
+    } else if word_is(src, g, p, b"reorder-after") {
+        Keyword::ReorderAfter
+    } else if word_is(src, g, p, b"reorder-end") {
+        Keyword::ReorderEnd
+    } else if word_is(src, g, p, b"END") {
+        Keyword::End
+    } else {
+        Keyword::Other
     }
-    if word_is(src, g, p, b"collating-element") {
-        return Keyword::Element;
-    }
-    if word_is(src, g, p, b"order_start") {
-        return Keyword::OrderStart;
-    }
-    if word_is(src, g, p, b"order_end") {
-        return Keyword::OrderEnd;
-    }
-    if word_is(src, g, p, b"UNDEFINED") {
-        return Keyword::Undefined;
-    }
-    if word_is(src, g, p, b"reorder-after") {
-        return Keyword::ReorderAfter;
-    }
-    if word_is(src, g, p, b"reorder-end") {
-        return Keyword::ReorderEnd;
-    }
-    if word_is(src, g, p, b"END") {
-        return Keyword::End;
-    }
-    Keyword::Other
 }
 
 // Which keyword stands at a spot.
@@ -72,27 +66,22 @@ pub fn keyword_at(src: &[u8], g: Signs, p: Spot) -> Keyword
     ensures { KeywordIs (word_in (marks_left g src.now p)) result }
 {
     if word_is(src, g, p, b"define") {
-        return Keyword::Define;
+        Keyword::Define
+    } else if word_is(src, g, p, b"undef") {
+        Keyword::Undef
+    } else if word_is(src, g, p, b"ifdef") {
+        Keyword::Ifdef
+    } else if word_is(src, g, p, b"ifndef") {
+        Keyword::Ifndef
+    } else if word_is(src, g, p, b"elif") {
+        Keyword::Elif
+    } else if word_is(src, g, p, b"else") {
+        Keyword::Else
+    } else if word_is(src, g, p, b"endif") {
+        Keyword::Endif
+    } else {
+        later_at(src, g, p)
     }
-    if word_is(src, g, p, b"undef") {
-        return Keyword::Undef;
-    }
-    if word_is(src, g, p, b"ifdef") {
-        return Keyword::Ifdef;
-    }
-    if word_is(src, g, p, b"ifndef") {
-        return Keyword::Ifndef;
-    }
-    if word_is(src, g, p, b"elif") {
-        return Keyword::Elif;
-    }
-    if word_is(src, g, p, b"else") {
-        return Keyword::Else;
-    }
-    if word_is(src, g, p, b"endif") {
-        return Keyword::Endif;
-    }
-    later_at(src, g, p)
 }
 
 // What a line begins with, and its end.
@@ -108,33 +97,30 @@ pub enum Opening {
     Name(Spot, Tok, LineEnd),
 }
 
-// The number of a line's refusal, 0 for none: that of a byte of it that is no text, else r.
-pub fn line_refusal(text: bool, r: u8) -> u8
-    ensures { result ≡ lower (2 unless text) r }
+// A line's refusal: that of a byte of it that is no text, else r.
+pub fn line_refusal(text: bool, r: Option<Refusal>) -> Option<Refusal>
+    ensures { number_or_none result ≡ lower (2 unless text) (number_or_none r) }
 {
     if text {
-        return r;
+        r
+    } else {
+        lower_of(Some(Refusal::BadByte), r)
     }
-    lower_of(2, r)
 }
 
-// The same as a refusal, where r is one.
-pub fn refusal_with(text: bool, r: u8) -> Refusal
-    requires { (2 ≤ r) × (r ≤ 7) }
-    ensures { number_of result ≡ lower (2 unless text) r }
+// The same where r is a refusal of a line.
+pub fn refusal_with(text: bool, r: Refusal) -> Refusal
+    requires { 2 ≤ number_of r }
+    ensures { number_of result ≡ lower (2 unless text) (number_of r) }
 {
-    let x = line_refusal(text, r);
-    refusal_of(x)
+    if text { r } else { Refusal::BadByte }
 }
 
 // The same of a line that is malformed or misplaced.
 pub fn malformed(text: bool) -> Refusal
     ensures { number_of result ≡ lower (2 unless text) 3 }
 {
-    if text {
-        return Refusal::Malformed;
-    }
-    Refusal::BadByte
+    refusal_with(text, Refusal::Malformed)
 }
 
 // How the line at a place begins.
@@ -143,24 +129,17 @@ pub fn open_line(src: &[u8], g: Signs, at: usize) -> Opening
     ensures { OpeningIs g src.now at result }
 {
     let p = Spot {
-        at: at,
+        at,
         mode: IN_PLAIN,
         fresh: true,
     };
     let e = line_end(src, g, p);
     let q = skip_gaps(src, g, p);
-    let n = next_token(src, g, q);
-    match n {
-        Next::End => return Opening::Blank(e),
-        Next::Broken => return Opening::Foul(e),
-        Next::Token(t) => {
-            if t.kind == WORD {
-                return Opening::Word(q, t, e);
-            }
-            if t.kind == NAME {
-                return Opening::Name(q, t, e);
-            }
-            return Opening::Foul(e);
-        }
+    match next_token(src, g, q) {
+        Next::End => Opening::Blank(e),
+        Next::Broken => Opening::Foul(e),
+        Next::Token(t) if t.kind == WORD => Opening::Word(q, t, e),
+        Next::Token(t) if t.kind == NAME => Opening::Name(q, t, e),
+        Next::Token(_) => Opening::Foul(e),
     }
 }

@@ -1,4 +1,5 @@
 -- Lines of a block: whether an order line would be a second one, and the block with one line more.
+use Rattle.std.specs.Prelude.{None, Option, Some, ℕ}
 use mathlib.Core.Path.{◌≡◌, refl, sym, ap, ◌∙◌, subst}
 use mathlib.Core.Bool.{Bool, true, false, not, ◌||◌, or-true}
 use mathlib.Core.List.{List, [], ◌∷◌, ◌++◌, map}
@@ -17,8 +18,6 @@ use Rattle.rules.proofs.TextLaws.{one_of-append}
 use Rattle.text_lines.specs.declared.Signs.{Signs}
 use Rattle.work_rows.specs.Cells.{cell}
 use Rattle.work_rows.proofs.CellLaws.{Apart}
-use Rattle.work_store.specs.declared.Found.{Found}
-use Rattle.work_store.specs.declared.Found.TheVariants.{At, Nothing}
 use Rattle.work_order.specs.declared.Order.{Order}
 use Rattle.work_order.specs.Links.{place_number}
 use Rattle.work_order.proofs.MoveLaws.{one_has}
@@ -49,7 +48,7 @@ unfolding one_of
 first-has P [] v a h = h
 first-has P (u ∷ us) v a h = a u (rw (eq-eqb u u refl))
 
-none_of : (us : List ℕ) → one_of (λ (u : ℕ). is_at u Nothing) us ≡ false
+none_of : (us : List ℕ) → one_of (λ (u : ℕ). is_at u None) us ≡ false
 unfolding one_of
 none_of [] = refl
 none_of (u ∷ us) = none_of us
@@ -91,7 +90,7 @@ module _ (g : Signs) (src w : List ℕ) (o : Order) (rs : List Rule) (n : ℕ) (
   listed-one v h = one_has (IsListed g src w k.ds) v k.marks k.listed h
 
   -- in the order: the subject has a line
-  pub again-order : (x : Subject) (f : Found) → mark_of (length src) k.ds x ≡ f → again [] x ls ≡ is_ordered w f
+  pub again-order : (x : Subject) (f : Option ℕ) → mark_of (length src) k.ds x ≡ f → again [] x ls ≡ is_ordered w f
   unfolding again
   again-order x f m = ap not (rank-none g src w o rs n cs ls k x f m) ∙ not-not (is_ordered w f)
 
@@ -123,23 +122,23 @@ module _ (g : Signs) (src w : List ℕ) (o : Order) (rs : List Rule) (n : ℕ) (
         (λ l. sym l)))))
 
     -- in a block: it is the named line's, or that of one of its own lines
-    pub again-own : (x : Subject) (f : Found) → mark_of (length src) k.ds x ≡ f → again xs x ls ≡ is_own w b f
+    pub again-own : (x : Subject) (f : Option ℕ) → mark_of (length src) k.ds x ≡ f → again xs x ls ≡ is_own w b f
     again-own x f m =
         ap (λ (ys : List Subject). again ys x ls) i.subjects
         ∙ again-all (subject_at g src) i.own b.named x ls
         ∙ subjects-marks x (i.own ++ b.named ∷ []) own-listed
-        ∙ ap (λ (y : Found). one_of (λ (u : ℕ). is_at u y) (i.own ++ b.named ∷ [])) m
+        ∙ ap (λ (y : Option ℕ). one_of (λ (u : ℕ). is_at u y) (i.own ++ b.named ∷ [])) m
         ∙ go f m
       where
-        go : (f : Found) → mark_of (length src) k.ds x ≡ f → one_of (λ (u : ℕ). is_at u f) (i.own ++ b.named ∷ []) ≡ is_own w b f
-        go Nothing m = none_of (i.own ++ b.named ∷ [])
-        go (At v) m = one_of-append (eqb v) i.own (b.named ∷ []) ∙ own-or v (mark-row g src w n k.ds k.holds k.holds.once v x m)
+        go : (f : Option ℕ) → mark_of (length src) k.ds x ≡ f → one_of (λ (u : ℕ). is_at u f) (i.own ++ b.named ∷ []) ≡ is_own w b f
+        go None m = none_of (i.own ++ b.named ∷ [])
+        go (Some v) m = one_of-append (eqb v) i.own (b.named ∷ []) ∙ own-or v (mark-row g src w n k.ds k.holds k.holds.once v x m)
 
     -- ## The block with a line more
 
-    module _ (m : ℕ) (x : Subject) (mark : mark_of (length src) k.ds x ≡ At m) (first : again xs x ls ≡ false) where
-      not_own : is_own w b (At m) ≡ false
-      not_own = sym (again-own x (At m) mark) ∙ first
+    module _ (m : ℕ) (x : Subject) (mark : mark_of (length src) k.ds x ≡ Some m) (first : again xs x ls ≡ false) where
+      not_own : is_own w b (Some m) ≡ false
+      not_own = sym (again-own x (Some m) mark) ∙ first
 
       not_named : m ≡ b.named → ⊥
       not_named = eqb-false m b.named (or-false-left (eqb m b.named) _ not_own)
@@ -200,7 +199,7 @@ module _ (g : Signs) (src w : List ℕ) (o : Order) (rs : List Rule) (n : ℕ) (
 
 -- ## What is told of a second line
 
-pub again-is : (g : Signs) (src w : List ℕ) (sh : Sheet) (x : Subject) (f : Found) (r : Bool) → r ≡ is_again w sh f
+pub again-is : (g : Signs) (src w : List ℕ) (sh : Sheet) (x : Subject) (f : Option ℕ) (r : Bool) → r ≡ is_again w sh f
     → ((cs : List Chain) (at : ℕ) (s : State) (o : Open g src w sh cs at s) → mark_of (length src) o.known.ds x ≡ f) → AgainIs g src w sh x r
 again-is g src w sh x f r e m = record {
   is = λ cs at s o.

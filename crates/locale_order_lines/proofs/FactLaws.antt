@@ -1,5 +1,7 @@
 -- What is told of a subject: by what is found in the store, and by its row.
-use Rattle.std.specs.Prelude.{if◌then◌else◌}
+use lib.Dec.{eqb, leb}
+use Rattle.std.specs.Option.{is_some}
+use Rattle.std.specs.Prelude.{if◌then◌else◌, None, Option, Some}
 use mathlib.Core.Path.{◌≡◌, refl, sym, ap, ◌∙◌, subst}
 use mathlib.Core.Bool.{Bool, true, false, not}
 use mathlib.Core.List.{List}
@@ -16,14 +18,10 @@ use Rattle.text_lines.specs.declared.Signs.{Signs}
 use Rattle.text_lines.specs.declared.Spot.{Spot}
 use Rattle.text_tokens.specs.Left.{is_inside}
 use Rattle.base_units.specs.declared.CodePoint.{CodePoint}
-use Rattle.text_names.specs.declared.Code.{Code}
-use Rattle.text_names.specs.declared.Code.TheVariants.{Char, Other}
 use Rattle.text_names.specs.Named.{name_left, CharIs, CodeIs}
 use Rattle.work_rows.specs.Cells.{cell}
 use Rattle.work_subjects.specs.Keys.{Key, item, key_at, subject_left}
 use Rattle.work_subjects.proofs.SpotLaws.{key_at-inside}
-use Rattle.work_store.specs.declared.Found.{Found}
-use Rattle.work_store.specs.declared.Found.TheVariants.{At, Nothing}
 use Rattle.work_store.specs.Store.{Decl, first, is_found, known_in, undefined_mark, Sound, Finds}
 use Rattle.work_store.proofs.ListLaws.{found_within}
 use Rattle.work_order.specs.declared.Order.{Order}
@@ -40,17 +38,17 @@ use Rattle.locale_order_lines.specs.Facts.{Rowed, is_bare, is_own, is_again, Fac
 
 -- ## Rows
 
-module _ (w : List ℕ) (f : Found) where
-  pub row-there : {v : ℕ} → Rowed w f → f ≡ At v → 8 * (v / 16) + 8 ≤ length w
+module _ (w : List ℕ) (f : Option ℕ) where
+  pub row-there : {v : ℕ} → Rowed w f → f ≡ Some v → 8 * (v / 16) + 8 ≤ length w
   row-there h e = subst (Rowed w) e h
 
-  pub bare-none : f ≡ Nothing → false ≡ is_bare w f
+  pub bare-none : f ≡ None → false ≡ is_bare w f
   bare-none e = sym (ap (is_bare w) e)
 
-  pub listed-none : f ≡ Nothing → false ≡ is_ordered w f
+  pub listed-none : f ≡ None → false ≡ is_ordered w f
   listed-none e = sym (ap (is_ordered w) e)
 
-  pub own-none : (b : Block) → f ≡ Nothing → false ≡ is_own w b f
+  pub own-none : (b : Block) → f ≡ None → false ≡ is_own w b f
   own-none b e = sym (ap (is_own w b) e)
 
   -- in a block the block's lines count, else all
@@ -60,34 +58,25 @@ module _ (w : List ℕ) (f : Found) where
   pub again-else : (sh : Sheet) {r : Bool} → (sh.phase ≡ 6 → ⊥) → r ≡ is_ordered w f → r ≡ is_again w sh f
   again-else sh h k = k ∙ sym (cond-false (is_own w sh.block f) (is_ordered w f) (ne_eqb sh.phase in_block h))
 
-  module _ {v : ℕ} (e : f ≡ At v) where
-    pub own-named : (b : Block) → v ≡ b.named → true ≡ is_own w b f
-    own-named b h = sym (ap (is_own w b) e ∙ rw (eq-eqb v b.named h))
+  module _ {v : ℕ} (e : f ≡ Some v) where
+    pub own-named : (b : Block) → v ≡ b.named → eqb v b.named ≡ is_own w b f
+    own-named b h = eq-eqb v b.named h ∙ sym (ap (is_own w b) e ∙ rw (eq-eqb v b.named h))
 
-    pub own-late : (b : Block) {x : ℕ} → x ≡ cell w v place_number → (v ≡ b.named → ⊥) → b.from ≤ x → true ≡ is_own w b f
-    own-late b k n h = sym (ap (is_own w b) e ∙ rw (ne_eqb v b.named n, le-leb b.from (cell w v place_number) (omega (arith, k, h))))
+    pub own-late : (b : Block) {x : ℕ} → x ≡ cell w v place_number → (v ≡ b.named → ⊥) → leb b.from x ≡ is_own w b f
+    own-late b k n = ap (leb b.from) k ∙ sym (ap (is_own w b) e ∙ rw (ne_eqb v b.named n))
 
-    pub own-early : (b : Block) {x : ℕ} → x ≡ cell w v place_number → (v ≡ b.named → ⊥) → x < b.from → false ≡ is_own w b f
-    own-early b k n h = sym (ap (is_own w b) e ∙ rw (ne_eqb v b.named n, lt-leb b.from (cell w v place_number) (omega (arith, k, h))))
+    pub bare-is : {x : ℕ} → x ≡ cell w v chars_number → eqb x 0 ≡ is_bare w f
+    bare-is k = ap (λ (y : ℕ). eqb y 0) k ∙ sym (ap (is_bare w) e)
 
-    pub bare-yes : {x : ℕ} → x ≡ cell w v chars_number → x ≡ 0 → true ≡ is_bare w f
-    bare-yes k z = sym (ap (is_bare w) e ∙ eq-eqb (cell w v chars_number) 0 (sym k ∙ z))
-
-    pub bare-no : {x : ℕ} → x ≡ cell w v chars_number → (x ≡ 0 → ⊥) → false ≡ is_bare w f
-    bare-no k z = sym (ap (is_bare w) e ∙ ne_eqb (cell w v chars_number) 0 (λ y. z (k ∙ y)))
-
-    pub listed-no : {x : ℕ} → x ≡ cell w v place_number → x ≡ 0 → false ≡ is_ordered w f
-    listed-no k z = sym (ap (is_ordered w) e ∙ ap not (eq-eqb (cell w v place_number) 0 (sym k ∙ z)))
-
-    pub listed-yes : {x : ℕ} → x ≡ cell w v place_number → (x ≡ 0 → ⊥) → true ≡ is_ordered w f
-    listed-yes k z = sym (ap (is_ordered w) e ∙ ap not (ne_eqb (cell w v place_number) 0 (λ y. z (k ∙ y))))
+    pub listed-is : {x : ℕ} → x ≡ cell w v place_number → not (eqb x 0) ≡ is_ordered w f
+    listed-is k = ap (λ (y : ℕ). not (eqb y 0)) k ∙ sym (ap (is_ordered w) e)
 
 -- ## What the store finds
 
 -- the row of what is found stands in the area
-pub found-rowed : (g : Signs) (src w : List ℕ) (k : Key) (f : Found) → SomeKnown g src w → Finds (key_at g src) (length src) w k f → Rowed w f
-found-rowed g src w k Nothing s d = tt
-found-rowed g src w k (At v) s d =
+pub found-rowed : (g : Signs) (src w : List ℕ) (k : Key) (f : Option ℕ) → SomeKnown g src w → Finds (key_at g src) (length src) w k f → Rowed w f
+found-rowed g src w k None s d = tt
+found-rowed g src w k (Some v) s d =
     let i = found_within s.known.holds k v (sym (d.is s.n s.known.ds s.known.holds)) in
     let r = s.known.holds.roomy.room in omega (arith, i, r)
 
@@ -103,13 +92,13 @@ stands-known w ds cs s undefined = refl
 
 -- a found name is a symbol where its row tells nothing
 pub symbol-known : (g : Signs) (src w : List ℕ) (o : Order) (rs : List Rule) (n : ℕ) (cs : List Declaration) (ls : List OrderLine) (k : Known g src w o rs n cs ls)
-    (m : List ℕ) (f : Found) → first (item (named m)) k.ds ≡ f → is_symbol cs (named m) ≡ is_bare w f
+    (m : List ℕ) (f : Option ℕ) → first (item (named m)) k.ds ≡ f → is_symbol cs (named m) ≡ is_bare w f
 unfolding is_symbol known_in
-symbol-known g src w o rs n cs ls k m (At v) e = known-symbol w m v k.ds cs k.says k.holds.once e
-symbol-known g src w o rs n cs ls k m Nothing e = none-later m cs (sym (known-declared w m k.ds cs k.says) ∙ ap is_found e)
+symbol-known g src w o rs n cs ls k m (Some v) e = known-symbol w m v k.ds cs k.says k.holds.once e
+symbol-known g src w o rs n cs ls k m None e = none-later m cs (sym (known-declared w m k.ds cs k.says) ∙ ap is_found e)
 
 -- how many lines there are without that of a subject
-others-known : (g : Signs) (src w : List ℕ) (o : Order) (rs : List Rule) (n : ℕ) (cs : List Declaration) (ls : List OrderLine) (k : Known g src w o rs n cs ls) (x : Subject) (f : Found)
+others-known : (g : Signs) (src w : List ℕ) (o : Order) (rs : List Rule) (n : ℕ) (cs : List Declaration) (ls : List OrderLine) (k : Known g src w o rs n cs ls) (x : Subject) (f : Option ℕ)
     → mark_of (length src) k.ds x ≡ f → length (taken_out x ls) ≡ (if is_ordered w f then length ls - 1 else length ls)
 others-known g src w o rs n cs ls k x f m =
     taken-found g src w o rs n cs ls k x f m ∙ ap (λ (c : ℕ). if is_ordered w f then c - 1 else c) (sym (known-length g src w o rs n cs ls k))
@@ -125,7 +114,7 @@ pub mark-found : (len : ℕ) (ds : List Decl) (m : List ℕ) → mark_of len ds 
 unfolding mark_of subject_of
 mark-found len ds m = by (char_shaped m) (λ t. rw t) (λ t. rw t)
 
-module _ (g : Signs) (src w : List ℕ) (p : Spot) (f : Found) (i : is_inside p.mode ≡ true)
+module _ (g : Signs) (src w : List ℕ) (p : Spot) (f : Option ℕ) (i : is_inside p.mode ≡ true)
     (d : Finds (key_at g src) (length src) w (key_at g src (2 * p.at)) f) where
   -- it is what the store finds at the name's mark
   pub mark-is : (o : Order) (rs : List Rule) (n : ℕ) (cs : List Declaration) (ls : List OrderLine) (k : Known g src w o rs n cs ls)
@@ -145,11 +134,11 @@ module _ (g : Signs) (src w : List ℕ) (p : Spot) (f : Found) (i : is_inside p.
     };
   }
 
-  facts-char : (x : CodePoint) → CharIs (name_left g src p) x.0 → FactsOf g src w (subject_left g src p) (name_facts w f (Char x))
+  facts-char : (x : CodePoint) → CharIs (name_left g src p) x.0 → FactsOf g src w (subject_left g src p) (name_facts w f (Some x))
   unfolding is_symbol stands subject_of
   facts-char x z = facts-with false (is_character x.0) (λ o rs n cs ls k. rw z.shaped) (λ o rs n cs ls k. rw z.shaped (sym (ap is_character z.code)))
 
-  facts-other : char_shaped (name_left g src p) ≡ false → FactsOf g src w (subject_left g src p) (name_facts w f Other)
+  facts-other : char_shaped (name_left g src p) ≡ false → FactsOf g src w (subject_left g src p) (name_facts w f None)
   unfolding stands known_in
   facts-other z =
       let y : subject_left g src p ≡ named (name_left g src p) = other-named (name_left g src p) z in
@@ -160,22 +149,27 @@ module _ (g : Signs) (src w : List ℕ) (p : Spot) (f : Found) (i : is_inside p.
       (λ o rs n cs ls k. ap (stands cs) y ∙ sym (known-declared w (name_left g src p) k.ds cs k.says) ∙ ap is_found (found o rs n cs ls k))
 
   -- what is told of a name's find and code is told of its subject
-  pub facts-name : (c : Code) → CodeIs (name_left g src p) c → FactsOf g src w (subject_left g src p) (name_facts w f c)
-  facts-name (Char x) z = facts-char x z
-  facts-name Other z = facts-other z
+  pub facts-name : (c : Option CodePoint) → CodeIs (name_left g src p) c → FactsOf g src w (subject_left g src p) (name_facts w f c)
+  facts-name (Some x) z = facts-char x z
+  facts-name None z = facts-other z
 
-module _ (w : List ℕ) (f : Found) {c : Code} {ordered stood : Bool} where
-  pub told_char : {x : CodePoint} → c ≡ Char x → ordered ≡ is_ordered w f → stood ≡ is_character x.0
+-- what is found
+some-found : (f : Option ℕ) → is_some f ≡ is_found f
+some-found None = refl
+some-found (Some v) = refl
+
+module _ (w : List ℕ) (f : Option ℕ) {c : Option CodePoint} {ordered stood : Bool} where
+  pub told_char : {x : CodePoint} → c ≡ Some x → ordered ≡ is_ordered w f → stood ≡ is_character x.0
       → record { symbol = false; ordered = ordered; stands = stood } ≡ name_facts w f c
   told_char e l t = rw l (rw t (sym (ap (name_facts w f) e)))
 
-  pub told-other : {symbol : Bool} → c ≡ Other → ordered ≡ is_ordered w f → symbol ≡ is_bare w f → stood ≡ is_found f
+  pub told-other : {symbol : Bool} → c ≡ None → ordered ≡ is_ordered w f → symbol ≡ is_bare w f → stood ≡ is_some f
       → record { symbol = symbol; ordered = ordered; stands = stood } ≡ name_facts w f c
-  told-other e l b t = rw l (rw b (rw t (sym (ap (name_facts w f) e))))
+  told-other e l b t = rw l (rw b (rw (t ∙ some-found f) (sym (ap (name_facts w f) e))))
 
 -- ## The facts of UNDEFINED
 
-pub facts-undefined : (w : List ℕ) (m : ℕ) {ordered : Bool} → ordered ≡ is_ordered w (At m)
+pub facts-undefined : (w : List ℕ) (m : ℕ) {ordered : Bool} → ordered ≡ is_ordered w (Some m)
     → record { symbol = false; ordered = ordered; stands = true } ≡ undefined_facts w m
 facts-undefined w m e = ap (λ (b : Bool). record { symbol = false; ordered = b; stands = true }) e
 
@@ -184,8 +178,8 @@ unfolding is_symbol stands mark_of
 undefined-are g src w m k e f = record {
   are = λ o rs n cs ls h. record {
     symbol = ap (λ (y : Facts). y.symbol) (sym f);
-    ordered = rank-none g src w o rs n cs ls h undefined (At m) (ap At (sym e)) ∙ ap (λ (y : Facts). not y.ordered) (sym f);
-    others = others-known g src w o rs n cs ls h undefined (At m) (ap At (sym e)) ∙ ap (λ (y : Facts). if y.ordered then length ls - 1 else length ls) (sym f);
+    ordered = rank-none g src w o rs n cs ls h undefined (Some m) (ap Some (sym e)) ∙ ap (λ (y : Facts). not y.ordered) (sym f);
+    others = others-known g src w o rs n cs ls h undefined (Some m) (ap Some (sym e)) ∙ ap (λ (y : Facts). if y.ordered then length ls - 1 else length ls) (sym f);
     stands = ap (λ (y : Facts). y.stands) (sym f);
   };
 }

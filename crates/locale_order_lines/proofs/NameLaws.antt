@@ -1,4 +1,6 @@
 -- A line that opens with a name, as an order line: what it is read as, and the row that it is given.
+use Rattle.base_units.specs.Numbers.{number_or_none}
+use Rattle.std.specs.Prelude.{None, Option, Some, ℕ, Result}
 use mathlib.Core.Path.{◌≡◌, refl, sym, ap, ◌∙◌, subst}
 use mathlib.Core.Bool.{Bool, true, false≢true}
 use mathlib.Core.List.{List, [], ◌∷◌}
@@ -23,16 +25,12 @@ use Rattle.text_lines.specs.Stream.{marks_left, line_start, Run, Walk}
 use Rattle.text_tokens.specs.declared.Tok.{Tok}
 use Rattle.text_tokens.specs.Left.{is_inside, token_there}
 use Rattle.text_tokens.proofs.RefusalLaws.{lower-assoc}
-use Rattle.text_names.specs.declared.Code.{Code}
-use Rattle.text_names.specs.declared.Code.TheVariants.{Char, Other}
 use Rattle.text_names.specs.Named.{name_left, CodeIs}
 use Rattle.work_rows.specs.Cells.{cell}
 use Rattle.work_subjects.specs.Keys.{Key, item, key_at, subject_left}
 use Rattle.work_subjects.specs.Numbers.{is_declarable, kind_of}
 use Rattle.work_subjects.proofs.NumberLaws.{char-declarable}
 use Rattle.work_subjects.proofs.SpotLaws.{key_at-inside}
-use Rattle.work_store.specs.declared.Found.{Found}
-use Rattle.work_store.specs.declared.Found.TheVariants.{At, Nothing}
 use Rattle.work_store.specs.Store.{Decl, first, is_found, known_in, above_of, Finds, Declares}
 use Rattle.work_store.proofs.ListLaws.{first-fresh, found-key, found-place}
 use Rattle.locale_sheet.specs.Known.{Says, is_row}
@@ -52,6 +50,8 @@ use Rattle.locale_order_lines.proofs.FactLaws.{mark-found, mark-is, facts-name}
 use Rattle.locale_order_lines.proofs.AgainLaws.{again-is}
 use Rattle.locale_order_lines.proofs.RangeLaws.{bounded-line, bounded-order, Taken}
 use Rattle.locale_order_lines.proofs.StepLaws.{phase-of, line_taken, line-listed, Placed, placed-ready}
+use Rattle.base_units.specs.declared.CodePoint.{CodePoint}
+use Rattle.base_units.specs.declared.Refusal.{Refusal}
 
 -- ## Names
 
@@ -67,7 +67,7 @@ shaped-long (b ∷ bs) h =
 
 -- what stands and is not declared is a character
 stands-alone : (w : List ℕ) (ds : List Decl) (cs : List Declaration) → Says w ds cs → (m : List ℕ) → stands cs (subject_of m) ≡ true
-    → first (item (subject_of m)) ds ≡ Nothing → char_shaped m ≡ true
+    → first (item (subject_of m)) ds ≡ None → char_shaped m ≡ true
 unfolding subject_of stands known_in
 stands-alone w ds cs s m h e =
     by (char_shaped m)
@@ -106,8 +106,8 @@ module _ (g : Signs) (src : List ℕ) (at : ℕ) (t : Tok) (e : LineEnd) (l : Na
   pub name-some : 1 ≤ t.next.at
   name-some = let a = l.token.on in omega (arith, a)
 
-  module _ (w : List ℕ) (sh : Sheet) (number : ℕ) (i : Found) (d : Finds (key_at g src) (length src) w (key_at g src (2 * t.inside.at)) i)
-      (c : Code) (h : CodeIs (name_left g src t.inside) c) (k : Facts) (f : k ≡ name_facts w i c) (again : Bool) (u : again ≡ is_again w sh i) (r : ℕ) (v : OwnRefused g src w sh t.next k again r) where
+  module _ (w : List ℕ) (sh : Sheet) (number : ℕ) (i : Option ℕ) (d : Finds (key_at g src) (length src) w (key_at g src (2 * t.inside.at)) i)
+      (c : Option CodePoint) (h : CodeIs (name_left g src t.inside) c) (k : Facts) (f : k ≡ name_facts w i c) (again : Bool) (u : again ≡ is_again w sh i) (r : ℕ) (v : OwnRefused g src w sh t.next k again r) where
     facts : FactsOf g src w (subject_left g src t.inside) k
     facts = subst (FactsOf g src w (subject_left g src t.inside)) (sym f) (facts-name g src w t.inside i name-inside d c h)
 
@@ -116,12 +116,12 @@ module _ (g : Signs) (src : List ℕ) (at : ℕ) (t : Tok) (e : LineEnd) (l : Na
         again-is g src w sh (subject_in g src t) i again u
         (λ cs at s o. mark-found (length src) o.known.ds (name_left g src t.inside) ∙ mark-is g src w t.inside i name-inside d sh.order s.ordered.rules o.n s.declared s.ordered.lines o.known)
 
-    module _ {x y : ℕ} (a : x ≡ lower t.refusal r) (b : y ≡ lower (2 unless e.text) x) where
+    module _ {x y : ℕ} (a : x ≡ lower (number_or_none t.refusal) r) (b : y ≡ lower (2 unless e.text) x) where
       -- the whole refusal
       refusal_is : (cs : List Chain) (s : State) → Open g src w sh cs at s
-          → lower (2 unless e.text) (lower t.refusal (lower (tokens_refusal (operands_from g src t.next)) (order_line s number (subject_in g src t) (operands_from g src t.next)).refusal)) ≡ y
+          → lower (2 unless e.text) (lower (number_or_none t.refusal) (lower (tokens_refusal (operands_from g src t.next)) (order_line s number (subject_in g src t) (operands_from g src t.next)).refusal)) ≡ y
       refusal_is cs s o =
-          sym (b ∙ ap (lower (2 unless e.text)) (a ∙ ap (lower t.refusal) (v.is (subject_in g src t) facts second cs at s number o)))
+          sym (b ∙ ap (lower (2 unless e.text)) (a ∙ ap (lower (number_or_none t.refusal)) (v.is (subject_in g src t) facts second cs at s number o)))
 
       bounded : {depth : ℕ} → SomeOpen g src w sh at depth → Bounded 2 7 y
       bounded so =
@@ -129,8 +129,8 @@ module _ (g : Signs) (src : List ℕ) (at : ℕ) (t : Tok) (e : LineEnd) (l : Na
           let c = (order_line s number (subject_in g src t) (operands_from g src t.next)).refusal in
           let d = tokens_refusal (operands_from g src t.next) in
           subst (Bounded 2 7) (refusal_is so.chains s so.held)
-          (bounded-line e.text (lower t.refusal (lower d c))
-          (bounded-lower 3 7 t.refusal (lower d c) (subst (Bounded 3 7) l.token.refusal (bounded-tokens (token_there g src l.start ∷ [])))
+          (bounded-line e.text (lower (number_or_none t.refusal) (lower d c))
+          (bounded-lower 3 7 (number_or_none t.refusal) (lower d c) (subst (Bounded 3 7) l.token.refusal (bounded-tokens (token_there g src l.start ∷ [])))
           (bounded-lower 3 7 d c (bounded-tokens (operands_from g src t.next)) (bounded-order s number (subject_in g src t) (operands_from g src t.next)))))
 
       pub name-reads : (depth : ℕ) → SomeOpen g src w sh at depth → Reads g src w sh at number (subject_in g src t) t.next y
@@ -139,16 +139,16 @@ module _ (g : Signs) (src : List ℕ) (at : ℕ) (t : Tok) (e : LineEnd) (l : Na
             read_whole g src w sh cs at s o u number (marks_left g src (line_start at))
             ∙ l.whole s number o.inside
             ∙ ap (λ (z : ℕ). gives (lower (2 unless e.text) z) (order_line s number (subject_in g src t) (operands_from g src t.next)).state)
-            (lower-assoc t.refusal (tokens_refusal (operands_from g src t.next)) (order_line s number (subject_in g src t) (operands_from g src t.next)).refusal)
+            (lower-assoc (number_or_none t.refusal) (tokens_refusal (operands_from g src t.next)) (order_line s number (subject_in g src t) (operands_from g src t.next)).refusal)
             ∙ ap (λ (z : ℕ). gives z (order_line s number (subject_in g src t) (operands_from g src t.next)).state) (refusal_is cs s o);
         none = λ z cs s o.
             let c = (order_line s number (subject_in g src t) (operands_from g src t.next)).refusal in
             let d = tokens_refusal (operands_from g src t.next) in
-            (lower-none d c (lower-none t.refusal (lower d c) (lower-none (2 unless e.text) (lower t.refusal (lower d c)) (refusal_is cs s o ∙ z)).1).1).1;
+            (lower-none d c (lower-none (number_or_none t.refusal) (lower d c) (lower-none (2 unless e.text) (lower (number_or_none t.refusal) (lower d c)) (refusal_is cs s o ∙ z)).1).1).1;
         tokens = λ z.
             let c = (order_line so.state number (subject_in g src t) (operands_from g src t.next)).refusal in
             let d = tokens_refusal (operands_from g src t.next) in
-            (lower-none d c (lower-none t.refusal (lower d c) (lower-none (2 unless e.text) (lower t.refusal (lower d c)) (refusal_is so.chains so.state so.held ∙ z)).1).1).0;
+            (lower-none d c (lower-none (number_or_none t.refusal) (lower d c) (lower-none (2 unless e.text) (lower (number_or_none t.refusal) (lower d c)) (refusal_is so.chains so.state so.held ∙ z)).1).1).0;
         low = bounded-low 2 7 y (bounded so);
         high = bounded-high 2 7 y (bounded so);
       }
@@ -164,14 +164,14 @@ module _ (g : Signs) (src : List ℕ) (at : ℕ) (t : Tok) (e : LineEnd) (l : Na
 
     -- a new row: that of a character
     char-placed : (c : ℕ) (w' : List ℕ) → char_shaped (name_left g src t.inside) ≡ true → c ≡ code_of (name_left g src t.inside)
-        → Finds (key_at g src) (length src) w (key_at g src (2 * t.inside.at)) Nothing → Declares (key_at g src) (length src) w (2 * t.inside.at) w'
+        → Finds (key_at g src) (length src) w (key_at g src (2 * t.inside.at)) None → Declares (key_at g src) (length src) w (2 * t.inside.at) w'
         → Placed g src w sh (subject_in g src t) at e.next w' (2 * t.inside.at) s
     unfolding subject_of stands
     char-placed c w' shaped code d h =
         let v = 2 * t.inside.at in
         let x = subject_in g src t in
         let k = o.known in
-        let i = mark-is g src w t.inside Nothing name-inside d sh.order s.ordered.rules o.n s.declared s.ordered.lines k in
+        let i = mark-is g src w t.inside None name-inside d sh.order s.ordered.rules o.n s.declared s.ordered.lines k in
         let key : key_at g src v ≡ item x = key_at-inside g src t.inside name-inside in
         let is : x ≡ character c = (rw shaped (ap character (sym code))) in
         let a = name-after in
@@ -180,14 +180,14 @@ module _ (g : Signs) (src : List ℕ) (at : ℕ) (t : Tok) (e : LineEnd) (l : Na
         let above = character-above (key ∙ ap item is) in
         let room : o.n + above_of (kind_of (key_at g src v)) ≤ v / 16 = omega (arith, a, b, above) in
         let below : v / 2 ≤ length src = omega (arith, z) in
-        let new : first (key_at g src v) k.ds ≡ Nothing = ap (λ (j : Key). first j k.ds) key ∙ i in
+        let new : first (key_at g src v) k.ds ≡ None = ap (λ (j : Key). first j k.ds) key ∙ i in
         let some : 1 ≤ v = omega (arith, a) in
         let stood : is_character c ≡ true = sym (ap (stands s.declared) is) ∙ y.stood in
         let can : is_declarable (key_at g src v) ≡ true = ap is_declarable (key ∙ ap item is) ∙ char-declarable c stood in
         let more = known-character-new g src w sh.order s.ordered.rules o.n s.declared s.ordered.lines k v w' h room below can new some c (key ∙ ap item is) in
         let same : (u j : ℕ) → is_row (length src) k.ds u ≡ true → j < 5 → cell w' u j ≡ cell w u j =
         declared-older g src w sh.order s.ordered.rules o.n s.declared s.ordered.lines k v w' h room below can new some in
-        let found : first (key_at g src v) more.known.ds ≡ At v = ap (first (key_at g src v)) more.same ∙ first-fresh (key_at g src) v k.ds in
+        let found : first (key_at g src v) more.known.ds ≡ Some v = ap (first (key_at g src v)) more.same ∙ first-fresh (key_at g src) v k.ds in
         record {
           n = v / 16 + 1;
           known = more.known;
@@ -207,13 +207,13 @@ module _ (g : Signs) (src : List ℕ) (at : ℕ) (t : Tok) (e : LineEnd) (l : Na
               sh.block s.ordered.block (o.block p);
         }
 
-    name-placed : (w' : List ℕ) (m : ℕ) (c : Code) (f : Found) → CodeIs (name_left g src t.inside) c
+    name-placed : (w' : List ℕ) (m : ℕ) (c : Option CodePoint) (f : Option ℕ) → CodeIs (name_left g src t.inside) c
         → Finds (key_at g src) (length src) w (key_at g src (2 * t.inside.at)) f
         → RowIs g src w (2 * t.inside.at) w' m f → Placed g src w sh (subject_in g src t) at e.next w' m s
-    name-placed w' m c (At u) i d h =
+    name-placed w' m c (Some u) i d h =
         let x = subject_in g src t in
         let k = o.known in
-        let i = mark-is g src w t.inside (At u) name-inside d sh.order s.ordered.rules o.n s.declared s.ordered.lines k in
+        let i = mark-is g src w t.inside (Some u) name-inside d sh.order s.ordered.rules o.n s.declared s.ordered.lines k in
         subst (λ (z : List ℕ). Placed g src w sh x at e.next z m s) (sym h.1)
         (subst (λ (z : ℕ). Placed g src w sh x at e.next w z s) (sym h.0) (record {
           n = o.n;
@@ -227,17 +227,17 @@ module _ (g : Signs) (src : List ℕ) (at : ℕ) (t : Tok) (e : LineEnd) (l : Na
           places = o.places;
           block = o.block;
         }))
-    name-placed w' m Other Nothing i d h =
+    name-placed w' m None None i d h =
         let k = o.known in
-        let f = mark-is g src w t.inside Nothing name-inside d sh.order s.ordered.rules o.n s.declared s.ordered.lines k in
+        let f = mark-is g src w t.inside None name-inside d sh.order s.ordered.rules o.n s.declared s.ordered.lines k in
         clash (stands-alone w k.ds s.declared k.says (name_left g src t.inside) y.stood f) i
-    name-placed w' m (Char x) Nothing i d h =
+    name-placed w' m (Some x) None i d h =
         subst (λ (z : ℕ). Placed g src w sh (subject_in g src t) at e.next w' z s) (sym h.0) (char-placed x.0 w' i.shaped i.code d h.1)
 
   -- ## The step
 
-  module _ (w : List ℕ) (sh : Sheet) (number depth : ℕ) (so : SomeOpen g src w sh at depth) (f : Found) (d : Finds (key_at g src) (length src) w (key_at g src (2 * t.inside.at)) f)
-      (c : Code) (i : CodeIs (name_left g src t.inside) c) (r : ℕ) (v : Reads g src w sh at number (subject_in g src t) t.next r) (z : r ≡ 0)
+  module _ (w : List ℕ) (sh : Sheet) (number depth : ℕ) (so : SomeOpen g src w sh at depth) (f : Option ℕ) (d : Finds (key_at g src) (length src) w (key_at g src (2 * t.inside.at)) f)
+      (c : Option CodePoint) (i : CodeIs (name_left g src t.inside) c) (r : ℕ) (v : Reads g src w sh at number (subject_in g src t) t.next r) (z : r ≡ 0)
       (w' : List ℕ) (m : ℕ) (h : RowIs g src w (2 * t.inside.at) w' m f) where
     there : (cs : List Chain) (s : State) → Open g src w sh cs at s → Placed g src w sh (subject_in g src t) at e.next w' m s
     there cs s o = name-placed w sh number cs s o (line_taken v z cs s o) w' m c f i d h
@@ -250,7 +250,7 @@ module _ (g : Signs) (src : List ℕ) (at : ℕ) (t : Tok) (e : LineEnd) (l : Na
         let c = name-next in
         placed-ready k (line_taken v z so.chains so.state so.held) t.next.at (omega (arith, a, b, i)) (omega (arith, a, c)) so.held.few
 
-    pub name-listed : (w'' : List ℕ) (st : Step) → Lists w' sh m number t.next.at e w'' st → StepIs g src w sh at number depth w'' st
+    pub name-listed : (w'' : List ℕ) (st : Result Step Refusal) → Lists w' sh m number t.next.at e w'' st → StepIs g src w sh at number depth w'' st
     name-listed w'' st a =
         let i = l.from in
         let j = l.token.on in

@@ -1,13 +1,14 @@
 -- The refusal of an order line, by the facts of its subject.
+use Rattle.base_units.specs.Numbers.{number_or_none}
 use Rattle.std.specs.Prelude.{if◌then◌else◌}
-use mathlib.Core.Path.{◌≡◌, refl, sym, ap, ◌∙◌}
+use mathlib.Core.Path.{◌≡◌, refl, sym, ap, ◌∙◌, subst}
 use mathlib.Core.Bool.{Bool, true, false, not, ◌&&◌, ◌||◌, or-true}
 use mathlib.Core.List.{List, [], ◌∷◌}
 use Prim.Native.Nat.{ℕ, ◌-◌, ◌≤◌, ◌<◌}
 use native.Mathlib.Omega.{arith}
 use lib.ListN.{length, length-map}
 use lib.Dec.{eqb, leb, ltb}
-use borrow.Author.Tests.{eq-eqb, ne_eqb, le-leb, lt-leb, lt-ltb, le-ltb}
+use borrow.Author.Tests.{eq-eqb, ne_eqb, le-leb, lt-leb, lt-ltb, le-ltb, eqb-true, eqb-false, ltb-true, ltb-false}
 use Rattle.base_lists.proofs.Bools.{by}
 use Rattle.rules.specs.Text.{◌unless◌, lower, lowest}
 use Rattle.rules.specs.Tokens.{Token, operands, tokens_refusal}
@@ -31,8 +32,8 @@ use Rattle.locale_order_lines.proofs.RangeLaws.{bounded-operands}
 
 -- ## Whether a line is formed
 
-pub takes-order : (phase : ℕ) → phase ≡ 4 → true ≡ (eqb phase in_order || eqb phase in_block)
-takes-order phase h = sym (rw (eq-eqb phase in_order h))
+pub takes-order : (phase : ℕ) → phase ≡ 4 → eqb phase 4 ≡ (eqb phase in_order || eqb phase in_block)
+takes-order phase h = rw (eq-eqb phase in_order h)
 
 pub takes-block : (phase : ℕ) → (phase ≡ 4 → ⊥) → eqb phase 6 ≡ (eqb phase in_order || eqb phase in_block)
 takes-block phase h = sym (rw (ne_eqb phase in_order h))
@@ -57,11 +58,12 @@ module _ (phase many : ℕ) (symbol : Bool) {t : Bool} (takes : t ≡ (eqb phase
 -- ## Whether a line finds room
 
 module _ (ordered : Bool) (count : ℕ) where
-  pub room_moved : ordered ≡ true → count < 32768 → true ≡ ltb (if ordered then count - 1 else count) 32767
-  room_moved e h = sym (rw e (lt-ltb (count - 1) 32767 (omega (arith, h))))
-
-  pub room-none : ordered ≡ true → 32768 ≤ count → false ≡ ltb (if ordered then count - 1 else count) 32767
-  room-none e h = sym (rw e (le-ltb (count - 1) 32767 (omega (arith, h))))
+  pub room_moved : ordered ≡ true → ltb count 32768 ≡ ltb (if ordered then count - 1 else count) 32767
+  room_moved e =
+      rw e
+      (by (ltb count 32768)
+      (λ t. let h = ltb-true count 32768 t in t ∙ sym (lt-ltb (count - 1) 32767 (omega (arith, h))))
+      (λ t. let h = ltb-false count 32768 t in t ∙ sym (le-ltb (count - 1) 32767 (omega (arith, h)))))
 
   pub room-more : ordered ≡ false → ltb count 32767 ≡ ltb (if ordered then count - 1 else count) 32767
   room-more e = sym (rw e)
@@ -140,7 +142,7 @@ module _ {g : Signs} {src w : List ℕ} {sh : Sheet} {cs : List Chain} {at : ℕ
 
   -- its weights, by what the store holds
   weights-held : (os : List Token) (ws : List (List Token)) (r : Counted) → Counts g src w os ws r
-      → r.refusal ≡ lower (tokens_refusal os) (weights_refusal s.declared ws)
+      → number_or_none r.refusal ≡ lower (tokens_refusal os) (weights_refusal s.declared ws)
   weights-held os ws r c =
       c.refusal o.n o.known.ds o.known.holds
       ∙ ap (lower (tokens_refusal os)) (refusal-paper o.known.ds s.declared (stands-known w o.known.ds s.declared o.known.says) ws)
@@ -164,16 +166,16 @@ module _ (g : Signs) (src w : List ℕ) (sh : Sheet) (p : Spot) (k : Facts) (aga
   }
 
   module _ (e : ok ≡ true) {c : Counted} (v : Counts g src w os (operand_list os) c) where
-    pub own-three : c.refusal ≡ 3 → OwnRefused g src w sh p k again 3
+    own-three : number_or_none c.refusal ≡ 3 → OwnRefused g src w sh p k again 3
     own-three h = record {
       is = λ x a b cs at s number o.
           whole-three (tokens_refusal os) (weights_refusal s.declared (operand_list os)) _ again k.stands room (sym f ∙ e) (sym (weights-held o os (operand_list os) c v) ∙ h)
           ∙ ap (lower (tokens_refusal os)) (sym (by-facts o x k again number os (a.are sh.order s.ordered.rules o.n s.declared s.ordered.lines o.known) b));
     }
 
-    pub own-later : {q : Bool} {d r : ℕ} → (c.refusal ≡ 3 → ⊥) → q ≡ ltb (if k.ordered then sh.order.count - 1 else sh.order.count) 32767
-        → d ≡ lowest (5 unless not again ∷ 6 unless k.stands ∷ 7 unless (leb c.operands sh.levels && q) ∷ []) → r ≡ lower c.refusal d → OwnRefused g src w sh p k again r
-    own-later {q} {d} {r} h u y z = record {
+    own-fine : {q : Bool} {d r : ℕ} → (number_or_none c.refusal ≡ 3 → ⊥) → q ≡ ltb (if k.ordered then sh.order.count - 1 else sh.order.count) 32767
+        → d ≡ lowest (5 unless not again ∷ 6 unless k.stands ∷ 7 unless (leb c.operands sh.levels && q) ∷ []) → r ≡ lower (number_or_none c.refusal) d → OwnRefused g src w sh p k again r
+    own-fine {q} {d} {r} h u y z = record {
       is = λ x a b cs at s number o.
           z
           ∙ ap (λ (i : ℕ). lower i d) (weights-held o os (operand_list os) c v)
@@ -184,3 +186,14 @@ module _ (g : Signs) (src w : List ℕ) (sh : Sheet) (p : Spot) (k : Facts) (aga
           ∙ sym (whole-formed (tokens_refusal os) (weights_refusal s.declared (operand_list os)) _ again k.stands room (sym f ∙ e))
           ∙ ap (lower (tokens_refusal os)) (sym (by-facts o x k again number os (a.are sh.order s.ordered.rules o.n s.declared s.ordered.lines o.known) b));
     }
+
+    -- where the operands are malformed, nothing else is lower
+    pub own-later : {q : Bool} {d r : ℕ} → q ≡ ltb (if k.ordered then sh.order.count - 1 else sh.order.count) 32767
+        → d ≡ lowest (5 unless not again ∷ 6 unless k.stands ∷ 7 unless (leb c.operands sh.levels && q) ∷ []) → r ≡ lower (number_or_none c.refusal) d → OwnRefused g src w sh p k again r
+    own-later {q} {d} {r} u y z =
+        by (eqb (number_or_none c.refusal) 3)
+        (λ t. let h = eqb-true (number_or_none c.refusal) 3 t in
+        let fits = leb c.operands sh.levels && q in
+        let three : r ≡ 3 = z ∙ ap (λ (i : ℕ). lower i d) h ∙ ap (lower 3) y ∙ three-left (later again k.stands fits) (bounded-later again k.stands fits) in
+        subst (OwnRefused g src w sh p k again) (sym three) (own-three h))
+        (λ t. own-fine (eqb-false (number_or_none c.refusal) 3 t) u y z)

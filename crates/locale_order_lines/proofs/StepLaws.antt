@@ -1,5 +1,5 @@
 -- An order line as a step of the reader: what it is read as, the row that it is given, and what is held after it.
-use Rattle.std.specs.Prelude.{if◌then◌else◌}
+use Rattle.std.specs.Prelude.{if◌then◌else◌, Option, Some, Ok, Result}
 use mathlib.Core.Path.{◌≡◌, refl, sym, ap, ◌∙◌, subst}
 use mathlib.Core.Bool.{true, false, not, ◌||◌}
 use mathlib.Core.List.{List, [], ◌∷◌, ◌++◌}
@@ -20,8 +20,6 @@ use Rattle.text_lines.specs.declared.Spot.{Spot}
 use Rattle.text_lines.specs.declared.LineEnd.{LineEnd}
 use Rattle.text_lines.specs.Stream.{line_start, LineIs}
 use Rattle.work_subjects.specs.Keys.{Key, key_at}
-use Rattle.work_store.specs.declared.Found.{Found}
-use Rattle.work_store.specs.declared.Found.TheVariants.{At}
 use Rattle.work_store.specs.Store.{Finds}
 use Rattle.work_rows.specs.Cells.{cell_at, cell}
 use Rattle.work_order.specs.declared.Order.{Order}
@@ -45,6 +43,7 @@ use Rattle.locale_order_lines.specs.Lines.{Reads}
 use Rattle.locale_order_lines.proofs.FactLaws.{found-rowed}
 use Rattle.locale_order_lines.proofs.AgainLaws.{placed-all, again-order, last_one, last-other, block_more}
 use Rattle.locale_order_lines.proofs.RangeLaws.{Taken, taken}
+use Rattle.base_units.specs.declared.Refusal.{Refusal}
 
 pub some_known : (g : Signs) (src w : List ℕ) (sh : Sheet) (at depth : ℕ) → SomeOpen g src w sh at depth → SomeKnown g src w
 some_known g src w sh at depth o = record {
@@ -57,18 +56,12 @@ some_known g src w sh at depth o = record {
 }
 
 -- the row of what is found stands in the area
-pub open-rowed : (g : Signs) (src w : List ℕ) (sh : Sheet) (at depth : ℕ) (k : Key) (f : Found) → SomeOpen g src w sh at depth → Finds (key_at g src) (length src) w k f → Rowed w f
+pub open-rowed : (g : Signs) (src w : List ℕ) (sh : Sheet) (at depth : ℕ) (k : Key) (f : Option ℕ) → SomeOpen g src w sh at depth → Finds (key_at g src) (length src) w k f → Rowed w f
 open-rowed g src w sh at depth k f o d = found-rowed g src w k f (some_known g src w sh at depth o) d
 
 -- ## What a line is read as
 
 module _ {g : Signs} {src w : List ℕ} {sh : Sheet} {at number : ℕ} {x : Subject} {p : Spot} {r : ℕ} (v : Reads g src w sh at number x p r) where
-  pub line_low : (r ≡ 0 → ⊥) → 2 ≤ r
-  line_low h = v.low h
-
-  pub line-high : (r ≡ 0 → ⊥) → r ≤ 10
-  line-high h = let k = v.high h in omega (arith, k)
-
   pub line_refused : (depth : ℕ) {y : ℕ} → y ≡ r → RefusedIs g src w sh at number depth y
   line_refused depth e = record { refusal = λ cs s o l u. ap (λ (y : Outcome). y.refusal) (v.outcome cs s o u) ∙ sym e }
 
@@ -113,7 +106,7 @@ put-long w a m number place =
 pub record Placed (g : Signs) (src w : List ℕ) (sh : Sheet) (x : Subject) (at next : ℕ) (w' : List ℕ) (m : ℕ) (s : State) : Type 0 where
   pub n : ℕ
   pub known : Known g src w' sh.order s.ordered.rules n s.declared s.ordered.lines
-  pub mark : mark_of (length src) known.ds x ≡ At m
+  pub mark : mark_of (length src) known.ds x ≡ Some m
   pub even : m % 2 ≡ 0
   pub some : 1 ≤ m
   pub long : length w' ≡ length w
@@ -160,12 +153,12 @@ module _ {g : Signs} {src w : List ℕ} {sh : Sheet} {x : Subject} {at next : �
   last-few = by (eqb sh.order.last 0) (λ t. let e = eqb-true sh.order.last 0 t in omega (arith, e)) (λ t. small-in sh.order.last (last-in (eqb-false sh.order.last 0 t)))
 
   -- where it has an order line, that is listed
-  placed_one : is_ordered w' (At m) ≡ true → one_of (eqb m) marks ≡ true
+  placed_one : is_ordered w' (Some m) ≡ true → one_of (eqb m) marks ≡ true
   placed_one h =
       let z = eqb-false (cell w' m place_number) 0 (not-true (eqb (cell w' m place_number) 0) h) in
       k.known.all m placed_row (omega (arith, z))
 
-  placed-unlisted : is_ordered w' (At m) ≡ false → Unlisted (length src) w' k.known.ds m
+  placed-unlisted : is_ordered w' (Some m) ≡ false → Unlisted (length src) w' k.known.ds m
   placed-unlisted h = record { row = placed_row; even = k.even; none = eqb-true (cell w' m place_number) 0 (not-false (eqb (cell w' m place_number) 0) h) }
 
   placed-subject : subject_at g src m ≡ x
@@ -219,10 +212,10 @@ module _ {g : Signs} {src w : List ℕ} {sh : Sheet} {x : Subject} {at next : �
     block-phase = (phase-of s.place.phase sh.phase o.phase t.phase).1
 
     -- room for it, beside the lines without its old one
-    roomy : (if is_ordered w' (At m) then sh.order.count - 1 else sh.order.count) < 32767
+    roomy : (if is_ordered w' (Some m) then sh.order.count - 1 else sh.order.count) < 32767
     roomy =
-        let a = taken-found g src w' sh.order rules k.n s.declared lines k.known x (At m) k.mark in
-        ltb-true (if is_ordered w' (At m) then sh.order.count - 1 else sh.order.count) 32767 (ap (λ (c : ℕ). ltb c 32767) (sym a) ∙ t.room)
+        let a = taken-found g src w' sh.order rules k.n s.declared lines k.known x (Some m) k.mark in
+        ltb-true (if is_ordered w' (Some m) then sh.order.count - 1 else sh.order.count) 32767 (ap (λ (c : ℕ). ltb c 32767) (sym a) ∙ t.room)
 
     -- what is held after it, wherever it has come to stand
     placed-with : (w'' : List ℕ) (or : Order) (bl : Block) (ls : List OrderLine) (xs : List Subject)
@@ -262,9 +255,9 @@ module _ {g : Signs} {src w : List ℕ} {sh : Sheet} {x : Subject} {at next : �
       not-block : eqb sh.phase in_block ≡ false
       not-block = ne_eqb sh.phase in_block p
 
-      last-new : is_ordered w' (At m) ≡ false
+      last-new : is_ordered w' (Some m) ≡ false
       last-new =
-          sym (again-order g src w' sh.order rules k.n s.declared lines k.known x (At m) k.mark)
+          sym (again-order g src w' sh.order rules k.n s.declared lines k.known x (Some m) k.mark)
           ∙ ap (λ (ys : List Subject). again ys x lines) (sym (o.closed not-block))
           ∙ t.first
 
@@ -337,14 +330,14 @@ module _ {g : Signs} {src w : List ℕ} {sh : Sheet} {x : Subject} {at next : �
           block_same
 
       -- its first line
-      pub open-new : is_ordered w' (At m) ≡ false → Open g src (with_line_after w' a₀ m number place) (with_last sh (longer_after w' sh.order a₀ m) m) cs next after
+      pub open-new : is_ordered w' (Some m) ≡ false → Open g src (with_line_after w' a₀ m number place) (with_last sh (longer_after w' sh.order a₀ m) m) cs next after
       open-new z =
           let u = placed-unlisted z in
           let one = behind-one t p in
           let q : sh.order.count < 32767 = (let a = roomy in rw z at a) in
           let none : taken_out (subject_at g src m) lines ≡ lines = ap (λ (y : Subject). taken_out y lines) placed-subject
           ∙ taken_none g src w' sh.order rules k.n s.declared lines k.known x
-          (rank-none g src w' sh.order rules k.n s.declared lines k.known x (At m) k.mark ∙ ap not z) in
+          (rank-none g src w' sh.order rules k.n s.declared lines k.known x (Some m) k.mark ∙ ap not z) in
           block_with_lem (with_line_after w' a₀ m number place) (longer_after w' sh.order a₀ m)
           (subst (λ (ls : List OrderLine). Came g src w' rules k.n s.declared k.known.ds marks m number place (with_line_after w' a₀ m number place) (longer_after w' sh.order a₀ m) (put_after (subject_at g src a₀) (new_line g src rules m number place) ls)) (sym none)
           (came-put g src w' sh.order rules k.n s.declared lines k.known a₀ m number place one placed-is h u))
@@ -353,7 +346,7 @@ module _ {g : Signs} {src w : List ℕ} {sh : Sheet} {x : Subject} {at next : �
           (omega (arith, q))
 
       -- a line that moves
-      pub open-moved : is_ordered w' (At m) ≡ true
+      pub open-moved : is_ordered w' (Some m) ≡ true
           → Open g src (with_line_after (unlinked w' m) a₀ m number place) (with_last sh (longer_after (unlinked w' m) (shorter w' sh.order m) a₀ m) m) cs next after
       open-moved z =
           let one = behind-one t p in
@@ -393,7 +386,7 @@ module _ {g : Signs} {src w : List ℕ} {sh : Sheet} {at number : ℕ} {x : Subj
     -- a line that leaves the paper's state
     line-leaves : (w'' : List ℕ) (sh' : Sheet)
         → ((cs : List Chain) (s : State) → Open g src w sh cs at s → Open g src w'' sh' cs e.next (order_line s number x (operands_from g src (behind place))).state)
-        → (st : Step) → st ≡ Next sh' e.next e.feeds → StepIs g src w sh at number depth w'' st
+        → (st : Result Step Refusal) → st ≡ Ok (Next sh' e.next e.feeds) → StepIs g src w sh at number depth w'' st
     line-leaves w'' sh' f st a =
         subst (StepIs g src w sh at number depth w'') (sym a) (record {
           moves = record { end = l.end; feeds = l.feeds; on = l.on inside; to = l.to; few = l.few };
@@ -406,7 +399,7 @@ module _ {g : Signs} {src w : List ℕ} {sh : Sheet} {at number : ℕ} {x : Subj
           };
         })
 
-    pub line-listed : (w'' : List ℕ) (st : Step) → Lists w' sh m number place e w'' st → StepIs g src w sh at number depth w'' st
+    pub line-listed : (w'' : List ℕ) (st : Result Step Refusal) → Lists w' sh m number place e w'' st → StepIs g src w sh at number depth w'' st
     line-listed w'' st (at_end q a) =
         line-leaves w'' (with_order sh (longer sh.order m))
         (λ cs s o. subst (λ (y : List ℕ). Open g src y (with_order sh (longer sh.order m)) cs e.next (order_line s number x (operands_from g src (behind place))).state) (sym a.area)

@@ -1,4 +1,5 @@
 -- A line that opens with the word UNDEFINED, as an order line.
+use Rattle.std.specs.Prelude.{Some, Result}
 use mathlib.Core.Path.{◌≡◌, refl, sym, ap, ◌∙◌, subst}
 use mathlib.Core.Bool.{Bool}
 use mathlib.Core.List.{List}
@@ -16,7 +17,6 @@ use Rattle.text_lines.specs.declared.Signs.{Signs}
 use Rattle.text_lines.specs.declared.Spot.{Spot}
 use Rattle.text_lines.specs.declared.LineEnd.{LineEnd}
 use Rattle.text_lines.specs.Stream.{marks_left, line_start}
-use Rattle.work_store.specs.declared.Found.TheVariants.{At}
 use Rattle.locale_sheet.specs.Known.{mark_of}
 use Rattle.locale_sheet.specs.declared.Sheet.{Sheet}
 use Rattle.locale_sheet.specs.declared.Step.{Step}
@@ -32,6 +32,7 @@ use Rattle.locale_order_lines.proofs.AgainLaws.{again-is}
 use Rattle.locale_order_lines.proofs.RangeLaws.{bounded-line, bounded-order}
 use Rattle.locale_order_lines.proofs.StepLaws.{phase-of, line_taken, line-listed, Placed, placed-ready}
 use Rattle.work_store.specs.Store.{undefined_mark}
+use Rattle.base_units.specs.declared.Refusal.{Refusal}
 
 -- the line of that word is an order line
 undefined-collate : (s : State) (number : ℕ) (os : List Token) → collate_line s number (bytes "UNDEFINED") os ≡ order_line s number undefined os
@@ -44,10 +45,10 @@ nine = refl
 
 module _ (g : Signs) (src : List ℕ) (at : ℕ) (p : Spot) (e : LineEnd) (l : WordLine g src at p e (bytes "UNDEFINED")) (w : List ℕ) (sh : Sheet) (number m : ℕ)
     (mark : m ≡ undefined_mark (length src)) where
-  module _ (k : Facts) (f : k ≡ undefined_facts w m) (again : Bool) (u : again ≡ is_again w sh (At m)) (r : ℕ) (v : OwnRefused g src w sh p k again r) {y : ℕ} (b : y ≡ lower (2 unless e.text) r) where
+  module _ (k : Facts) (f : k ≡ undefined_facts w m) (again : Bool) (u : again ≡ is_again w sh (Some m)) (r : ℕ) (v : OwnRefused g src w sh p k again r) {y : ℕ} (b : y ≡ lower (2 unless e.text) r) where
     second : AgainIs g src w sh undefined again
     unfolding mark_of
-    second = again-is g src w sh undefined (At m) again u (λ cs at s o. ap At (sym mark))
+    second = again-is g src w sh undefined (Some m) again u (λ cs at s o. ap Some (sym mark))
 
     refusal_is : (cs : List Chain) (s : State) → Open g src w sh cs at s
         → lower (2 unless e.text) (lower (tokens_refusal (operands_from g src p)) (order_line s number undefined (operands_from g src p)).refusal) ≡ y
@@ -93,7 +94,7 @@ module _ (g : Signs) (src : List ℕ) (at : ℕ) (p : Spot) (e : LineEnd) (l : W
         record {
           n = o.n;
           known = o.known;
-          mark = ap At (sym mark);
+          mark = ap Some (sym mark);
           even = omega (arith, mark);
           some = omega (arith, mark);
           long = refl;
@@ -111,7 +112,7 @@ module _ (g : Signs) (src : List ℕ) (at : ℕ) (p : Spot) (e : LineEnd) (l : W
         let c = l.to in
         placed-ready k (line_taken v z so.chains so.state so.held) p.at (omega (arith, a, b, i)) (omega (arith, a, c)) so.held.few
 
-    pub undefined-listed : (w'' : List ℕ) (st : Step) → Lists w sh m number p.at e w'' st → StepIs g src w sh at number depth w'' st
+    pub undefined-listed : (w'' : List ℕ) (st : Result Step Refusal) → Lists w sh m number p.at e w'' st → StepIs g src w sh at number depth w'' st
     undefined-listed w'' st a =
         let c = l.long in
         let n = nine in

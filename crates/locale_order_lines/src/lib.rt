@@ -3,13 +3,13 @@
 
 ghost use Rattle.std.specs.Prelude.{◌≡◌, true, false, not, ◌&&◌, ◌||◌, [], ◌∷◌, ◌+◌, ◌-◌, ◌*◌, ◌/◌, ◌≤◌, ◌<◌, length, eqb, leb, ltb, if◌then◌else◌};
 ghost use Rattle.rules.specs.Text.{◌unless◌, bytes, lowest};
+ghost use Rattle.base_units.specs.Numbers.{number_or_none};
 ghost use Rattle.rules.specs.Lines.{in_plain};
 ghost use Rattle.rules.specs.Tokens.{operands};
 ghost use Rattle.rules.specs.State.{in_order, in_block, undefined};
 ghost use Rattle.text_tokens.specs.Left.{tokens_left};
 ghost use Rattle.text_names.specs.Named.{name_left, CodeIs};
 ghost use Rattle.work_subjects.specs.Keys.{key_at};
-ghost use Rattle.work_store.specs.declared.Found.TheVariants.{At};
 ghost use Rattle.work_store.specs.Store.{is_found, undefined_mark, Finds, Roomy};
 ghost use Rattle.locale_sheet.proofs.RankLaws.{is_ordered};
 ghost use Rattle.locale_sheet.specs.Names.{subject_in, NameLine};
@@ -18,17 +18,17 @@ ghost use Rattle.locale_order_lines.specs.Facts.{Rowed, is_bare, is_own, is_agai
 ghost use Rattle.locale_sheet.specs.Words.{WordLine};
 ghost use Rattle.locale_order_lines.specs.Lines.{Reads};
 
-use base_units::{is_character, refusal_of};
+use base_units::{CodePoint, Refusal, is_character, lower_of};
 use locale_opening::line_refusal;
 use locale_sheet::{Block, IN_BLOCK, IN_ORDER, Line, Sheet, Step};
 use locale_standing::weights_refusal;
 use text_lines::{LineEnd, Signs, Spot};
-use text_names::{Code, name_char};
+use text_names::name_char;
 use text_operands::no_operand;
-use text_tokens::{Tok, lower_of};
+use text_tokens::Tok;
 use work_order::{CHARS_NUMBER, Order, PLACE_NUMBER, add_line, put_after, take_out};
 use work_rows::told;
-use work_store::{Found, declare, find, undefined_mark};
+use work_store::{declare, find, undefined_mark};
 
 // What is told of a subject: it is a symbol, it has an order line, it stands (it is a character, or declared).
 #[derive(Clone, Copy)]
@@ -39,102 +39,67 @@ pub struct Facts {
 }
 
 // Whether something is found whose row tells neither characters nor a code.
-fn is_bare(work: &[u32], f: Found) -> bool
+fn is_bare(work: &[u32], f: Option<usize>) -> bool
     requires { Rowed work.now f }
     ensures { result ≡ is_bare work.now f }
 {
     match f {
-        Found::At(v) => {
-            if told(work, v, CHARS_NUMBER) == 0 {
-                return true;
-            }
-            return false;
-        }
-        Found::Nothing => return false,
+        Some(v) => told(work, v, CHARS_NUMBER) == 0,
+        None => false,
     }
 }
 
 // Whether something is found that has an order line.
-fn is_listed(work: &[u32], f: Found) -> bool
+fn is_listed(work: &[u32], f: Option<usize>) -> bool
     requires { Rowed work.now f }
     ensures { result ≡ is_ordered work.now f }
 {
     match f {
-        Found::At(v) => {
-            if told(work, v, PLACE_NUMBER) == 0 {
-                return false;
-            }
-            return true;
-        }
-        Found::Nothing => return false,
+        Some(v) => told(work, v, PLACE_NUMBER) != 0,
+        None => false,
     }
 }
 
 // Whether what is found is a block's named line, or one of its own lines: those are written from the block's place on.
-fn is_own(work: &[u32], b: Block, f: Found) -> bool
+fn is_own(work: &[u32], b: Block, f: Option<usize>) -> bool
     requires { Rowed work.now f }
     ensures { result ≡ is_own work.now b f }
 {
     match f {
-        Found::At(v) => {
-            if v == b.named {
-                return true;
-            }
-            let place = told(work, v, PLACE_NUMBER) as usize;
-            if b.from <= place {
-                return true;
-            }
-            return false;
-        }
-        Found::Nothing => return false,
+        Some(v) => v == b.named || b.from <= told(work, v, PLACE_NUMBER) as usize,
+        None => false,
     }
 }
 
 // Whether an order line of what is found would be a second one: in a block beside the block's own lines and its named line, else beside all lines.
-fn is_again(work: &[u32], sh: Sheet, f: Found) -> bool
+fn is_again(work: &[u32], sh: Sheet, f: Option<usize>) -> bool
     requires { Rowed work.now f }
     ensures { result ≡ is_again work.now sh f }
 {
     if sh.phase == IN_BLOCK {
-        let b = sh.block;
-        return is_own(work, b, f);
-    }
-    is_listed(work, f)
-}
-
-fn is_found(f: Found) -> bool
-    ensures { result ≡ is_found f }
-{
-    match f {
-        Found::At(_) => return true,
-        Found::Nothing => return false,
+        is_own(work, sh.block, f)
+    } else {
+        is_listed(work, f)
     }
 }
 
 // What is told of a name for which f is found and whose code is c.
-fn name_facts(work: &[u32], f: Found, c: Code) -> Facts
+fn name_facts(work: &[u32], f: Option<usize>, c: Option<CodePoint>) -> Facts
     requires { Rowed work.now f }
     ensures { result ≡ name_facts work.now f c }
 {
     let ordered = is_listed(work, f);
     match c {
-        Code::Char(x) => {
-            let stands = is_character(x);
-            return Facts {
-                symbol: false,
-                ordered: ordered,
-                stands: stands,
-            };
-        }
-        Code::Other => {
-            let symbol = is_bare(work, f);
-            let stands = is_found(f);
-            return Facts {
-                symbol: symbol,
-                ordered: ordered,
-                stands: stands,
-            };
-        }
+        Some(x) => Facts {
+            symbol: false,
+            ordered,
+            stands: is_character(x),
+        },
+        None => Facts {
+            symbol: is_bare(work, f),
+            ordered,
+            stands: f.is_some(),
+        },
     }
 }
 
@@ -142,10 +107,7 @@ fn name_facts(work: &[u32], f: Found, c: Code) -> Facts
 fn takes_lines(phase: u8) -> bool
     ensures { result ≡ (eqb phase in_order || eqb phase in_block) }
 {
-    if phase == IN_ORDER {
-        return true;
-    }
-    phase == IN_BLOCK
+    phase == IN_ORDER || phase == IN_BLOCK
 }
 
 // Whether a line stands in the order or in a block, and has no operands if it is that of a symbol.
@@ -153,14 +115,7 @@ fn is_formed(src: &[u8], g: Signs, phase: u8, p: Spot, symbol: bool) -> bool
     requires { (p.at ≤ length src.now) × (p.mode ≡ in_plain) }
     ensures { result ≡ ((eqb phase in_order || eqb phase in_block) && (eqb (length (operands (tokens_left g src.now p))) 0 || not symbol)) }
 {
-    let takes = takes_lines(phase);
-    if takes {
-        if symbol {
-            return no_operand(src, g, p);
-        }
-        return true;
-    }
-    false
+    takes_lines(phase) && (!symbol || no_operand(src, g, p))
 }
 
 // Whether a line more finds room beside count lines, where that of its subject, if it has one, leaves its place.
@@ -168,86 +123,87 @@ fn has_room(ordered: bool, count: usize) -> bool
     ensures { result ≡ ltb (if ordered then count - 1 else count) 32767 }
 {
     if ordered {
-        if count < 32768 {
-            return true;
-        }
-        return false;
+        count < 32768
+    } else {
+        count < 32767
     }
-    count < 32767
 }
 
 // The refusal of a second order line, of a subject that does not stand, and of a line that finds no room.
-fn late_refusal(again: bool, stands: bool, operands: usize, levels: usize, room: bool) -> u8
-    ensures { result ≡ lowest (5 unless not again ∷ 6 unless stands ∷ 7 unless (leb operands levels && room) ∷ []) }
+fn late_refusal(
+    again: bool,
+    stands: bool,
+    operands: usize,
+    levels: usize,
+    room: bool,
+) -> Option<Refusal>
+    ensures { number_or_none result ≡ lowest (5 unless not again ∷ 6 unless stands ∷ 7 unless (leb operands levels && room) ∷ []) }
 {
     if again {
-        return 5;
+        Some(Refusal::Twice)
+    } else if !stands {
+        Some(Refusal::Unknown)
+    } else if operands <= levels && room {
+        None
+    } else {
+        Some(Refusal::TooMany)
     }
-    if stands {
-        if operands <= levels {
-            if room {
-                return 0;
-            }
-            return 7;
-        }
-        return 7;
-    }
-    6
 }
 
 // The refusal of an order line whose subject has these facts, again if it is a second one, and of its operands, which follow the spot p.
-fn own_refusal(src: &[u8], g: Signs, work: &[u32], sh: Sheet, p: Spot, k: Facts, again: bool) -> u8
+fn own_refusal(
+    src: &[u8],
+    g: Signs,
+    work: &[u32],
+    sh: Sheet,
+    p: Spot,
+    k: Facts,
+    again: bool,
+) -> Option<Refusal>
     requires at_in_bounds { (p.at ≤ length src.now) × (p.mode ≡ in_plain) }
     requires some_known { SomeKnown g src.now work.now }
-    ensures { OwnRefused g src.now work.now sh p k again result }
+    ensures { OwnRefused g src.now work.now sh p k again (number_or_none result) }
 {
-    let ok = is_formed(src, g, sh.phase, p, k.symbol);
-    if ok {
+    if is_formed(src, g, sh.phase, p, k.symbol) {
         let c = weights_refusal(src, g, work, p);
-        let f = c.refusal;
-        if f == 3 {
-            return 3;
-        }
         let room = has_room(k.ordered, sh.order.count);
-        let d = late_refusal(again, k.stands, c.operands, sh.levels, room);
-        return lower_of(f, d);
+        lower_of(
+            c.refusal,
+            late_refusal(again, k.stands, c.operands, sh.levels, room),
+        )
+    } else {
+        Some(Refusal::Malformed)
     }
-    3
 }
 
 // A row for what stands at a mark, where f is found for it: that of f, or a new one.
-fn row_for(src: &[u8], g: Signs, work: &mut [u32], v: usize, f: Found) -> usize
+fn row_for(src: &[u8], g: Signs, work: &mut [u32], v: usize, f: Option<usize>) -> usize
     requires { (v / 2 ≤ length src.now) × Roomy (length src.now) work.old }
     ensures { RowIs g src.now work.old v work.new result f }
 {
     match f {
-        Found::At(u) => return u,
-        Found::Nothing => {
+        Some(u) => u,
+        None => {
             declare(src, g, work, v);
-            return v;
+            v
         }
     }
 }
 
 // An order line more at the end of the order, for the row of a mark: its number, and the place after its subject.
-fn list_last(work: &mut [u32], sh: Sheet, m: usize, number: usize, place: usize, e: LineEnd) -> Step
+fn list_last(
+    work: &mut [u32],
+    sh: Sheet,
+    m: usize,
+    number: usize,
+    place: usize,
+    e: LineEnd,
+) -> Result<Step, Refusal>
     requires { Ready work.old sh m number place }
     ensures { LastIs work.old sh m number place e work.new result }
 {
-    let o = add_line(work, sh.order, m, number, place);
-    let b = sh.block;
-    Step::Next(
-        Sheet {
-            phase: sh.phase,
-            toggles: sh.toggles,
-            rules: sh.rules,
-            levels: sh.levels,
-            order: o,
-            block: b,
-        },
-        e.next,
-        e.feeds,
-    )
+    let order = add_line(work, sh.order, m, number, place);
+    Ok(Step::Next(Sheet { order, ..sh }, e.next, e.feeds))
 }
 
 // The sheet with other order lines, of which that of the mark m is the last one of the open block: the next one comes to stand after it.
@@ -255,27 +211,29 @@ fn with_last(sh: Sheet, o: Order, m: usize) -> Sheet
     ensures { result ≡ with_last sh o m }
 {
     Sheet {
-        phase: sh.phase,
-        toggles: sh.toggles,
-        rules: sh.rules,
-        levels: sh.levels,
         order: o,
         block: Block {
-            named: sh.block.named,
             last: m,
-            from: sh.block.from,
+            ..sh.block
         },
+        ..sh
     }
 }
 
 // An order line in a block, for the row of a mark that has none yet.
-fn list_new(work: &mut [u32], sh: Sheet, m: usize, number: usize, place: usize, e: LineEnd) -> Step
+fn list_new(
+    work: &mut [u32],
+    sh: Sheet,
+    m: usize,
+    number: usize,
+    place: usize,
+    e: LineEnd,
+) -> Result<Step, Refusal>
     requires { Ready work.old sh m number place × (sh.phase ≡ in_block) }
     ensures { NewIs work.old sh m number place e work.new result }
 {
     let o = put_after(work, sh.order, sh.block.last, m, number, place);
-    let s = with_last(sh, o, m);
-    Step::Next(s, e.next, e.feeds)
+    Ok(Step::Next(with_last(sh, o, m), e.next, e.feeds))
 }
 
 // An order line in a block, for the row of a mark whose line leaves its old place.
@@ -286,29 +244,34 @@ fn list_moved(
     number: usize,
     place: usize,
     e: LineEnd,
-) -> Step
-    requires { Ready work.old sh m number place × (sh.phase ≡ in_block) × (is_ordered work.old (At m) ≡ true) }
+) -> Result<Step, Refusal>
+    requires { Ready work.old sh m number place × (sh.phase ≡ in_block) × (is_ordered work.old (Some m) ≡ true) }
     ensures { MovedIs work.old sh m number place e work.new result }
 {
     let left = take_out(work, sh.order, m);
     let o = put_after(work, left, sh.block.last, m, number, place);
-    let s = with_last(sh, o, m);
-    Step::Next(s, e.next, e.feeds)
+    Ok(Step::Next(with_last(sh, o, m), e.next, e.feeds))
 }
 
 // An order line, for the row of a mark: at the end of the order, or as the last one of the open block.
-fn list_line(work: &mut [u32], sh: Sheet, m: usize, number: usize, place: usize, e: LineEnd) -> Step
+fn list_line(
+    work: &mut [u32],
+    sh: Sheet,
+    m: usize,
+    number: usize,
+    place: usize,
+    e: LineEnd,
+) -> Result<Step, Refusal>
     requires { Ready work.old sh m number place }
     ensures { Lists work.old sh m number place e work.new result }
 {
-    if sh.phase == IN_BLOCK {
-        let moved = is_listed(work, Found::At(m));
-        if moved {
-            return list_moved(work, sh, m, number, place, e);
-        }
-        return list_new(work, sh, m, number, place, e);
+    if sh.phase != IN_BLOCK {
+        list_last(work, sh, m, number, place, e)
+    } else if is_listed(work, Some(m)) {
+        list_moved(work, sh, m, number, place, e)
+    } else {
+        list_new(work, sh, m, number, place, e)
     }
-    list_last(work, sh, m, number, place, e)
 }
 
 // The refusal of a line that opens with the name t, for which f is found and whose code is c.
@@ -319,12 +282,12 @@ fn name_refusal(
     sh: Sheet,
     l: Line,
     t: Tok,
-    f: Found,
-    c: Code,
-) -> u8
+    f: Option<usize>,
+    c: Option<CodePoint>,
+) -> Option<Refusal>
     requires some_open { SomeOpen g src.now work.now sh l.at l.depth × NameLine g src.now l.at t l.end }
     requires finds { Finds (key_at g src.now) (length src.now) work.now (key_at g src.now (2 * t.inside.at)) f × CodeIs (name_left g src.now t.inside) c }
-    ensures { Reads g src.now work.now sh l.at l.number (subject_in g src.now t) t.next result }
+    ensures { Reads g src.now work.now sh l.at l.number (subject_in g src.now t) t.next (number_or_none result) }
 {
     let k = name_facts(work, f, c);
     let again = is_again(work, sh, f);
@@ -334,30 +297,38 @@ fn name_refusal(
 }
 
 // A line that opens with the name t: an order line of a character, an element or a symbol.
-pub fn name_line(src: &[u8], g: Signs, work: &mut [u32], sh: Sheet, l: Line, t: Tok) -> Step
+pub fn name_line(
+    src: &[u8],
+    g: Signs,
+    work: &mut [u32],
+    sh: Sheet,
+    l: Line,
+    t: Tok,
+) -> Result<Step, Refusal>
     requires { SomeOpen g src.now work.old sh l.at l.depth × NameLine g src.now l.at t l.end × (l.number ≤ l.at + 1) }
     ensures { StepIs g src.now work.old sh l.at l.number l.depth work.new result }
 {
     let v = 2 * t.inside.at;
     let f = find(src, g, work, v);
     let c = name_char(src, g, t.inside);
-    let r = name_refusal(src, g, work, sh, l, t, f, c);
-    if r == 0 {
-        let m = row_for(src, g, work, v, f);
-        return list_line(work, sh, m, l.number, t.next.at, l.end);
+    match name_refusal(src, g, work, sh, l, t, f, c) {
+        Some(r) => Err(r),
+        None => {
+            let m = row_for(src, g, work, v, f);
+            list_line(work, sh, m, l.number, t.next.at, l.end)
+        }
     }
-    Step::Refused(refusal_of(r))
 }
 
 // What is told of UNDEFINED, whose mark is m: it stands, and it is no symbol.
 fn undefined_facts(work: &[u32], m: usize) -> Facts
-    requires { Rowed work.now (At m) }
+    requires { Rowed work.now (Some m) }
     ensures { result ≡ undefined_facts work.now m }
 {
-    let ordered = is_listed(work, Found::At(m));
+    let ordered = is_listed(work, Some(m));
     Facts {
         symbol: false,
-        ordered: ordered,
+        ordered,
         stands: true,
     }
 }
@@ -371,25 +342,31 @@ fn undefined_refusal(
     l: Line,
     p: Spot,
     m: usize,
-) -> u8
+) -> Option<Refusal>
     requires { SomeOpen g src.now work.now sh l.at l.depth × WordLine g src.now l.at p l.end (bytes "UNDEFINED") × (m ≡ undefined_mark (length src.now)) }
-    ensures { Reads g src.now work.now sh l.at l.number undefined p result }
+    ensures { Reads g src.now work.now sh l.at l.number undefined p (number_or_none result) }
 {
     let k = undefined_facts(work, m);
-    let again = is_again(work, sh, Found::At(m));
+    let again = is_again(work, sh, Some(m));
     let o = own_refusal(src, g, work, sh, p, k, again);
     line_refusal(l.end.text, o)
 }
 
 // A line that opens with the word UNDEFINED, right after which stands the spot p: its order line.
-pub fn undefined_line(src: &[u8], g: Signs, work: &mut [u32], sh: Sheet, l: Line, p: Spot) -> Step
+pub fn undefined_line(
+    src: &[u8],
+    g: Signs,
+    work: &mut [u32],
+    sh: Sheet,
+    l: Line,
+    p: Spot,
+) -> Result<Step, Refusal>
     requires { SomeOpen g src.now work.old sh l.at l.depth × WordLine g src.now l.at p l.end (bytes "UNDEFINED") × (l.number ≤ l.at + 1) }
     ensures { StepIs g src.now work.old sh l.at l.number l.depth work.new result }
 {
     let m = undefined_mark(src.len());
-    let r = undefined_refusal(src, g, work, sh, l, p, m);
-    if r == 0 {
-        return list_line(work, sh, m, l.number, p.at, l.end);
+    match undefined_refusal(src, g, work, sh, l, p, m) {
+        Some(r) => Err(r),
+        None => list_line(work, sh, m, l.number, p.at, l.end),
     }
-    Step::Refused(refusal_of(r))
 }

@@ -1,4 +1,5 @@
 -- The word of a category: its bytes one by one, and the turns of the loops that count them and compare its beginning.
+use Rattle.std.specs.Prelude.{None, Option, Some, ℕ}
 use mathlib.Core.Path.{◌≡◌, refl, sym, ap, ◌∙◌, subst}
 use mathlib.Core.Bool.{Bool, true, false, and-true, and-false}
 use mathlib.Core.List.{List}
@@ -15,8 +16,6 @@ use Rattle.rules.specs.Source.{is_capital}
 use Rattle.text_lines.specs.declared.Signs.{Signs}
 use Rattle.text_lines.specs.declared.Spot.{Spot}
 use Rattle.text_lines.specs.Stream.{marks_left}
-use Rattle.text_tokens.specs.declared.WordStep.{WordStep}
-use Rattle.text_tokens.specs.declared.WordStep.TheVariants.{Byte, End}
 use Rattle.text_tokens.specs.Left.{word_in, WordByte, WordStops, WordStepIs}
 use Rattle.locale_outside.specs.Outside.{is_category, capitals_in}
 
@@ -43,13 +42,13 @@ pub record InCapitals (g : Signs) (src : List ℕ) (p q : Spot) (n : ℕ) : Type
 pub capitals-none : (g : Signs) (src : List ℕ) (p : Spot) → p.at ≤ length src → InCapitals g src p p 0
 capitals-none g src p h = record { bytes = omega arith; are = refl; few = omega arith; to = h }
 
-module _ {g : Signs} {src : List ℕ} {p q : Spot} {n : ℕ} {s : WordStep} (v : InCapitals g src p q n) (w : WordStepIs g src q s) where
-  pub capitals-fit : length src < 2 ^ 64 → {b : ℕ} {r : Spot} → s ≡ Byte b r → n + 1 < 2 ^ 64
+module _ {g : Signs} {src : List ℕ} {p q : Spot} {n : ℕ} {s : Option (ℕ × Spot)} (v : InCapitals g src p q n) (w : WordStepIs g src q s) where
+  pub capitals-fit : length src < 2 ^ 64 → {b : ℕ} {r : Spot} → s ≡ Some (b, r) → n + 1 < 2 ^ 64
   capitals-fit h {b} {r} e =
       let x : WordByte g src q b r = subst (WordStepIs g src q) e w in
       omega (arith, v.few, x.on, x.to)
 
-  pub capitals-more : {b : ℕ} {r : Spot} {t : Bool} → s ≡ Byte b r → t ≡ is_capital b → t ≡ true → InCapitals g src p r (n + 1)
+  pub capitals-more : {b : ℕ} {r : Spot} {t : Bool} → s ≡ Some (b, r) → t ≡ is_capital b → t ≡ true → InCapitals g src p r (n + 1)
   unfolding every
   capitals-more {b} {r} e f y =
       let x : WordByte g src q b r = subst (WordStepIs g src q) e w in
@@ -61,20 +60,21 @@ module _ {g : Signs} {src : List ℕ} {p q : Spot} {n : ℕ} {s : WordStep} (v :
         to = x.to;
       }
 
-  pub capitals-not : {b : ℕ} {r : Spot} {t : Bool} → s ≡ Byte b r → t ≡ is_capital b → t ≡ false → 0 ≡ capitals_in (word_in (marks_left g src p))
+  pub capitals-not : {b : ℕ} {r : Spot} {t : Bool} → s ≡ Some (b, r) → t ≡ is_capital b → t ≡ false → None ≡ capitals_in (word_in (marks_left g src p))
   unfolding capitals_in every
   capitals-not {b} {r} e f y =
       let x : WordByte g src q b r = subst (WordStepIs g src q) e w in
       let z : every is_capital (word_in (marks_left g src p)) ≡ false = v.are ∙ rw (x.bytes, sym f ∙ y) in
       rw z
 
-  pub capitals-end : s ≡ End → n ≡ capitals_in (word_in (marks_left g src p))
+  pub capitals-end : s ≡ None → Some n ≡ capitals_in (word_in (marks_left g src p))
   unfolding capitals_in every
   capitals-end e =
       let x : WordStops g src q = subst (WordStepIs g src q) e w in
       let z : every is_capital (word_in (marks_left g src p)) ≡ true = v.are ∙ rw x.bytes in
       let l : length (word_in (marks_left g src q)) ≡ 0 = ap length x.bytes in
-      rw z (omega (arith, v.bytes, l))
+      let k : n ≡ length (word_in (marks_left g src p)) = omega (arith, v.bytes, l) in
+      rw z (ap Some k)
 
 -- ## Beside the beginning of another word
 
@@ -92,14 +92,14 @@ module _ {g : Signs} {src w : List ℕ} {p q : Spot} {i : ℕ} (v : Begun g src 
   unfolding begins
   begun-whole h = sym (v.rest ∙ rw (drop_of_length-le w h))
 
-  module _ {s : WordStep} (x : WordStepIs g src q s) (h : i < length w) where
-    pub begun-end : s ≡ End → false ≡ begins w (word_in (marks_left g src p))
+  module _ {s : Option (ℕ × Spot)} (x : WordStepIs g src q s) (h : i < length w) where
+    pub begun-end : s ≡ None → false ≡ begins w (word_in (marks_left g src p))
     unfolding begins
     begun-end e =
         let y : WordStops g src q = subst (WordStepIs g src q) e x in
         sym (v.rest ∙ rw (y.bytes, drop-cons w i 0 h))
 
-    module _ {b : ℕ} {r : Spot} (e : s ≡ Byte b r) where
+    module _ {b : ℕ} {r : Spot} (e : s ≡ Some (b, r)) where
       on : WordByte g src q b r
       on = subst (WordStepIs g src q) e x
 
@@ -123,17 +123,31 @@ module _ (w : List ℕ) {t : Bool} (e : t ≡ begins (bytes "LC_") w) where
   unfolding is_category
   category-other h = rw (sym e ∙ h)
 
-  module _ (h : t ≡ true) {n : ℕ} (k : n ≡ capitals_in w) where
-    pub category-short : n < 4 → false ≡ is_category w
+  module _ (h : t ≡ true) {k : Option ℕ} (c : k ≡ capitals_in w) where
+    -- it has other bytes
+    pub category-mixed : k ≡ None → false ≡ is_category w
     unfolding is_category capitals_in
-    category-short l =
+    category-mixed l =
         by (every is_capital w)
-        (λ x. let z : n ≡ length w = k ∙ rw x in rw (sym e ∙ h) (simp (lt-leb 4 (length w) (omega arith))))
+        (λ x. let z : None ≡ Some (length w) = sym l ∙ c ∙ rw x in cc)
         (λ x. rw (sym e ∙ h, x) (sym (and-false (within 4 32 (length w)))))
 
-    pub category-word : 4 ≤ n → leb n 32 ≡ is_category w
-    unfolding is_category capitals_in
-    category-word l =
-        by (every is_capital w)
-        (λ x. let z : n ≡ length w = k ∙ rw x in rw (sym e ∙ h, x, z) (simp (le-leb 4 (length w) (omega arith), and-true)))
-        (λ x. let z : n ≡ 0 = k ∙ rw x in absurd (omega arith))
+    module _ {n : ℕ} (l : k ≡ Some n) where
+      whole : (every is_capital w ≡ true) × (n ≡ length w)
+      unfolding capitals_in
+      whole =
+          by (every is_capital w)
+          (λ x. (x, let z : Some n ≡ Some (length w) = sym l ∙ c ∙ rw x in cc))
+          (λ x. let z : Some n ≡ None = sym l ∙ c ∙ rw x in cc)
+
+      pub category-long : 32 < n → false ≡ is_category w
+      unfolding is_category
+      category-long m = let s = whole.1 in rw (sym e ∙ h, whole.0) (simp (lt-leb (length w) 32 (omega arith), and-false))
+
+      pub category-short : n < 4 → false ≡ is_category w
+      unfolding is_category
+      category-short m = let s = whole.1 in rw (sym e ∙ h, whole.0) (simp (lt-leb 4 (length w) (omega arith)))
+
+      pub category-word : 4 ≤ n → n ≤ 32 → true ≡ is_category w
+      unfolding is_category
+      category-word m o = let s = whole.1 in rw (sym e ∙ h, whole.0) (simp (le-leb 4 (length w) (omega arith), le-leb (length w) 32 (omega arith)))

@@ -1,4 +1,6 @@
 -- A line outside every category in which no byte is taken as it stands: from spots of the source to the paper's outcome.
+use Rattle.std.specs.Prelude.{None, Option, Some, ℕ}
+use mathlib.Core.Logic.{◌⊎◌, inl, inr}
 use mathlib.Core.Path.{◌≡◌, refl, sym, ap, ◌∙◌, subst}
 use mathlib.Core.Bool.{Bool, true, false, ◌&&◌, false≢true}
 use mathlib.Core.List.{List, [], ◌∷◌}
@@ -16,8 +18,6 @@ use Rattle.rules.proofs.TextLaws.{every-head, every-tail, within_low, within-hig
 use Rattle.text_lines.specs.declared.Signs.{Signs}
 use Rattle.text_lines.specs.declared.Spot.{Spot}
 use Rattle.text_lines.specs.declared.LineEnd.{LineEnd}
-use Rattle.text_lines.specs.declared.Step.{Step}
-use Rattle.text_lines.specs.declared.Step.TheVariants as step
 use Rattle.text_lines.specs.Stream.{outside_signs, line_start, marks_left, fresh_through, MarkIs, StepIs, LineIs}
 use Rattle.text_lines.proofs.LineLaws.{run-marks}
 use Rattle.text_tokens.specs.Left.{word_in, after_word, Skips, only_blanks}
@@ -101,8 +101,8 @@ module _ {h : Chars} {src : List ℕ} {at : ℕ} {e : LineEnd} (v : PlainAt h sr
   pub plain-foul : {before collated : Bool} → e.text ≡ false → RefusedWith h before collated src at 2
   plain-foul t = refuses 2 (λ s number x. line-foul s x.outside number _ (l.text ∙ t))
 
-  module _ {q : Spot} {s : Step} (k : Skips (signs_of h) src (line_start at) q) (w : StepIs (signs_of h) src q s) where
-    pub plain-blank : {before collated : Bool} → s ≡ step.End → Changes h before collated src at e.next e.feeds (λ (x : State). x)
+  module _ {q : Spot} {s : Option (ℕ × Spot)} (k : Skips (signs_of h) src (line_start at) q) (w : StepIs (signs_of h) src q s) where
+    pub plain-blank : {before collated : Bool} → s ≡ None → Changes h before collated src at e.next e.feeds (λ (x : State). x)
     unfolding tokens_of
     plain-blank f =
         let z : marks_left (signs_of h) src q ≡ [] = subst (StepIs (signs_of h) src q) f w in
@@ -110,7 +110,7 @@ module _ {h : Chars} {src : List ℕ} {at : ℕ} {e : LineEnd} (v : PlainAt h sr
         changes (λ x. x) (λ s number x.
         line_clean s x.outside number _ (blanks-text _ b) ∙ ap (token_line s number) (ap (tokens_from (no_part [])) b ∙ tokens_from-none) ∙ line-none s x.outside number)
 
-    module _ {m : ℕ} {r : Spot} (f : s ≡ step.Mark m r) (t : e.text ≡ true) where
+    module _ {m : ℕ} {r : Spot} (f : s ≡ Some (m, r)) (t : e.text ≡ true) where
       mark : MarkIs (signs_of h) src q m r
       mark = subst (StepIs (signs_of h) src q) f w
 
@@ -156,6 +156,11 @@ module _ {h : Chars} {src : List ℕ} {at : ℕ} {e : LineEnd} (v : PlainAt h sr
           record { plain = v; skips = k; end = l; text = t; alone = and_left i j b; category = and_right i j b }
 
 -- ## A category's line
+
+-- where they do not hold both, by which of them does not
+pub not_both : {a b : Bool} → ((a ≡ true) × (b ≡ false)) ⊎ (a ≡ false) → (a && b) ≡ false
+not_both (inl (e, f)) = rw (e, f)
+not_both (inr e) = rw e
 
 -- the first token is the category's word
 category-token : (ms : List ℕ) → is_category (word_in ms) ≡ true
@@ -213,7 +218,7 @@ module _ {h : Chars} {src : List ℕ} {at : ℕ} {q : Spot} {e : LineEnd} (v : C
         ∙ word-accepted x y.outside number word_here after (rw no-operands (word-alone word_here))
         (rw no-operands (category-opens x y.outside word_here v.category (rw (← i, y.collated) d)))))
 
-    category-once : {collated : Bool} → (c && collated) ≡ false → (before : Bool) → OpenedAt h before collated src at c q.at e.next e.feeds
+    pub category-once : {collated : Bool} → (c && collated) ≡ false → (before : Bool) → OpenedAt h before collated src at c q.at e.next e.feeds
     category-once d before =
         let z = ap (λ (x : Spot). word_in (marks_left (signs_of h) src x)) (sym (skips-start (signs_of h) src at v.skips)) in
         record {
@@ -225,9 +230,3 @@ module _ {h : Chars} {src : List ℕ} {at : ℕ} {q : Spot} {e : LineEnd} (v : C
           from = v.skips.from;
           inside = v.skips.to;
         }
-
-    pub category-collate : c ≡ true → {collated : Bool} → collated ≡ false → (before : Bool) → OpenedAt h before collated src at true q.at e.next e.feeds
-    category-collate f {collated} d before = rw f at (category-once {collated = collated} (rw (f, d)) before)
-
-    pub category-any : c ≡ false → {collated : Bool} → (before : Bool) → OpenedAt h before collated src at false q.at e.next e.feeds
-    category-any f {collated} before = rw f at (category-once {collated = collated} (rw f) before)

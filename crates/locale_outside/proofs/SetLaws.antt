@@ -1,7 +1,7 @@
 -- A line that sets one of the two characters, with the byte that is taken as it stands: from spots of the source to the paper's outcome.
-use Rattle.std.specs.Prelude.{if◌then◌else◌}
+use Rattle.std.specs.Prelude.{if◌then◌else◌, None, Option, Some}
 use mathlib.Core.Path.{◌≡◌, sym, ap, ◌∙◌, subst}
-use mathlib.Core.Bool.{Bool, true, false, not, ◌&&◌, ◌||◌, and-false}
+use mathlib.Core.Bool.{Bool, true, false, not, ◌&&◌, ◌||◌, and-false, true≢false}
 use mathlib.Core.List.{List, [], ◌∷◌, ◌++◌}
 use Prim.Native.Nat.{ℕ, ◌+◌, ◌%◌, ◌<◌, ◌^◌}
 use native.Mathlib.Omega.{arith}
@@ -22,8 +22,6 @@ use Rattle.text_lines.specs.declared.LineEnd.{LineEnd}
 use Rattle.text_lines.specs.Stream.{marks_left, LineIs}
 use Rattle.text_specials.specs.declared.Chars.{Chars}
 use Rattle.text_specials.specs.Force.{chars_as, operand}
-use Rattle.text_specials.specs.declared.Sign.{Sign}
-use Rattle.text_specials.specs.declared.Sign.TheVariants.{Plain, Taken}
 use Rattle.text_specials.specs.Signed.{Visible, keyword, SignIs}
 use Rattle.text_specials.proofs.LineTokenLaws.{LineTokens, line-tokens, line-text}
 use Rattle.text_tokens.specs.Left.{RestIs}
@@ -67,6 +65,10 @@ set-visible h n false c v b z =
     record { comment = rw x v.comment; escape = rw y b }
 
 -- ## The line
+
+-- a line that is text, and a byte that is
+pub text_both : {v t b : Bool} → not t ≡ false → v ≡ not b → v ≡ false → (t ≡ true) × (b ≡ true)
+text_both {v} {t} {b} h e f = (by t (λ x. x) (λ x. absurd (true≢false (sym (ap not x) ∙ h))), by b (λ x. x) (λ x. absurd (true≢false (sym (ap not x) ∙ sym e ∙ f))))
 
 module _ {h : Chars} {src : List ℕ} {at : ℕ} {comment : Bool} {c k : ℕ} {rest : Spot} {e : LineEnd} (v : TakenAt h src at comment c k rest)
     (l : LineIs (signs_of h) src rest e) where
@@ -174,9 +176,9 @@ module _ {h : Chars} {src : List ℕ} {at : ℕ} {comment : Bool} {c k : ℕ} {r
 
 -- ## Which line it is
 
-module _ {h : Chars} {src : List ℕ} {at : ℕ} (i : at < length src) {s : Sign} (w : SignIs (signs_of h) src at s) where
-  pub plain_at_lem : s ≡ Plain → PlainAt h src at
+module _ {h : Chars} {src : List ℕ} {at : ℕ} (i : at < length src) {s : Option (Bool × ℕ × ℕ × Spot)} (w : SignIs (signs_of h) src at s) where
+  pub plain_at_lem : s ≡ None → PlainAt h src at
   plain_at_lem e = record { inside = i; line = subst (SignIs (signs_of h) src at) e w }
 
-  pub taken_at : Visible (signs_of h) → {comment : Bool} {c k : ℕ} {rest : Spot} → s ≡ Taken comment c k rest → TakenAt h src at comment c k rest
+  pub taken_at : Visible (signs_of h) → {comment : Bool} {c k : ℕ} {rest : Spot} → s ≡ Some (comment, c, k, rest) → TakenAt h src at comment c k rest
   taken_at v e = record { inside = i; visible = v; taken = subst (SignIs (signs_of h) src at) e w }

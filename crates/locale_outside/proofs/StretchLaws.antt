@@ -1,4 +1,5 @@
 -- Line after line outside LC_COLLATE: the turns of the loop over them.
+use Rattle.std.specs.Prelude.{Err, Ok, Result}
 use mathlib.Core.Path.{◌≡◌, refl, sym, ap, ◌∙◌, subst}
 use mathlib.Core.Bool.{Bool, true, false, true≢false}
 use mathlib.Core.List.{List}
@@ -60,8 +61,8 @@ module _ {h : Chars} {before collated : Bool} {src : List ℕ} {at number : ℕ}
         few = omega (arith, v.few, v.to);
       }
 
-  module _ {t : Turn} (w : TurnIs c first collated src i n t) where
-    module _ {d : Chars} {still : Bool} {next m : ℕ} (e : t ≡ turn.On d still next m) where
+  module _ {t : Result Turn (Refusal × ℕ)} (w : TurnIs c first collated src i n t) where
+    module _ {d : Chars} {still : Bool} {next m : ℕ} (e : t ≡ Ok (turn.On d still next m)) where
       on : GoesOn c first collated src i n d still next m
       on = subst (TurnIs c first collated src i n) e w
 
@@ -78,7 +79,7 @@ module _ {h : Chars} {before collated : Bool} {src : List ℕ} {at number : ℕ}
             few = on.few;
           }
 
-    outside-collate : {d : Chars} {next m : ℕ} → t ≡ turn.Collate d next m → Opens h before collated src at number d next m
+    outside-collate : {d : Chars} {next m : ℕ} → t ≡ Ok (turn.Collate d next m) → Opens h before collated src at number d next m
     outside-collate {d} {next} {m} e =
         let o : Opens c first collated src i n d next m = subst (TurnIs c first collated src i n) e w in
         record {
@@ -93,7 +94,7 @@ module _ {h : Chars} {before collated : Bool} {src : List ℕ} {at number : ℕ}
           few = o.few;
         }
 
-    outside-refused : {r : Refusal} {l : ℕ} → t ≡ turn.Refused r l → Fails h before collated src at number (number_of r) l
+    outside-refused : {r : Refusal} {l : ℕ} → t ≡ Err (r, l) → Fails h before collated src at number (number_of r) l
     outside-refused {r} {l} e =
         let o : Fails c first collated src i n (number_of r) l = subst (TurnIs c first collated src i n) e w in
         record {
@@ -104,14 +105,14 @@ module _ {h : Chars} {before collated : Bool} {src : List ℕ} {at number : ℕ}
 
 -- the state that it begins with
 abbrev begun : Chars → Bool → Bool → ℕ → ℕ → Stretch
-begun h before collated at number = record { over = false; next = at; number = number; answer = outers.End h before number; chars = h; before = before; collated = collated }
+begun h before collated at number = record { over = false; next = at; number = number; answer = Ok (outers.End h before number); chars = h; before = before; collated = collated }
 
 pub reading_begins : {h : Chars} {before collated : Bool} {src : List ℕ} {at number : ℕ} → Begins src at number → Visible (signs_of h)
     → StretchStands src (begun h before collated at number) (begun h before collated at number) at number
 reading_begins {h} {before} {collated} {src} {at} {number} b v = record { collated = refl; answer = refl; passed = outside-none h before collated src at number b v }
 
 -- an answer by whether LC_COLLATE has stood for t is one by whether it has for s
-answer_at : (src : List ℕ) (s t : Stretch) (k : Outers) → t.collated ≡ s.collated
+answer_at : (src : List ℕ) (s t : Stretch) (k : Result Outers (Refusal × ℕ)) → t.collated ≡ s.collated
     → OutersIs s.chars s.before t.collated src s.next s.number k → OutersIs s.chars s.before s.collated src s.next s.number k
 answer_at src s t k e h = subst (λ (x : Bool). OutersIs s.chars s.before x src s.next s.number k) e h
 
@@ -122,9 +123,9 @@ module _ {src : List ℕ} {s t : Stretch} {i n : ℕ} (v : StretchStands src s t
       (subst (OutersIs s.chars s.before t.collated src s.next s.number) (sym v.answer) (outside-end v.passed h))
 
 -- what the line at a place does to it
-module _ {src : List ℕ} {t : Stretch} {at number : ℕ} {k : Turn} (w : TurnIs t.chars t.before t.collated src at number k) where
-  pub reading-on : {d : Chars} {still : Bool} {next m : ℕ} → k ≡ turn.On d still next m
-      → Turns stretch_reading src t at number (record { over = false; next = next; number = m; answer = outers.End d still m; chars = d; before = still; collated = t.collated })
+module _ {src : List ℕ} {t : Stretch} {at number : ℕ} {k : Result Turn (Refusal × ℕ)} (w : TurnIs t.chars t.before t.collated src at number k) where
+  pub reading-on : {d : Chars} {still : Bool} {next m : ℕ} → k ≡ Ok (turn.On d still next m)
+      → Turns stretch_reading src t at number (record { over = false; next = next; number = m; answer = Ok (outers.End d still m); chars = d; before = still; collated = t.collated })
   reading-on {d} {still} {next} {m} e =
       let on : GoesOn t.chars t.before t.collated src at number d still next m = subst (TurnIs t.chars t.before t.collated src at number) e w in
       record {
@@ -133,20 +134,20 @@ module _ {src : List ℕ} {t : Stretch} {at number : ℕ} {k : Turn} (w : TurnIs
         stops = λ f. absurd (true≢false (sym f));
       }
 
-  pub reading-collate : {d : Chars} {next m : ℕ} → k ≡ turn.Collate d next m
-      → Turns stretch_reading src t at number (record { over = true; next = next; number = m; answer = outers.Collate d next m; chars = d; before = t.before; collated = t.collated })
+  pub reading-collate : {d : Chars} {next m : ℕ} → k ≡ Ok (turn.Collate d next m)
+      → Turns stretch_reading src t at number (record { over = true; next = next; number = m; answer = Ok (outers.Collate d next m); chars = d; before = t.before; collated = t.collated })
   reading-collate {d} {next} {m} e =
       record {
         further = λ f. absurd (true≢false f);
         goes = λ f. absurd (true≢false f);
-        stops = λ f s v. answer_at src s t (outers.Collate d next m) v.collated (outside-collate v.passed w e);
+        stops = λ f s v. answer_at src s t (Ok (outers.Collate d next m)) v.collated (outside-collate v.passed w e);
       }
 
-  pub reading-refused : {r : Refusal} {l : ℕ} → k ≡ turn.Refused r l
-      → Turns stretch_reading src t at number (record { over = true; next = at; number = number; answer = outers.Refused r l; chars = t.chars; before = t.before; collated = t.collated })
+  pub reading-refused : {r : Refusal} {l : ℕ} → k ≡ Err (r, l)
+      → Turns stretch_reading src t at number (record { over = true; next = at; number = number; answer = Err (r, l); chars = t.chars; before = t.before; collated = t.collated })
   reading-refused {r} {l} e =
       record {
         further = λ f. absurd (true≢false f);
         goes = λ f. absurd (true≢false f);
-        stops = λ f s v. answer_at src s t (outers.Refused r l) v.collated (outside-refused v.passed w e);
+        stops = λ f s v. answer_at src s t (Err (r, l)) v.collated (outside-refused v.passed w e);
       }

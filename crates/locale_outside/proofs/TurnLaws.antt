@@ -1,4 +1,5 @@
 -- One line outside every category as a step of the run over the source, and the category that it opens.
+use Rattle.std.specs.Prelude.{Err, Ok, Result, ℕ}
 use mathlib.Core.Path.{◌≡◌, refl, sym, ap, ◌∙◌, subst}
 use mathlib.Core.Bool.{Bool, true, false}
 use mathlib.Core.List.{List}
@@ -20,8 +21,6 @@ use Rattle.text_specials.specs.Signed.{Visible}
 use Rattle.locale_outside.specs.declared.Outer.{Outer}
 use Rattle.locale_outside.specs.declared.Outer.TheVariants as outer
 use Rattle.locale_outside.specs.Outside.{signs_of, Stands, Leaves, Changes, word_there, opened_by, OpenedAt, SignedBy, RefusedWith, OuterIs}
-use Rattle.locale_skips.specs.declared.Skip.{Skip}
-use Rattle.locale_skips.specs.declared.Skip.TheVariants as skip
 use Rattle.locale_skips.specs.Passing.{InOther, Begins, name_at, Named, Refuses, CategoryStops, CategoryRefused, CategoryIs}
 use Rattle.locale_skips.proofs.LineRuns.{refuses-from}
 use Rattle.locale_outside.specs.Stretches.{collated_by, GoesOn, Opens, Fails}
@@ -80,14 +79,18 @@ collated-state c s w e f = rw (e, f)
 
 -- ## What it is
 
+-- an answer by what it holds
+pub answered : {t : Result Outer Refusal} {o x : Outer} → t ≡ Ok o → o ≡ x → t ≡ Ok x
+answered e f = e ∙ ap Ok f
+
 module _ (h : Chars) (before collated : Bool) (src : List ℕ) (at number : ℕ) (i : at < length src) (few : number ≤ at + 1)
-    (t : Outer) (w : OuterIs h before collated src at t) where
-  pub blank-fits : {next feeds : ℕ} → t ≡ outer.Blank next feeds → length src * 1 < 2 ^ 63 → number + feeds < 2 ^ 64
+    (t : Result Outer Refusal) (w : OuterIs h before collated src at t) where
+  pub blank-fits : {next feeds : ℕ} → t ≡ Ok (outer.Blank next feeds) → length src * 1 < 2 ^ 63 → number + feeds < 2 ^ 64
   blank-fits {next} {feeds} e b =
       let v : Changes h before collated src at next feeds (λ (s : State). s) = subst (OuterIs h before collated src at) e w in
       omega (arith, v.few, v.to)
 
-  pub turn-blank : Visible (signs_of h) → {next feeds : ℕ} → t ≡ outer.Blank next feeds
+  pub turn-blank : Visible (signs_of h) → {next feeds : ℕ} → t ≡ Ok (outer.Blank next feeds)
       → GoesOn h before collated src at number h before next (number + feeds)
   turn-blank x {next} {feeds} e =
       let v : Changes h before collated src at next feeds (λ (s : State). s) = subst (OuterIs h before collated src at) e w in
@@ -104,12 +107,12 @@ module _ (h : Chars) (before collated : Bool) (src : List ℕ) (at number : ℕ)
         few = omega (arith, v.few);
       }
 
-  pub signed-fits : {c : Chars} {next feeds : ℕ} → t ≡ outer.Signed c next feeds → length src * 1 < 2 ^ 63 → number + feeds < 2 ^ 64
+  pub signed-fits : {c : Chars} {next feeds : ℕ} → t ≡ Ok (outer.Signed c next feeds) → length src * 1 < 2 ^ 63 → number + feeds < 2 ^ 64
   signed-fits {c} {next} {feeds} e b =
       let v : SignedBy h before collated src at c next feeds = subst (OuterIs h before collated src at) e w in
       omega (arith, v.line.few, v.line.to)
 
-  pub turn_signed : {c : Chars} {next feeds : ℕ} → t ≡ outer.Signed c next feeds
+  pub turn_signed : {c : Chars} {next feeds : ℕ} → t ≡ Ok (outer.Signed c next feeds)
       → GoesOn h before collated src at number c before next (number + feeds)
   turn_signed {c} {next} {feeds} e =
       let v : SignedBy h before collated src at c next feeds = subst (OuterIs h before collated src at) e w in
@@ -126,12 +129,12 @@ module _ (h : Chars) (before collated : Bool) (src : List ℕ) (at number : ℕ)
         few = omega (arith, v.line.few);
       }
 
-  pub turn-refused : {r : Refusal} → t ≡ outer.Refused r → Fails h before collated src at number (number_of r) number
+  pub turn-refused : {r : Refusal} → t ≡ Err r → Fails h before collated src at number (number_of r) number
   turn-refused {r} e =
       let v : RefusedWith h before collated src at (number_of r) = subst (OuterIs h before collated src at) e w in
       record { run = λ s u. run-fails i r v number s u }
 
-  module _ {collate : Bool} {word next feeds : ℕ} (e : t ≡ outer.Opened collate word next feeds) where
+  module _ {collate : Bool} {word next feeds : ℕ} (e : t ≡ Ok (outer.Opened collate word next feeds)) where
     opened : OpenedAt h before collated src at collate word next feeds
     opened = subst (OuterIs h before collated src at) e w
 
@@ -169,11 +172,11 @@ module _ (h : Chars) (before collated : Bool) (src : List ℕ) (at number : ℕ)
       other : Changes h before collated src at next feeds (opened_by false (word_there h src word))
       other = subst (λ (b : Bool). Changes h before collated src at next feeds (opened_by b (word_there h src word))) f opened.line
 
-      abbrev Category : Skip → Type 0
+      abbrev Category : Result (ℕ × ℕ) (Refusal × ℕ) → Type 0
       Category y = CategoryIs (signs_of h) src next (number + feeds) (name_at (signs_of h) src word) y
 
-      module _ (k : Skip) (x : CategoryIs (signs_of h) src next (number + feeds) (name_at (signs_of h) src word) k) where
-        pub turn-category : Visible (signs_of h) → {j m : ℕ} → k ≡ skip.Stop j m → GoesOn h before collated src at number h false j m
+      module _ (k : Result (ℕ × ℕ) (Refusal × ℕ)) (x : CategoryIs (signs_of h) src next (number + feeds) (name_at (signs_of h) src word) k) where
+        pub turn-category : Visible (signs_of h) → {j m : ℕ} → k ≡ Ok (j, m) → GoesOn h before collated src at number h false j m
         unfolding name_at
         turn-category z {j} {m} d =
             let y : CategoryStops (signs_of h) src next (number + feeds) (name_at (signs_of h) src word) j m = subst Category d x in
@@ -191,7 +194,7 @@ module _ (h : Chars) (before collated : Bool) (src : List ℕ) (at number : ℕ)
               few = y.few;
             }
 
-        pub turn-unended : {r : Refusal} {l : ℕ} → k ≡ skip.Refused r l → Fails h before collated src at number (number_of r) l
+        pub turn-unended : {r : Refusal} {l : ℕ} → k ≡ Err (r, l) → Fails h before collated src at number (number_of r) l
         unfolding name_at
         turn-unended {r} {l} d =
             let y : CategoryRefused (signs_of h) src next (number + feeds) (name_at (signs_of h) src word) (number_of r) l = subst Category d x in

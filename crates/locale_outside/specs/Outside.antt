@@ -1,6 +1,6 @@
 -- One line of a locale source outside every category: what the paper makes of it (Rattle.rules.specs.Source), for every state in which the
 -- line may stand.
-use Rattle.std.specs.Prelude.{◌≡◌, Bool, true, false, ◌&&◌, ◌||◌, List, [], ℕ, ◌+◌, ◌≤◌, ◌<◌, length, drop, if◌then◌else◌}
+use Rattle.std.specs.Prelude.{◌≡◌, Option, Some, None, Bool, true, false, ◌&&◌, ◌||◌, List, [], ℕ, ◌+◌, ◌≤◌, ◌<◌, length, drop, if◌then◌else◌, Err, Ok, Result}
 use Rattle.rules.specs.Text.{bytes, within, every, is, begins}
 use Rattle.rules.specs.Lines.{line_of}
 use Rattle.rules.specs.State.{before_categories, in_other_category, before_order, State, with_chars, with_place, in_phase, is_outside, gives}
@@ -15,7 +15,8 @@ use Rattle.text_specials.specs.declared.Chars.{Chars}
 use Rattle.text_specials.specs.Force.{chars_as}
 use Rattle.text_specials.specs.Signed.{Visible, TakenIs}
 use Rattle.locale_outside.specs.declared.Outer.{Outer}
-use Rattle.locale_outside.specs.declared.Outer.TheVariants.{Blank, Signed, Opened, Refused}
+use Rattle.locale_outside.specs.declared.Outer.TheVariants.{Blank, Signed, Opened}
+use Rattle.base_units.specs.declared.Refusal.{Refusal}
 
 -- ## Words and what follows them
 
@@ -23,9 +24,9 @@ use Rattle.locale_outside.specs.declared.Outer.TheVariants.{Blank, Signed, Opene
 unfoldable pub is_category : List ℕ → Bool
 is_category w = begins (bytes "LC_") w && within 4 32 (length w) && every is_capital w
 
--- how many bytes a word of capitals and underscores has; 0 for any other
-unfoldable pub capitals_in : List ℕ → ℕ
-capitals_in w = if every is_capital w then length w else 0
+-- how many bytes a word of capitals and underscores has; None for any other
+unfoldable pub capitals_in : List ℕ → Option ℕ
+capitals_in w = if every is_capital w then Some (length w) else None
 
 -- Whether the word at a spot is a category's and stands alone.
 pub record AloneIs (g : Signs) (src : List ℕ) (p : Spot) (r : Bool) : Type 0 where
@@ -91,18 +92,18 @@ pub record RefusedWith (h : Chars) (before collated : Bool) (src : List ℕ) (at
   pub refusal : (s : State) (number : ℕ) → Stands h before collated s → (line_outcome s number (line_of (signs s) (drop at src)).marks).refusal ≡ n
 
 -- what a line outside every category is
-abbrev pub OuterIs : Chars → Bool → Bool → List ℕ → ℕ → Outer → Type 0
-OuterIs h before collated src at (Blank next feeds) = Changes h before collated src at next feeds (λ (s : State). s)
-OuterIs h before collated src at (Signed c next feeds) = SignedBy h before collated src at c next feeds
-OuterIs h before collated src at (Opened collate word next feeds) = OpenedAt h before collated src at collate word next feeds
-OuterIs h before collated src at (Refused r) = RefusedWith h before collated src at (number_of r)
+abbrev pub OuterIs : Chars → Bool → Bool → List ℕ → ℕ → Result Outer Refusal → Type 0
+OuterIs h before collated src at (Ok (Blank next feeds)) = Changes h before collated src at next feeds (λ (s : State). s)
+OuterIs h before collated src at (Ok (Signed c next feeds)) = SignedBy h before collated src at c next feeds
+OuterIs h before collated src at (Ok (Opened collate word next feeds)) = OpenedAt h before collated src at collate word next feeds
+OuterIs h before collated src at (Err r) = RefusedWith h before collated src at (number_of r)
 
 -- whether a category has stood or not
-abbrev pub PlainOuter : Chars → Bool → List ℕ → ℕ → Outer → Type 0
+abbrev pub PlainOuter : Chars → Bool → List ℕ → ℕ → Result Outer Refusal → Type 0
 PlainOuter h collated src at r = (before : Bool) → OuterIs h before collated src at r
 
 -- whether LC_COLLATE has stood or not
-abbrev pub TakenOuter : Chars → Bool → List ℕ → ℕ → Outer → Type 0
+abbrev pub TakenOuter : Chars → Bool → List ℕ → ℕ → Result Outer Refusal → Type 0
 TakenOuter h before src at r = (collated : Bool) → OuterIs h before collated src at r
 
 -- ## Where the readers begin

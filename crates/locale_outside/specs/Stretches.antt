@@ -1,5 +1,5 @@
 -- Stretches of lines outside LC_COLLATE: what the paper makes of them (Rattle.rules.specs.Source), for every state in which they may stand.
-use Rattle.std.specs.Prelude.{◌≡◌, Bool, true, false, List, ℕ, ◌+◌, ◌≤◌, ◌<◌, length, drop}
+use Rattle.std.specs.Prelude.{◌≡◌, Bool, true, false, List, ℕ, ◌+◌, ◌≤◌, ◌<◌, length, drop, Err, Ok, Result}
 use Rattle.rules.specs.Text.{bytes}
 use Rattle.rules.specs.State.{before_order, State}
 use Rattle.rules.specs.Source.{at_end, lines_from}
@@ -15,6 +15,7 @@ use Rattle.locale_outside.specs.declared.Turn.TheVariants as turn
 use Rattle.locale_outside.specs.declared.Outers.{Outers}
 use Rattle.locale_outside.specs.declared.Outers.TheVariants as outers
 use Rattle.locale_outside.specs.declared.Stretch.{Stretch}
+use Rattle.base_units.specs.declared.Refusal.{Refusal}
 
 -- ## The states
 
@@ -66,10 +67,10 @@ pub record Fails (h : Chars) (before collated : Bool) (src : List ℕ) (at numbe
   pub run : (s : State) → Stands h before collated s → Refuses (lines_from s number 0 (drop at src)) r l
 
 -- what a line is, with the category that it opens
-abbrev pub TurnIs : Chars → Bool → Bool → List ℕ → ℕ → ℕ → Turn → Type 0
-TurnIs h before collated src at number (turn.On c first next n) = GoesOn h before collated src at number c first next n
-TurnIs h before collated src at number (turn.Collate c next n) = Opens h before collated src at number c next n
-TurnIs h before collated src at number (turn.Refused r l) = Fails h before collated src at number (number_of r) l
+abbrev pub TurnIs : Chars → Bool → Bool → List ℕ → ℕ → ℕ → Result Turn (Refusal × ℕ) → Type 0
+TurnIs h before collated src at number (Ok (turn.On c first next n)) = GoesOn h before collated src at number c first next n
+TurnIs h before collated src at number (Ok (turn.Collate c next n)) = Opens h before collated src at number c next n
+TurnIs h before collated src at number (Err (r, l)) = Fails h before collated src at number (number_of r) l
 
 -- ## Up to the end
 
@@ -87,10 +88,10 @@ pub record EndsAll (h : Chars) (before collated : Bool) (src : List ℕ) (at num
   pub few : n ≤ length src + 1
 
 -- what all lines are
-abbrev pub OutersIs : Chars → Bool → Bool → List ℕ → ℕ → ℕ → Outers → Type 0
-OutersIs h before collated src at number (outers.Collate c next n) = Opens h before collated src at number c next n
-OutersIs h before collated src at number (outers.End c first n) = EndsAll h before collated src at number c first n
-OutersIs h before collated src at number (outers.Refused r l) = Fails h before collated src at number (number_of r) l
+abbrev pub OutersIs : Chars → Bool → Bool → List ℕ → ℕ → ℕ → Result Outers (Refusal × ℕ) → Type 0
+OutersIs h before collated src at number (Ok (outers.Collate c next n)) = Opens h before collated src at number c next n
+OutersIs h before collated src at number (Ok (outers.End c first n)) = EndsAll h before collated src at number c first n
+OutersIs h before collated src at number (Err (r, l)) = Fails h before collated src at number (number_of r) l
 
 -- ## Line after line
 
@@ -105,7 +106,7 @@ pub record Outside (h : Chars) (before collated : Bool) (src : List ℕ) (at num
 -- A reading that began with the state s has come to a place with the state t, and the source may end there.
 pub record StretchStands (src : List ℕ) (s t : Stretch) (i n : ℕ) : Type 0 where
   pub collated : t.collated ≡ s.collated
-  pub answer : t.answer ≡ outers.End t.chars t.before n
+  pub answer : t.answer ≡ Ok (outers.End t.chars t.before n)
   pub passed : Outside s.chars s.before t.collated src s.next s.number t.chars t.before i n
 
 abbrev pub stretch_reading : Reading Stretch

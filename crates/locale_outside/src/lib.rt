@@ -14,11 +14,11 @@ ghost use Rattle.locale_skips.specs.Passing.{Begins};
 ghost use Rattle.locale_outside.specs.Stretches.{TurnIs, OutersIs, StretchStands, stretch_reading};
 
 use base_units::Refusal;
-use locale_skips::{Skip, skip_category};
-use text_lines::{IN_PLAIN, LineEnd, Signs, Spot, Step, is_text, line_end, next_mark};
+use locale_skips::skip_category;
+use text_lines::{IN_PLAIN, LineEnd, Signs, Spot, is_text, line_end, next_mark};
 use text_reader::{reader_at, used_up};
-use text_specials::{Chars, Sign, may_set, sign_line, with_set};
-use text_tokens::{WordStep, end_of_word, only_blanks, skip_gaps, word_byte, word_is};
+use text_specials::{Chars, may_set, sign_line, with_set};
+use text_tokens::{end_of_word, only_blanks, skip_gaps, word_byte, word_is};
 
 // What a line is.
 #[derive(Clone, Copy)]
@@ -29,44 +29,30 @@ pub enum Outer {
     Signed(Chars, usize, usize),
     // a category is opened: whether it is LC_COLLATE, the place where its word begins, the place after the line, and its LFs
     Opened(bool, usize, usize, usize),
-    // the line's refusal
-    Refused(Refusal),
 }
 
 // Whether a byte is a capital or an underscore.
 fn is_capital(b: u8) -> bool
     ensures { result ≡ is_capital b }
 {
-    if b < 65 {
-        return false;
-    }
-    if b <= 90 {
-        return true;
-    }
-    b == 95
+    matches!(b, b'A'..=b'Z' | b'_')
 }
 
-// How many bytes a word of capitals and underscores has; 0 for any other.
-fn capitals(src: &[u8], g: Signs, p: Spot) -> usize
+// How many bytes a word of capitals and underscores has; None for any other.
+fn capitals(src: &[u8], g: Signs, p: Spot) -> Option<usize>
     requires { p.at ≤ length src.now }
     ensures { result ≡ capitals_in (word_in (marks_left g src.now p)) }
 {
     let mut q = p;
     let mut n: usize = 0;
-    loop {
-        let s = word_byte(src, g, q);
-        match s {
-            WordStep::Byte(b, r) => {
-                if is_capital(b) {
-                    n += 1;
-                    q = r;
-                } else {
-                    return 0;
-                }
-            }
-            WordStep::End => return n,
+    while let Some((b, r)) = word_byte(src, g, q) {
+        if !is_capital(b) {
+            return None;
         }
+        n += 1;
+        q = r;
     }
+    Some(n)
 }
 
 // Whether a word begins with this.
@@ -75,19 +61,10 @@ fn word_begins(src: &[u8], g: Signs, p: Spot, w: &[u8]) -> bool
     ensures { result ≡ begins w.now (word_in (marks_left g src.now p)) }
 {
     let mut q = p;
-    let mut i = 0;
-    while i < w.len() {
-        let s = word_byte(src, g, q);
-        match s {
-            WordStep::Byte(b, r) => {
-                if b == w[i] {
-                    i += 1;
-                    q = r;
-                } else {
-                    return false;
-                }
-            }
-            WordStep::End => return false,
+    for c in w {
+        match word_byte(src, g, q) {
+            Some((b, r)) if b == *c => q = r,
+            _ => return false,
         }
     }
     true
@@ -98,14 +75,7 @@ fn is_category(src: &[u8], g: Signs, p: Spot) -> bool
     requires { p.at ≤ length src.now }
     ensures { result ≡ is_category (word_in (marks_left g src.now p)) }
 {
-    if word_begins(src, g, p, b"LC_") {
-        let n = capitals(src, g, p);
-        if n < 4 {
-            return false;
-        }
-        return n <= 32;
-    }
-    false
+    word_begins(src, g, p, b"LC_") && matches!(capitals(src, g, p), Some(4..=32))
 }
 
 // Whether a category's word stands at a spot, and nothing but blanks after it.
@@ -113,15 +83,18 @@ fn category_alone(src: &[u8], g: Signs, p: Spot) -> bool
     requires { (p.at ≤ length src.now) × (p.mode ≡ in_plain) }
     ensures { AloneIs g src.now p result }
 {
-    let q = end_of_word(src, g, p);
-    if only_blanks(src, g, q) {
-        return is_category(src, g, p);
-    }
-    false
+    only_blanks(src, g, end_of_word(src, g, p)) && is_category(src, g, p)
 }
 
 // A line in which a category's word stands alone.
-fn category_line(src: &[u8], h: Chars, collated: bool, at: usize, q: Spot, e: LineEnd) -> Outer
+fn category_line(
+    src: &[u8],
+    h: Chars,
+    collated: bool,
+    at: usize,
+    q: Spot,
+    e: LineEnd,
+) -> Result<Outer, Refusal>
     requires { CategoryAt h src.now at q e }
     ensures { PlainOuter h collated src.now at result }
 {
@@ -129,17 +102,16 @@ fn category_line(src: &[u8], h: Chars, collated: bool, at: usize, q: Spot, e: Li
         comment: h.comment,
         escape: h.escape,
     };
-    if word_is(src, g, q, b"LC_COLLATE") {
-        if collated {
-            return Outer::Refused(Refusal::Malformed);
-        }
-        return Outer::Opened(true, q.at, e.next, e.feeds);
+    let collate = word_is(src, g, q, b"LC_COLLATE");
+    if collate && collated {
+        Err(Refusal::Malformed)
+    } else {
+        Ok(Outer::Opened(collate, q.at, e.next, e.feeds))
     }
-    Outer::Opened(false, q.at, e.next, e.feeds)
 }
 
 // A line in which no byte is taken as it stands: blank, or a category's.
-fn plain_line(src: &[u8], h: Chars, collated: bool, at: usize) -> Outer
+fn plain_line(src: &[u8], h: Chars, collated: bool, at: usize) -> Result<Outer, Refusal>
     requires { PlainAt h src.now at }
     ensures { PlainOuter h collated src.now at result }
 {
@@ -148,24 +120,17 @@ fn plain_line(src: &[u8], h: Chars, collated: bool, at: usize) -> Outer
         escape: h.escape,
     };
     let p = Spot {
-        at: at,
+        at,
         mode: IN_PLAIN,
         fresh: true,
     };
     let e = line_end(src, g, p);
     let q = skip_gaps(src, g, p);
-    let s = next_mark(src, g, q);
-    match s {
-        Step::End => return Outer::Blank(e.next, e.feeds),
-        Step::Mark(_, _) => {
-            if e.text {
-                if category_alone(src, g, q) {
-                    return category_line(src, h, collated, at, q, e);
-                }
-                return Outer::Refused(Refusal::Malformed);
-            }
-            return Outer::Refused(Refusal::BadByte);
-        }
+    match next_mark(src, g, q) {
+        None => Ok(Outer::Blank(e.next, e.feeds)),
+        Some(_) if !e.text => Err(Refusal::BadByte),
+        Some(_) if category_alone(src, g, q) => category_line(src, h, collated, at, q, e),
+        Some(_) => Err(Refusal::Malformed),
     }
 }
 
@@ -179,7 +144,7 @@ fn taken_line(
     c: u8,
     k: usize,
     rest: Spot,
-) -> Outer
+) -> Result<Outer, Refusal>
     requires { TakenAt h src.now at comment c k rest }
     ensures { TakenOuter h before src.now at result }
 {
@@ -188,26 +153,23 @@ fn taken_line(
         escape: h.escape,
     };
     let e = line_end(src, g, rest);
-    if e.text {
-        if is_text(c as u16) {
-            if only_blanks(src, g, rest) {
-                if before {
-                    if may_set(h, comment, c) {
-                        return Outer::Signed(with_set(h, comment, c), e.next, k + e.feeds);
-                    }
-                    return Outer::Refused(Refusal::Malformed);
-                }
-                return Outer::Refused(Refusal::Malformed);
-            }
-            return Outer::Refused(Refusal::Malformed);
-        }
-        return Outer::Refused(Refusal::BadByte);
+    if !e.text || !is_text(c as u16) {
+        Err(Refusal::BadByte)
+    } else if only_blanks(src, g, rest) && before && may_set(h, comment, c) {
+        Ok(Outer::Signed(with_set(h, comment, c), e.next, k + e.feeds))
+    } else {
+        Err(Refusal::Malformed)
     }
-    Outer::Refused(Refusal::BadByte)
 }
 
 // The line at a place, with two characters in force that are no blanks; whether no category stands before it, and whether LC_COLLATE does.
-fn outer_line(src: &[u8], h: Chars, before: bool, collated: bool, at: usize) -> Outer
+fn outer_line(
+    src: &[u8],
+    h: Chars,
+    before: bool,
+    collated: bool,
+    at: usize,
+) -> Result<Outer, Refusal>
     requires { (at < length src.now) × Visible (signs_of h) }
     ensures { OuterIs h before collated src.now at result }
 {
@@ -215,12 +177,9 @@ fn outer_line(src: &[u8], h: Chars, before: bool, collated: bool, at: usize) -> 
         comment: h.comment,
         escape: h.escape,
     };
-    let t = sign_line(src, g, at);
-    match t {
-        Sign::Plain => return plain_line(src, h, collated, at),
-        Sign::Taken(comment, c, k, rest) => return taken_line(
-            src, h, before, at, comment, c, k, rest,
-        ),
+    match sign_line(src, g, at) {
+        None => plain_line(src, h, collated, at),
+        Some((comment, c, k, rest)) => taken_line(src, h, before, at, comment, c, k, rest),
     }
 }
 
@@ -232,8 +191,6 @@ pub enum Turn {
     On(Chars, bool, usize, usize),
     // LC_COLLATE is opened: the two characters, the place after the line and the number of the line there
     Collate(Chars, usize, usize),
-    // a refusal and its line
-    Refused(Refusal, usize),
 }
 
 // What all lines are.
@@ -243,35 +200,36 @@ pub enum Outers {
     Collate(Chars, usize, usize),
     // the source ends: the two characters, whether no category has stood, the number of the line there
     End(Chars, bool, usize),
-    // a refusal and its line
-    Refused(Refusal, usize),
 }
 
 // The line at a place, and all lines of the category that it opens, if that is not LC_COLLATE.
-fn outer_turn(src: &[u8], h: Chars, before: bool, collated: bool, at: usize, number: usize) -> Turn
+fn outer_turn(
+    src: &[u8],
+    h: Chars,
+    before: bool,
+    collated: bool,
+    at: usize,
+    number: usize,
+) -> Result<Turn, (Refusal, usize)>
     requires { (at < length src.now) × (number ≤ at + 1) × Visible (signs_of h) }
     ensures { TurnIs h before collated src.now at number result }
 {
-    let t = outer_line(src, h, before, collated, at);
-    match t {
-        Outer::Blank(next, feeds) => return Turn::On(h, before, next, number + feeds),
-        Outer::Signed(c, next, feeds) => return Turn::On(c, before, next, number + feeds),
-        Outer::Opened(collate, word, next, feeds) => {
+    match outer_line(src, h, before, collated, at) {
+        Ok(Outer::Blank(next, feeds)) => Ok(Turn::On(h, before, next, number + feeds)),
+        Ok(Outer::Signed(c, next, feeds)) => Ok(Turn::On(c, before, next, number + feeds)),
+        Ok(Outer::Opened(collate, word, next, feeds)) => {
             let n = number + feeds;
             if collate {
-                return Turn::Collate(h, next, n);
+                return Ok(Turn::Collate(h, next, n));
             }
             let g = Signs {
                 comment: h.comment,
                 escape: h.escape,
             };
-            let k = skip_category(src, g, next, n, word);
-            match k {
-                Skip::Stop(i, m) => return Turn::On(h, false, i, m),
-                Skip::Refused(r, l) => return Turn::Refused(r, l),
-            }
+            let (i, m) = skip_category(src, g, next, n, word)?;
+            Ok(Turn::On(h, false, i, m))
         }
-        Outer::Refused(r) => return Turn::Refused(r, number),
+        Err(r) => Err((r, number)),
     }
 }
 
@@ -283,7 +241,7 @@ struct Stretch {
     next: usize,
     number: usize,
     // what is answered if it is over, or no line comes next
-    answer: Outers,
+    answer: Result<Outers, (Refusal, usize)>,
     // the two characters, whether no category has stood, and whether LC_COLLATE has
     chars: Chars,
     before: bool,
@@ -295,44 +253,31 @@ fn outer_stretch(src: &[u8], s: Stretch, at: usize, number: usize) -> Stretch
     requires { AtLine stretch_reading src.now s at number }
     ensures { Turns stretch_reading src.now s at number result }
 {
-    let c = s.chars;
-    let before = s.before;
-    let collated = s.collated;
-    let t = outer_turn(src, c, before, collated, at, number);
-    match t {
-        Turn::On(d, still, next, n) => {
-            return Stretch {
-                over: false,
-                next: next,
-                number: n,
-                answer: Outers::End(d, still, n),
-                chars: d,
-                before: still,
-                collated: collated,
-            };
-        }
-        Turn::Collate(d, next, n) => {
-            return Stretch {
-                over: true,
-                next: next,
-                number: n,
-                answer: Outers::Collate(d, next, n),
-                chars: d,
-                before: before,
-                collated: collated,
-            };
-        }
-        Turn::Refused(r, l) => {
-            return Stretch {
-                over: true,
-                next: at,
-                number: number,
-                answer: Outers::Refused(r, l),
-                chars: c,
-                before: before,
-                collated: collated,
-            };
-        }
+    match outer_turn(src, s.chars, s.before, s.collated, at, number) {
+        Ok(Turn::On(d, still, next, n)) => Stretch {
+            over: false,
+            next,
+            number: n,
+            answer: Ok(Outers::End(d, still, n)),
+            chars: d,
+            before: still,
+            ..s
+        },
+        Ok(Turn::Collate(d, next, n)) => Stretch {
+            over: true,
+            next,
+            number: n,
+            answer: Ok(Outers::Collate(d, next, n)),
+            chars: d,
+            ..s
+        },
+        Err((r, l)) => Stretch {
+            over: true,
+            next: at,
+            number,
+            answer: Err((r, l)),
+            ..s
+        },
     }
 }
 
@@ -362,19 +307,18 @@ pub fn outer_lines(
     collated: bool,
     at: usize,
     number: usize,
-) -> Outers
+) -> Result<Outers, (Refusal, usize)>
     requires { Begins src.now at number × Visible (signs_of h) }
     ensures { OutersIs h before collated src.now at number result }
 {
     let s = Stretch {
         over: false,
         next: at,
-        number: number,
-        answer: Outers::End(h, before, number),
+        number,
+        answer: Ok(Outers::End(h, before, number)),
         chars: h,
-        before: before,
-        collated: collated,
+        before,
+        collated,
     };
-    let t = outer_stretches(src, s);
-    t.answer
+    outer_stretches(src, s).answer
 }

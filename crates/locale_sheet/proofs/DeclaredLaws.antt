@@ -1,4 +1,5 @@
 -- What is found in the store is what the lines have declared.
+use Rattle.std.specs.Prelude.{None, Some}
 use mathlib.Core.Path.{◌≡◌, refl, sym, ap, ◌∙◌, subst}
 use mathlib.Core.Bool.{true, false, ◌||◌}
 use mathlib.Core.List.{List, [], ◌∷◌}
@@ -17,7 +18,6 @@ use Rattle.rules.proofs.TextLaws.{same_true}
 use Rattle.work_rows.specs.Cells.{cell}
 use Rattle.work_subjects.specs.Keys.{Key, item, chars, same_key}
 use Rattle.work_store.specs.Store.{Decl, first, is_place, is_found, known_in, Once, another}
-use Rattle.work_store.specs.declared.Found.TheVariants.{At, Nothing}
 use Rattle.work_store.proofs.ListLaws.{is_place-fresh, is_place-older}
 use Rattle.work_order.specs.Links.{chars_number}
 use Rattle.locale_sheet.specs.Known.{declared_at, Says, none, symbols, elements, characters}
@@ -58,18 +58,18 @@ pub record Quotes (w : List ℕ) (key : ℕ → Key) (ds : List Decl) (cs : List
 
 module _ (w : List ℕ) (n : List ℕ) where
   -- a name that is found once and has no characters is a symbol's, and one that has is an element's
-  pub known-symbol : (v : ℕ) (ds : List Decl) (cs : List Declaration) → Says w ds cs → Once ds → first (item (named n)) ds ≡ At v
+  pub known-symbol : (v : ℕ) (ds : List Decl) (cs : List Declaration) → Says w ds cs → Once ds → first (item (named n)) ds ≡ Some v
       → one_of (declares_symbol n) cs ≡ eqb (cell w v chars_number) 0
   unfolding one_of declares_symbol same_key same_subject known_in first
   known-symbol v ds cs none o e = absurd (let z : ◌≡◌ {A = ℕ} 0 1 = cc in omega (arith, z))
   known-symbol v ds cs (symbols {n = m} {v = u} {ds = es} {cs = fs} z s) (another x o) e =
       by (same m n)
-      (λ t. let p : At u ≡ At v = rw t at e in let q : u ≡ v = cc in rw (same-swap n m, t, ← q, z))
+      (λ t. let p : Some u ≡ Some v = rw t at e in let q : u ≡ v = cc in rw (same-swap n m, t, ← q, z))
       (λ t. rw (same-swap n m, t) (known-symbol v es fs s o (rw t at e)))
   known-symbol v ds cs (elements {n = m} {xs} {v = u} {q} {ds = es} {cs = fs} z l s) (another y (another x o)) e =
       by (same m n)
-      (λ t. let p : At u ≡ At v = rw t at e in let r : u ≡ v = cc in
-      let k : one_of (declares_symbol n) fs ≡ false = none-later n fs (sym (known-declared w n es fs s) ∙ ap is_found (subst (λ (a : List ℕ). first (item (named a)) es ≡ Nothing) (same_true m n t) x)) in
+      (λ t. let p : Some u ≡ Some v = rw t at e in let r : u ≡ v = cc in
+      let k : one_of (declares_symbol n) fs ≡ false = none-later n fs (sym (known-declared w n es fs s) ∙ ap is_found (subst (λ (a : List ℕ). first (item (named a)) es ≡ None) (same_true m n t) x)) in
       rw (k, ← r, z) (sym (ne_eqb q 0 (λ f. omega (arith, f, l)))))
       (λ t. known-symbol v es fs s o (rw t at e))
   known-symbol v ds cs (characters {c = c} {v = u} {ds = es} {cs = fs} z s) (another x o) e = known-symbol v es fs s o e
@@ -83,16 +83,16 @@ module _ (w : List ℕ) (n : List ℕ) where
   }
 
   pub known-quotes : (v : ℕ) (key : ℕ → Key) (ds : List Decl) (cs : List Declaration) → Says w ds cs → All (λ (d : Decl). key d.place ≡ d.key) ds
-      → first (item (named n)) ds ≡ At v → 1 ≤ cell w v chars_number → Quotes w key ds cs n v
+      → first (item (named n)) ds ≡ Some v → 1 ≤ cell w v chars_number → Quotes w key ds cs n v
   unfolding chars_named same_key same_subject first
   known-quotes v key ds cs none a e l = absurd (let z : ◌≡◌ {A = ℕ} 0 1 = cc in omega (arith, z))
   known-quotes v key ds cs (symbols {n = m} {v = u} {ds = es} {cs = fs} z s) a e l =
       by (same m n)
-      (λ t. let p : At u ≡ At v = rw t at e in let q : u ≡ v = cc in absurd (let y = rw q at z in omega (arith, y, l)))
+      (λ t. let p : Some u ≡ Some v = rw t at e in let q : u ≡ v = cc in absurd (let y = rw q at z in omega (arith, y, l)))
       (λ t. quotes-older v key es fs (symbol m ∷ fs) (declared_at (item (named m)) u) refl (known-quotes v key es fs s a.1 (rw t at e) l))
   known-quotes v key ds cs (elements {n = m} {xs = ys} {v = u} {q} {ds = es} {cs = fs} z i s) a e l =
       by (same m n)
-      (λ t. let p : At u ≡ At v = rw t at e in let r : u ≡ v = cc in
+      (λ t. let p : Some u ≡ Some v = rw t at e in let r : u ≡ v = cc in
       let f : cell w v chars_number ≡ q = rw r at z in
       record {
         place = rw f (is_place-fresh (λ (x : ℕ). chars ys) q (declared_at (item (named m)) u ∷ es));
@@ -104,7 +104,7 @@ module _ (w : List ℕ) (n : List ℕ) where
       quotes-older v key es fs fs (declared_at (item (character c)) u) refl (known-quotes v key es fs s a.1 e l)
 
 -- the row of a character tells its code
-pub known-character : (w : List ℕ) (c v : ℕ) (ds : List Decl) (cs : List Declaration) → Says w ds cs → first (item (character c)) ds ≡ At v
+pub known-character : (w : List ℕ) (c v : ℕ) (ds : List Decl) (cs : List Declaration) → Says w ds cs → first (item (character c)) ds ≡ Some v
     → cell w v chars_number ≡ 2 * c + 2
 unfolding same_key same_subject first
 known-character w c v ds cs none e = absurd (let z : ◌≡◌ {A = ℕ} 0 1 = cc in omega (arith, z))
@@ -112,5 +112,5 @@ known-character w c v ds cs (symbols {ds = es} {cs = fs} z s) e = known-characte
 known-character w c v ds cs (elements {ds = es} {cs = fs} z l s) e = known-character w c v es fs s e
 known-character w c v ds cs (characters {c = b} {v = u} {ds = es} {cs = fs} z s) e =
     by (eqb b c)
-    (λ t. let p : At u ≡ At v = rw t at e in let q : u ≡ v = cc in rw (← q, ← eqb-true b c t) z)
+    (λ t. let p : Some u ≡ Some v = rw t at e in let q : u ≡ v = cc in rw (← q, ← eqb-true b c t) z)
     (λ t. known-character w c v es fs s (rw t at e))

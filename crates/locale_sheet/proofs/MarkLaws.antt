@@ -1,4 +1,5 @@
 -- Subjects and their marks: each subject with a row has one, and each mark in the list names its own.
+use Rattle.std.specs.Prelude.{None, Option, Some, ℕ}
 use mathlib.Core.Path.{◌≡◌, refl, sym, ap, ◌∙◌, subst}
 use mathlib.Core.Bool.{Bool, true, false, ◌&&◌, false≢true, or-true}
 use mathlib.Core.List.{List}
@@ -20,8 +21,6 @@ use Rattle.work_subjects.specs.Keys.{name_spot, subject_left, Key, item, chars, 
 use Rattle.work_subjects.specs.Numbers.{is_declarable, kind_of}
 use Rattle.work_subjects.proofs.KeyLaws.{key_at-name, key_at-quotes}
 use Rattle.work_store.specs.Store.{Decl, first, is_place, Once, above_of, Nodes, none, more, Holds, undefined_mark}
-use Rattle.work_store.specs.declared.Found.{Found}
-use Rattle.work_store.specs.declared.Found.TheVariants.{At, Nothing}
 use Rattle.work_store.proofs.AreaLaws.{above-name, free-name, free-char, holds-told, holds-behind}
 use Rattle.work_store.proofs.ListLaws.{nodes-keyed, once-found, found-key, found-place, place-within, place-row}
 use Rattle.locale_sheet.specs.Known.{subject_at, is_row, mark_of}
@@ -29,15 +28,15 @@ use Rattle.locale_sheet.specs.Known.{subject_at, is_row, mark_of}
 -- ## Marks
 
 -- this is the mark that is found
-abbrev pub is_at : ℕ → Found → Bool
-is_at u (At v) = eqb v u
-is_at u Nothing = false
+abbrev pub is_at : ℕ → Option ℕ → Bool
+is_at u (Some v) = eqb v u
+is_at u None = false
 
-pub is_at-true : (u : ℕ) (f : Found) → is_at u f ≡ true → f ≡ At u
-is_at-true u (At v) h = ap At (eqb-true v u h)
-is_at-true u Nothing h = absurd (false≢true h)
+pub is_at-true : (u : ℕ) (f : Option ℕ) → is_at u f ≡ true → f ≡ Some u
+is_at-true u (Some v) h = ap Some (eqb-true v u h)
+is_at-true u None h = absurd (false≢true h)
 
-pub is_at-same : (u : ℕ) (f : Found) → f ≡ At u → is_at u f ≡ true
+pub is_at-same : (u : ℕ) (f : Option ℕ) → f ≡ Some u → is_at u f ≡ true
 is_at-same u f e = ap (is_at u) e ∙ eq-eqb u u refl
 
 -- the mark of a name's subject is found in the store
@@ -45,7 +44,7 @@ pub mark-name : (len : ℕ) (ds : List Decl) (n : List ℕ) → mark_of len ds (
 unfolding mark_of subject_of
 mark-name len ds n = by (char_shaped n) (λ t. rw t) (λ t. rw t)
 
-pub mark-undefined : (len : ℕ) (ds : List Decl) → mark_of len ds undefined ≡ At (undefined_mark len)
+pub mark-undefined : (len : ℕ) (ds : List Decl) → mark_of len ds undefined ≡ Some (undefined_mark len)
 unfolding mark_of
 mark-undefined len ds = refl
 
@@ -129,20 +128,20 @@ holds_row g src {ds = ds} v k x r a b h =
 
 module _ (g : Signs) (src w : List ℕ) (n : ℕ) (ds : List Decl) (h : Holds (key_at g src) (length src) w n ds) (o : Once ds) where
   -- a row's subject has its mark
-  pub subject-marked : (u : ℕ) → is_row (length src) ds u ≡ true → u % 2 ≡ 0 → mark_of (length src) ds (subject_at g src u) ≡ At u
+  pub subject-marked : (u : ℕ) → is_row (length src) ds u ≡ true → u % 2 ≡ 0 → mark_of (length src) ds (subject_at g src u) ≡ Some u
   subject-marked u r e =
       row_by (length src) ds u r
       (λ t c. let p = at_source g src u (place-within h u t) in
       let f = once-found (key_at g src) u ds (nodes-keyed h.nodes) o t in
       ap (mark_of (length src) ds) p ∙ mark-name (length src) ds (name_left g src (name_spot (u / 2)))
       ∙ ap (λ (k : Key). first k ds) (sym (key_at-name g src u e)) ∙ f)
-      (λ z. subst (λ (v : ℕ). mark_of (length src) ds (subject_at g src v) ≡ At v) (sym z) undefined-marked)
+      (λ z. subst (λ (v : ℕ). mark_of (length src) ds (subject_at g src v) ≡ Some v) (sym z) undefined-marked)
     where
-      undefined-marked : mark_of (length src) ds (subject_at g src (undefined_mark (length src))) ≡ At (undefined_mark (length src))
+      undefined-marked : mark_of (length src) ds (subject_at g src (undefined_mark (length src))) ≡ Some (undefined_mark (length src))
       undefined-marked = ap (mark_of (length src) ds) (at-undefined g src) ∙ mark-undefined (length src) ds
 
   -- a mark that is found in the store names what was looked for
-  found-subject : (u : ℕ) (x : Subject) → first (item x) ds ≡ At u → subject_at g src u ≡ x
+  found-subject : (u : ℕ) (x : Subject) → first (item x) ds ≡ Some u → subject_at g src u ≡ x
   found-subject u x f =
       let k = found-key h (item x) u f in
       let i = place-within h u (found-place h (item x) u f) in
@@ -152,7 +151,7 @@ module _ (g : Signs) (src w : List ℕ) (n : ℕ) (ds : List Decl) (h : Holds (k
       item-subject : (x y : Subject) → item x ≡ item y → x ≡ y
       item-subject x y e = cc
 
-  pub marked-subject : (u : ℕ) (x : Subject) → mark_of (length src) ds x ≡ At u → subject_at g src u ≡ x
+  pub marked-subject : (u : ℕ) (x : Subject) → mark_of (length src) ds x ≡ Some u → subject_at g src u ≡ x
   unfolding mark_of
   marked-subject u (character c) f = found-subject u (character c) f
   marked-subject u (named m) f = found-subject u (named m) f
@@ -168,11 +167,11 @@ module _ (g : Signs) (src w : List ℕ) (n : ℕ) (ds : List Decl) (h : Holds (k
       (λ s. let z = marked-subject u x (is_at-true u (mark_of (length src) ds x) s) in clash (subst (λ (y : Subject). same_subject x y ≡ true) (sym z) (same_subject-refl x)) t)
       (λ s. t ∙ sym s))
 
-  found-row : (u : ℕ) (x : Subject) → first (item x) ds ≡ At u → is_row (length src) ds u ≡ true
+  found-row : (u : ℕ) (x : Subject) → first (item x) ds ≡ Some u → is_row (length src) ds u ≡ true
   found-row u x f = row-place (length src) ds u (found-place h (item x) u f) (item-even g src u x (found-key h (item x) u f))
 
   -- the mark of a subject has a row, and is that of a name
-  pub mark-row : (u : ℕ) (x : Subject) → mark_of (length src) ds x ≡ At u → is_row (length src) ds u ≡ true
+  pub mark-row : (u : ℕ) (x : Subject) → mark_of (length src) ds x ≡ Some u → is_row (length src) ds u ≡ true
   unfolding mark_of
   mark-row u (character c) f = found-row u (character c) f
   mark-row u (named m) f = found-row u (named m) f

@@ -1,5 +1,5 @@
 -- An order line in a block: what is known after it has come to stand after another, and after one that had a line has left its old place.
-use Rattle.std.specs.Prelude.{if◌then◌else◌}
+use Rattle.std.specs.Prelude.{if◌then◌else◌, None, Option, Some}
 use mathlib.Core.Path.{◌≡◌, refl, sym, ap, ◌∙◌, subst}
 use mathlib.Core.Bool.{true, false, not, or-true}
 use mathlib.Core.List.{List, [], ◌∷◌, map}
@@ -21,8 +21,6 @@ use Rattle.work_rows.specs.Cells.{cell}
 use Rattle.work_rows.proofs.CellLaws.{Apart}
 use Rattle.work_subjects.specs.Keys.{key_at}
 use Rattle.work_store.specs.Store.{Decl, Once, Holds}
-use Rattle.work_store.specs.declared.Found.{Found}
-use Rattle.work_store.specs.declared.Found.TheVariants.{At, Nothing}
 use Rattle.work_order.specs.declared.Order.{Order}
 use Rattle.work_order.specs.Links.{chars_number, place_number, next_number, back_number, Row, Backed, Lines, Spread, none, more, linked_to, linked_between, with_line_after, longer_after, unlinked, shorter}
 use Rattle.work_order.proofs.ListLaws.{row_kept, all_map, numbered-number, numbered-place, numbered-else, numbered-apart}
@@ -113,11 +111,11 @@ module _ (g : Signs) (src w : List ℕ) (o : Order) (rs : List Rule) (n : ℕ) (
       omega (arith, a, b, c)
 
   -- those without that of a subject x, whose mark is found or not
-  pub taken-found : (x : Subject) (f : Found) → mark_of (length src) k.ds x ≡ f → length (taken_out x ls) ≡ (if is_ordered w f then o.count - 1 else o.count)
-  taken-found x Nothing m = ap length (taken_none x (rank-none g src w o rs n cs ls k x Nothing m)) ∙ known-length
-  taken-found x (At v) m =
+  pub taken-found : (x : Subject) (f : Option ℕ) → mark_of (length src) k.ds x ≡ f → length (taken_out x ls) ≡ (if is_ordered w f then o.count - 1 else o.count)
+  taken-found x None m = ap length (taken_none x (rank-none g src w o rs n cs ls k x None m)) ∙ known-length
+  taken-found x (Some v) m =
       by (eqb (cell w v place_number) 0)
-      (λ t. rw t (ap length (taken_none x (rank-none g src w o rs n cs ls k x (At v) m ∙ rw t)) ∙ known-length))
+      (λ t. rw t (ap length (taken_none x (rank-none g src w o rs n cs ls k x (Some v) m ∙ rw t)) ∙ known-length))
       (λ t. let z = eqb-false (cell w v place_number) 0 t in
       let s = marked-subject g src w n k.ds k.holds k.holds.once v x m in
       rw t (subst (λ (y : Subject). length (taken_out y ls) ≡ o.count - 1) s

@@ -1,4 +1,5 @@
 -- What is known after a symbol, an element or a character is declared, after rows are passed, and after others write behind the rows.
+use Rattle.std.specs.Prelude.{None}
 use mathlib.Core.Path.{◌≡◌, refl, sym, ap, ◌∙◌, subst}
 use mathlib.Core.Bool.{true, false, false≢true}
 use mathlib.Core.List.{List, [], ◌∷◌, map}
@@ -17,7 +18,6 @@ use Rattle.work_subjects.specs.Keys.{name_spot, subject_left, Key, item, chars, 
 use Rattle.work_subjects.specs.Numbers.{is_declarable, kind_of}
 use Rattle.work_subjects.proofs.KeyLaws.{key_at-name}
 use Rattle.work_store.specs.Store.{Decl, first, is_place, fresh, above_of, Holds, Declares}
-use Rattle.work_store.specs.declared.Found.TheVariants.{Nothing}
 use Rattle.work_store.proofs.AreaLaws.{above-name, above_other, holds-beyond}
 use Rattle.work_store.proofs.ListLaws.{is_place-older, place-below, place-within, five-older, five-later, five-named, five-character, code-told}
 use Rattle.work_order.specs.declared.Order.{Order}
@@ -90,7 +90,7 @@ module _ (g : Signs) (src w : List ℕ) (o : Order) (rs : List Rule) (n : ℕ) (
       })
 
   module _ (v : ℕ) (w' : List ℕ) (d : Declares (key_at g src) (length src) w v w') (room : n + above_of (kind_of (key_at g src v)) ≤ v / 16) (inside : v / 2 ≤ length src)
-      (can : is_declarable (key_at g src v) ≡ true) (new : first (key_at g src v) k.ds ≡ Nothing) (some : 1 ≤ v) where
+      (can : is_declarable (key_at g src v) ≡ true) (new : first (key_at g src v) k.ds ≡ None) (some : 1 ≤ v) where
     abbrev kind : ℕ
     kind = kind_of (key_at g src v)
 

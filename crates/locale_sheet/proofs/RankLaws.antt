@@ -1,4 +1,5 @@
 -- Ranks: whether a subject has an order line, and the rank that its row is given.
+use Rattle.std.specs.Prelude.{None, Option, Some, ℕ}
 use mathlib.Core.Path.{◌≡◌, refl, sym, ap, ◌∙◌, subst}
 use mathlib.Core.Bool.{Bool, true, false, not}
 use mathlib.Core.List.{List, [], ◌∷◌, map}
@@ -19,8 +20,6 @@ use Rattle.work_rows.specs.Cells.{cell_at, cell}
 use Rattle.work_rows.proofs.CellLaws.{Apart, cell-told, cell_other, cell_apart}
 use Rattle.work_subjects.specs.Keys.{key_at}
 use Rattle.work_store.specs.Store.{Decl, Once, Holds}
-use Rattle.work_store.specs.declared.Found.{Found}
-use Rattle.work_store.specs.declared.Found.TheVariants.{At, Nothing}
 use Rattle.work_order.specs.declared.Order.{Order}
 use Rattle.work_order.specs.Links.{place_number, rank_number, Row, Spread, more, ranked}
 use Rattle.work_order.proofs.MoveLaws.{linked-rows}
@@ -76,7 +75,7 @@ module _ (g : Signs) (src : List ℕ) (rs : List Rule) (n : ℕ) (ds : List Decl
       rw (subject-mark g src w₀ n ds h o u x a.0.row a.0.even, line-marks x us a.1)
 
   -- the rank of a subject whose row is v
-  rank-cell : (x : Subject) (v : ℕ) → mark_of (length src) ds x ≡ At v → is_row (length src) ds v ≡ true → (w : List ℕ) (k : ℕ) (us : List ℕ)
+  rank-cell : (x : Subject) (v : ℕ) → mark_of (length src) ds x ≡ Some v → is_row (length src) ds v ≡ true → (w : List ℕ) (k : ℕ) (us : List ℕ)
       → All (IsListed g src w₀ ds) us → Spread us → All (Row w) us → (one_of (eqb v) us ≡ false → cell w v rank_number ≡ 0)
       → cell (ranked w k us) v rank_number ≡ rank_from k x (map (line_at g src rs w₀) us)
   unfolding ranked rank_from line_at one_of
@@ -96,44 +95,44 @@ module _ (g : Signs) (src : List ℕ) (rs : List Rule) (n : ℕ) (ds : List Decl
       (λ f. cell_apart w u rank_number v rank_number k (omega arith) (omega arith) d ∙ z (or-false-intro t f))))
 
 -- whether a subject with this mark has an order line
-abbrev pub is_ordered : List ℕ → Found → Bool
-is_ordered w (At v) = not (eqb (cell w v place_number) 0)
-is_ordered w Nothing = false
+abbrev pub is_ordered : List ℕ → Option ℕ → Bool
+is_ordered w (Some v) = not (eqb (cell w v place_number) 0)
+is_ordered w None = false
 
 -- its rank, in an area where ranks are given
-abbrev pub rank_at : List ℕ → Found → ℕ
-rank_at w (At v) = cell w v rank_number
-rank_at w Nothing = 0
+abbrev pub rank_at : List ℕ → Option ℕ → ℕ
+rank_at w (Some v) = cell w v rank_number
+rank_at w None = 0
 
 module _ (g : Signs) (src w : List ℕ) (o : Order) (rs : List Rule) (n : ℕ) (cs : List Declaration) (ls : List OrderLine) (k : Known g src w o rs n cs ls) where
-  none_of : (us : List ℕ) → one_of (λ (u : ℕ). is_at u Nothing) us ≡ false
+  none_of : (us : List ℕ) → one_of (λ (u : ℕ). is_at u None) us ≡ false
   unfolding one_of
   none_of [] = refl
   none_of (u ∷ us) = none_of us
 
   -- whether a subject has an order line is told by its row
-  pub rank-none : (x : Subject) (f : Found) → mark_of (length src) k.ds x ≡ f → eqb (rank_of ls x) 0 ≡ not (is_ordered w f)
+  pub rank-none : (x : Subject) (f : Option ℕ) → mark_of (length src) k.ds x ≡ f → eqb (rank_of ls x) 0 ≡ not (is_ordered w f)
   rank-none x f m =
       ap (λ (ms : List OrderLine). eqb (rank_of ms x) 0) k.are
       ∙ rank_from-zero 1 x (map (line_at g src rs w) k.marks) (omega arith)
       ∙ ap not (line-marks g src rs n k.ds w k.holds k.holds.once x k.marks k.listed
-      ∙ ap (λ (y : Found). one_of (λ (u : ℕ). is_at u y) k.marks) m ∙ go f m)
+      ∙ ap (λ (y : Option ℕ). one_of (λ (u : ℕ). is_at u y) k.marks) m ∙ go f m)
     where
       positive : (a : ℕ) → (a ≡ 0 → ⊥) → 1 ≤ a
       positive a z = omega (arith, z)
 
-      go : (f : Found) → mark_of (length src) k.ds x ≡ f → one_of (λ (u : ℕ). is_at u f) k.marks ≡ is_ordered w f
-      go Nothing m = none_of k.marks
-      go (At v) m =
+      go : (f : Option ℕ) → mark_of (length src) k.ds x ≡ f → one_of (λ (u : ℕ). is_at u f) k.marks ≡ is_ordered w f
+      go None m = none_of k.marks
+      go (Some v) m =
           by (eqb (cell w v place_number) 0)
           (λ t. rw t (unlisted g src w k.ds v k.marks k.listed (eqb-true (cell w v place_number) 0 t)))
           (λ t. let z = eqb-false (cell w v place_number) 0 t in
           rw t (k.all v (mark-row g src w n k.ds k.holds k.holds.once v x m) (positive (cell w v place_number) z)))
 
   -- the ranks that the rows are given are those of the paper
-  pub rank-given : (x : Subject) (f : Found) → mark_of (length src) k.ds x ≡ f → rank_at (ranked w 1 k.marks) f ≡ rank_of ls x
-  rank-given x Nothing m = sym (eqb-true (rank_of ls x) 0 (rank-none x Nothing m))
-  rank-given x (At v) m =
+  pub rank-given : (x : Subject) (f : Option ℕ) → mark_of (length src) k.ds x ≡ f → rank_at (ranked w 1 k.marks) f ≡ rank_of ls x
+  rank-given x None m = sym (eqb-true (rank_of ls x) 0 (rank-none x None m))
+  rank-given x (Some v) m =
       let r = mark-row g src w n k.ds k.holds k.holds.once v x m in
       rank-cell g src rs n k.ds w k.holds k.holds.once x v m r w 1 k.marks k.listed k.lines.spread
       (linked-rows w o.first k.marks k.lines.linked)

@@ -1,6 +1,6 @@
 -- What the lines so far have declared and ordered (Rattle.rules.specs.State), as the work area holds it: what is declared stands in the store
 -- (Rattle.work_store), the order lines in their list (Rattle.work_order), and their weights are read again from the source.
-use Rattle.std.specs.Prelude.{◌≡◌, Bool, true, false, ◌&&◌, ◌||◌, List, [], ◌∷◌, map, ℕ, ◌+◌, ◌*◌, ◌/◌, ◌%◌, ◌≤◌, ◌<◌, length, leb, eqb, if◌then◌else◌}
+use Rattle.std.specs.Prelude.{◌≡◌, Bool, true, false, ◌&&◌, ◌||◌, List, [], ◌∷◌, map, ℕ, ◌+◌, ◌*◌, ◌/◌, ◌%◌, ◌≤◌, ◌<◌, length, leb, eqb, if◌then◌else◌, Option, Some}
 use Rattle.base_lists.proofs.Lists.{All}
 use Rattle.rules.specs.Text.{one_of}
 use Rattle.rules.specs.Tokens.{Token, operands, tokens_refusal}
@@ -14,8 +14,6 @@ use Rattle.text_tokens.specs.Left.{tokens_left}
 use Rattle.work_rows.specs.Cells.{cell}
 use Rattle.work_subjects.specs.Keys.{name_spot, subject_left, Key, item, chars, key_at}
 use Rattle.work_store.specs.Store.{Decl, first, is_place, undefined_mark, Holds}
-use Rattle.work_store.specs.declared.Found.{Found}
-use Rattle.work_store.specs.declared.Found.TheVariants.{At}
 use Rattle.work_order.specs.declared.Order.{Order}
 use Rattle.work_order.specs.Links.{chars_number, line_number, place_number, next_number, rank_number, Backed, Lines}
 
@@ -58,10 +56,10 @@ abbrev pub is_row : ℕ → List Decl → ℕ → Bool
 is_row len ds v = (is_place v ds && eqb (v % 2) 0) || eqb v (undefined_mark len)
 
 -- the mark of a subject
-unfoldable pub mark_of : ℕ → List Decl → Subject → Found
+unfoldable pub mark_of : ℕ → List Decl → Subject → Option ℕ
 mark_of len ds (character c) = first (item (character c)) ds
 mark_of len ds (named n) = first (item (named n)) ds
-mark_of len ds undefined = At (undefined_mark len)
+mark_of len ds undefined = Some (undefined_mark len)
 
 -- The operands of an order line that was accepted, whatever was declared before it.
 pub record Accepted (os : List Token) : Type 0 where

@@ -1,4 +1,5 @@
 -- What is known of a line in LC_COLLATE whose first token is a name: an order line.
+use Rattle.base_units.specs.Numbers.{number_or_none}
 use Rattle.std.specs.Prelude.{◌≡◌, true, List, ℕ, ◌≤◌, ◌<◌, length}
 use Rattle.rules.specs.Text.{◌unless◌, lower}
 use Rattle.rules.specs.Lines.{in_plain}
@@ -28,7 +29,7 @@ pub record NameLine (g : Signs) (src : List ℕ) (at : ℕ) (t : Tok) (e : LineE
   pub whole : (s : State) (number : ℕ) → in_collate s ≡ true
       → whole_line s number (marks_left g src (line_start at))
       ≡ gives
-      (lower (2 unless e.text) (lower (lower t.refusal (tokens_refusal (operands_from g src t.next))) (order_line s number (subject_in g src t) (operands_from g src t.next)).refusal))
+      (lower (2 unless e.text) (lower (lower (number_or_none t.refusal) (tokens_refusal (operands_from g src t.next))) (order_line s number (subject_in g src t) (operands_from g src t.next)).refusal))
       (order_line s number (subject_in g src t) (operands_from g src t.next)).state
   pub token : TokenIs g src start t
   pub name : t.kind ≡ tokens.name

@@ -1,5 +1,5 @@
 -- The paper's state inside LC_COLLATE (Rattle.rules.specs.State), as the work area and a sheet hold it, and what a line does to it.
-use Rattle.std.specs.Prelude.{◌≡◌, Bool, true, false, ◌||◌, List, [], ◌∷◌, ◌++◌, map, ℕ, ◌+◌, ◌*◌, ◌/◌, ◌≤◌, ◌<◌, length, get_or, eqb, if◌then◌else◌}
+use Rattle.std.specs.Prelude.{◌≡◌, Bool, true, false, ◌||◌, List, [], ◌∷◌, ◌++◌, map, ℕ, ◌+◌, ◌*◌, ◌/◌, ◌≤◌, ◌<◌, length, get_or, eqb, if◌then◌else◌, Err, Ok, Result}
 use Rattle.rules.specs.Text.{one_of}
 use Rattle.rules.specs.Tokens.{operands}
 use Rattle.rules.specs.Meaning.{Rule}
@@ -20,7 +20,8 @@ use Rattle.locale_sheet.specs.declared.Block.{Block}
 use Rattle.locale_sheet.specs.declared.Sheet.{Sheet}
 use Rattle.locale_sheet.specs.Words.{TurnLine}
 use Rattle.locale_sheet.specs.declared.Step.{Step}
-use Rattle.locale_sheet.specs.declared.Step.TheVariants.{Next, Opens, Closes, Branch, Refused}
+use Rattle.locale_sheet.specs.declared.Step.TheVariants.{Next, Opens, Closes, Branch}
+use Rattle.base_units.specs.declared.Refusal.{Refusal}
 
 -- ## The state
 
@@ -143,9 +144,9 @@ pub record BranchIs (g : Signs) (src w : List ℕ) (at : ℕ) (w' : List ℕ) : 
   pub line : TurnLine g src at
 
 -- what a line in a used branch does
-abbrev pub StepIs : Signs → List ℕ → List ℕ → Sheet → ℕ → ℕ → ℕ → List ℕ → Step → Type 0
-StepIs g src w sh at number depth w' (Next sh' next k) = NextIs g src w sh at number depth w' sh' next k
-StepIs g src w sh at number depth w' (Opens holds sh' next k) = OpensIs g src w sh at number depth w' holds sh' next k
-StepIs g src w sh at number depth w' (Closes next k) = ClosesIs g src w sh at number depth w' next k
-StepIs g src w sh at number depth w' Branch = BranchIs g src w at w'
-StepIs g src w sh at number depth w' (Refused r) = RefusedIs g src w sh at number depth (number_of r)
+abbrev pub StepIs : Signs → List ℕ → List ℕ → Sheet → ℕ → ℕ → ℕ → List ℕ → Result Step Refusal → Type 0
+StepIs g src w sh at number depth w' (Ok (Next sh' next k)) = NextIs g src w sh at number depth w' sh' next k
+StepIs g src w sh at number depth w' (Ok (Opens holds sh' next k)) = OpensIs g src w sh at number depth w' holds sh' next k
+StepIs g src w sh at number depth w' (Ok (Closes next k)) = ClosesIs g src w sh at number depth w' next k
+StepIs g src w sh at number depth w' (Ok Branch) = BranchIs g src w at w'
+StepIs g src w sh at number depth w' (Err r) = RefusedIs g src w sh at number depth (number_of r)

@@ -5,6 +5,7 @@ use base_units::Refusal;
 use text_lines::LineEnd;
 use work_order::Order;
 
+// Where a line stands is the paper's number of it: `Open` (specs/Sheets.antt) and the contracts of the line functions compare it as a number (`eqb phase in_block`).
 // LC_COLLATE before its order.
 pub const BEFORE_ORDER: u8 = 3;
 
@@ -58,5 +59,4 @@ pub enum Step {
     Closes(usize, usize),
     // elif, else or endif: the chain that is open reads it
     Branch,
-    Refused(Refusal),
 }

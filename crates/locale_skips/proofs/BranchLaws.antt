@@ -1,7 +1,7 @@
 -- The lines of an unused branch: what each kind of line does there, and the turns of the loop over them.
-use Rattle.std.specs.Prelude.{if◌then◌else◌}
+use Rattle.std.specs.Prelude.{if◌then◌else◌, Err, Ok}
 use mathlib.Core.Path.{◌≡◌, refl, sym, ap, ◌∙◌, subst}
-use mathlib.Core.Bool.{Bool, true, false, and-false, or-true, true≢false}
+use mathlib.Core.Bool.{Bool, true, false, ◌||◌, and-false, or-true, true≢false}
 use mathlib.Core.List.{List, [], ◌∷◌}
 use Prim.Native.Nat.{ℕ, suc, pred, ◌+◌, ◌-◌, ◌≤◌, ◌<◌}
 use native.Mathlib.Omega.{arith}
@@ -25,7 +25,6 @@ use Rattle.locale_skips.specs.declared.Kind.TheVariants as kind
 use Rattle.locale_skips.specs.declared.Turn.{Turn}
 use Rattle.locale_skips.specs.declared.Turn.TheVariants as turn
 use Rattle.locale_skips.specs.declared.Branch.{Branch}
-use Rattle.locale_skips.specs.declared.Skip.TheVariants as skip
 use Rattle.locale_skips.specs.Passing.{Unused, Begins, opens, branches, turns, KindIs, opened, TurnOn, TurnOwn, TurnDeep, TurnIs, BranchStops, BranchRefused, BranchIs, InBranch, BranchStands, branch_reading}
 use Rattle.locale_skips.proofs.LineRuns.{collate-signs, run-passed, run-refuses, run-unended, refuses-from}
 
@@ -114,31 +113,24 @@ module _ (g : Signs) (depth total : ℕ) (s : State) (u : Unused g depth s) wher
 
 -- ## What a line is
 
-module _ (w : List ℕ) {a : Bool} (e : a ≡ is w "ifdef") where
-  pub kind-ifdef : a ≡ true → opens w ≡ true
-  kind-ifdef t = rw (sym e ∙ t)
+-- one of two words, of which the second is compared only where the first is another
+pub either_first : {a b x : Bool} (y : Bool) → a ≡ x → a ≡ true → b ≡ true → b ≡ (x || y)
+either_first y e t f = rw (sym e ∙ t) f
 
-  module _ (x : a ≡ false) {b : Bool} (f : b ≡ is w "ifndef") where
-    pub kind-ifndef : b ≡ true → opens w ≡ true
-    kind-ifndef t = rw (sym f ∙ t) (or-true (is w "ifdef"))
+pub either_second : {a b x y : Bool} → a ≡ x → a ≡ false → b ≡ y → b ≡ (x || y)
+either_second e t f = rw (sym e ∙ t) f
 
-    module _ (y : b ≡ false) {c : Bool} (h : c ≡ is w "endif") where
-      opens_not : opens w ≡ false
-      opens_not = rw (sym e ∙ x, sym f ∙ y)
+module _ (w : List ℕ) {a : Bool} (e : a ≡ opens w) where
+  module _ (x : a ≡ false) {b : Bool} (f : b ≡ is w "endif") where
+    pub kind-closes : b ≡ true → KindIs w kind.Closes
+    kind-closes t = (sym e ∙ x, sym f ∙ t)
 
-      pub kind-endif : c ≡ true → KindIs w kind.Closes
-      kind-endif t = (opens_not, sym h ∙ t)
+    module _ (y : b ≡ false) {c : Bool} (h : c ≡ branches w) where
+      pub kind-branches : c ≡ true → KindIs w kind.Branches
+      kind-branches t = (sym e ∙ x, sym f ∙ y, sym h ∙ t)
 
-      module _ (z : c ≡ false) {d : Bool} (i : d ≡ is w "elif") where
-        pub kind-elif : d ≡ true → KindIs w kind.Branches
-        kind-elif t = (opens_not, sym h ∙ z, rw (sym i ∙ t))
-
-        module _ (u : d ≡ false) {k : Bool} (j : k ≡ is w "else") where
-          pub kind-else : k ≡ true → KindIs w kind.Branches
-          kind-else t = (opens_not, sym h ∙ z, rw (sym j ∙ t) (or-true (is w "elif")))
-
-          pub kind-other : k ≡ false → KindIs w kind.Other
-          kind-other t = (opens_not, sym h ∙ z, rw (sym i ∙ u, sym j ∙ t))
+      pub kind-other : c ≡ false → KindIs w kind.Other
+      kind-other t = (sym e ∙ x, sym f ∙ y, sym h ∙ t)
 
 -- ## What it does
 
@@ -272,7 +264,7 @@ module _ {g : Signs} {src : List ℕ} {at number depth i n total : ℕ} (v : InB
 
 -- the state that it begins with
 abbrev begun : Signs → ℕ → ℕ → ℕ → Branch
-begun g at number depth = record { over = false; next = at; number = number; total = depth; answer = skip.Refused Malformed number; depth = depth; signs = g }
+begun g at number depth = record { over = false; next = at; number = number; total = depth; answer = Err (Malformed, number); depth = depth; signs = g }
 
 pub reading_begins : {g : Signs} {src : List ℕ} {at number depth : ℕ} → Begins src at number
     → BranchStands src (begun g at number depth) (begun g at number depth) at number
@@ -295,18 +287,18 @@ module _ {src : List ℕ} {s t : Branch} {i n : ℕ} (v : BranchStands src s t i
 -- what the line at a place does to it
 module _ {src : List ℕ} {t : Branch} {at number : ℕ} (h : at < length src) {k : Turn} (w : TurnIs t.signs src at t.depth t.total k) where
   pub reading-own : k ≡ turn.Own
-      → Turns branch_reading src t at number (record { over = true; next = at; number = number; total = t.total; answer = skip.Stop at number; depth = t.depth; signs = t.signs })
+      → Turns branch_reading src t at number (record { over = true; next = at; number = number; total = t.total; answer = Ok (at, number); depth = t.depth; signs = t.signs })
   reading-own e =
       record { further = λ f. absurd (true≢false f); goes = λ f. absurd (true≢false f); stops = λ f s v. branch-stops v.passed h (same_turn v k w) e }
 
   pub reading-deep : k ≡ turn.Deep
-      → Turns branch_reading src t at number (record { over = true; next = at; number = number; total = t.total; answer = skip.Refused TooMany number; depth = t.depth; signs = t.signs })
+      → Turns branch_reading src t at number (record { over = true; next = at; number = number; total = t.total; answer = Err (TooMany, number); depth = t.depth; signs = t.signs })
   reading-deep e =
       record { further = λ f. absurd (true≢false f); goes = λ f. absurd (true≢false f); stops = λ f s v. branch-deep v.passed h (same_turn v k w) e }
 
   pub reading-on : {o : ℕ} {x : LineEnd} → k ≡ turn.On o → LineIs t.signs src (line_start at) x
       → Turns branch_reading src t at number
-      (record { over = false; next = x.next; number = number + x.feeds; total = o; answer = skip.Refused Malformed (number + x.feeds); depth = t.depth; signs = t.signs })
+      (record { over = false; next = x.next; number = number + x.feeds; total = o; answer = Err (Malformed, (number + x.feeds)); depth = t.depth; signs = t.signs })
   reading-on e l =
       record {
         further = λ f. l.on h;

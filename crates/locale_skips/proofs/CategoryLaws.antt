@@ -1,5 +1,5 @@
 -- The lines of another category: the END line of its name, and the turns of the loop to it.
-use Rattle.std.specs.Prelude.{if◌then◌else◌}
+use Rattle.std.specs.Prelude.{if◌then◌else◌, Err, Ok, Result}
 use mathlib.Core.Path.{◌≡◌, refl, sym, subst, ◌∙◌}
 use mathlib.Core.Bool.{Bool, true, false}
 use mathlib.Core.List.{List}
@@ -16,10 +16,9 @@ use Rattle.text_lines.specs.declared.Signs.{Signs}
 use Rattle.text_lines.specs.declared.LineEnd.{LineEnd}
 use Rattle.text_lines.specs.Stream.{plain_signs, line_start, marks_left, LineIs}
 use Rattle.locale_skips.specs.Words.{words_left, first_word}
-use Rattle.locale_skips.specs.declared.Skip.{Skip}
-use Rattle.locale_skips.specs.declared.Skip.TheVariants as skip
 use Rattle.locale_skips.specs.Passing.{InOther, Begins, is_end, InCategory, Reaches, AfterIs, CategoryStops, CategoryRefused, CategoryIs}
 use Rattle.locale_skips.proofs.LineRuns.{signs-plain, run-passed, run-unended, refuses-from}
+use Rattle.base_units.specs.declared.Refusal.{Refusal}
 
 -- ## A line
 
@@ -92,11 +91,11 @@ module _ {g : Signs} {src : List ℕ} {at number : ℕ} {name : List ℕ} {i n :
 
 -- what stands after the place that is reached is what the category leaves
 pub category-after : {g : Signs} {src : List ℕ} {at number : ℕ} {name : List ℕ} {i n : ℕ} → Reaches g src at number name i n
-    → (r : Skip) → AfterIs g src i n r → CategoryIs g src at number name r
-category-after {g} {src} {at} {number} {name} {i} {n} v (skip.Stop next m) a =
+    → (r : Result (ℕ × ℕ) (Refusal × ℕ)) → AfterIs g src i n r → CategoryIs g src at number name r
+category-after {g} {src} {at} {number} {name} {i} {n} v (Ok (next, m)) a =
     subst (λ (x : ℕ). CategoryStops g src at number name x m) (sym a.place)
     (subst (λ (x : ℕ). CategoryStops g src at number name a.end.next x) (sym a.lines)
     (category-stops v.passed a.inside a.line {t = true} (sym (v.stands a.inside)) refl))
-category-after {g} {src} {at} {number} {name} {i} {n} v (skip.Refused r l) a =
+category-after {g} {src} {at} {number} {name} {i} {n} v (Err (r, l)) a =
     subst (λ (x : ℕ). CategoryRefused g src at number name x l) (sym a.three)
     (subst (λ (x : ℕ). CategoryRefused g src at number name 3 x) (sym a.line) (category-end v.passed a.outside))

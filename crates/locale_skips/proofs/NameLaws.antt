@@ -1,4 +1,5 @@
 -- The name of a category, copied from the source: the part of the area where it stands.
+use Rattle.std.specs.Prelude.{Result, ℕ}
 use mathlib.Core.Path.{◌≡◌, sym, ap, ◌∙◌, subst}
 use mathlib.Core.List.{List, ◌++◌}
 use Prim.Native.Nat.{ℕ, ◌≤◌, ◌<◌}
@@ -8,8 +9,8 @@ use lib.Seq.{take_all, take-append_seam}
 use Rattle.text_lines.specs.declared.Signs.{Signs}
 use Rattle.text_lines.specs.Stream.{line_start, marks_left}
 use Rattle.text_tokens.specs.Left.{word_in, CopiesWord}
-use Rattle.locale_skips.specs.declared.Skip.{Skip}
 use Rattle.locale_skips.specs.Passing.{Named, name_at, CategoryIs}
+use Rattle.base_units.specs.declared.Refusal.{Refusal}
 
 module _ {g : Signs} {src : List ℕ} {category : ℕ} {room after : List ℕ} {n : ℕ} (v : Named g src category) (h : 32 ≤ length room)
     (w : CopiesWord (word_in (marks_left g src (line_start category))) room after n) where
@@ -37,5 +38,5 @@ module _ {g : Signs} {src : List ℕ} {category : ℕ} {room after : List ℕ} {
   pub name-some : 0 < length (take n after)
   name-some = rw name-there v.some
 
-  pub name-is : (at number : ℕ) (r : Skip) → CategoryIs g src at number (take n after) r → CategoryIs g src at number (name_at g src category) r
+  pub name-is : (at number : ℕ) (r : Result (ℕ × ℕ) (Refusal × ℕ)) → CategoryIs g src at number (take n after) r → CategoryIs g src at number (name_at g src category) r
   name-is at number r x = subst (λ (y : List ℕ). CategoryIs g src at number y r) name-there x

@@ -1,10 +1,10 @@
 -- Reading a passed-over line byte by byte: the turns of the loops to its next byte, past blanks, and beside a word.
+use Rattle.std.specs.Prelude.{None, Option, Some, ℕ}
 use mathlib.Core.Path.{◌≡◌, refl, sym, ◌∙◌, subst}
 use mathlib.Core.Bool.{Bool, true, false}
 use mathlib.Core.List.{List, []}
 use Prim.Native.Nat.{ℕ, ◌+◌, ◌-◌, ◌≤◌, ◌<◌}
 use native.Mathlib.Numerals.{add-one}
-use native.Mathlib.Nat.{le_of_eq}
 use native.Mathlib.Omega.{arith}
 use lib.ListN.{length, get_or, drop, drop_of_length-le}
 use lib.Seq.{drop-cons}
@@ -15,12 +15,8 @@ use Rattle.rules.specs.Tokens.{without_blanks, plain_marks}
 use Rattle.rules.proofs.TextLaws.{same_true}
 use Rattle.text_lines.specs.declared.Signs.{Signs}
 use Rattle.text_lines.specs.declared.Spot.{Spot}
-use Rattle.text_lines.specs.declared.Step.{Step}
-use Rattle.text_lines.specs.declared.Step.TheVariants as step
 use Rattle.text_lines.specs.Stream.{marks_left, MarkIs, StepIs}
-use Rattle.locale_skips.specs.declared.Plain.{Plain}
-use Rattle.locale_skips.specs.declared.Plain.TheVariants.{Byte, End}
-use Rattle.locale_skips.specs.Words.{plain_left, run_in, after_run, PlainMark, PlainIs, Skips, RunIs}
+use Rattle.locale_skips.specs.Words.{plain_left, run_in, after_run, PlainMark, PlainIs, Skips, RunIs, ComparedIs}
 
 -- ## The next byte with no escape before it
 
@@ -30,15 +26,12 @@ pub record Escapes (g : Signs) (src : List ℕ) (p q : Spot) : Type 0 where
   pub from : p.at ≤ q.at
   pub to : q.at ≤ length src
 
-pub escapes-none : (g : Signs) (src : List ℕ) (p : Spot) → p.at ≤ length src → Escapes g src p p
-escapes-none g src p h = record { rest = refl; from = omega arith; to = h }
-
-module _ {g : Signs} {src : List ℕ} {p q : Spot} {s : Step} (v : Escapes g src p q) (w : StepIs g src q s) where
-  pub escapes-end : s ≡ step.End → plain_left g src p ≡ []
+module _ {g : Signs} {src : List ℕ} {p q : Spot} {s : Option (ℕ × Spot)} (v : Escapes g src p q) (w : StepIs g src q s) where
+  pub escapes-end : s ≡ None → plain_left g src p ≡ []
   unfolding plain_marks
   escapes-end e = let n : marks_left g src q ≡ [] = subst (StepIs g src q) e w in v.rest ∙ rw n
 
-  module _ {m : ℕ} {r : Spot} (e : s ≡ step.Mark m r) where
+  module _ {m : ℕ} {r : Spot} (e : s ≡ Some (m, r)) where
     mark : MarkIs g src q m r
     mark = subst (StepIs g src q) e w
 
@@ -52,9 +45,6 @@ module _ {g : Signs} {src : List ℕ} {p q : Spot} {s : Step} (v : Escapes g src
     escapes-more h =
         record { rest = v.rest ∙ rw (mark.marks, le-leb 256 m h); from = omega (arith, v.from, mark.on); to = mark.to }
 
-    pub escapes-less : length src - r.at < length src - q.at
-    escapes-less = let x = mark.on in let y = mark.to in omega arith
-
 -- ## Past blanks
 
 -- From p to q only blanks are passed.
@@ -62,18 +52,12 @@ pub record InBlanks (g : Signs) (src : List ℕ) (p q : Spot) : Type 0 where
   pub rest : without_blanks (plain_left g src p) ≡ without_blanks (plain_left g src q)
   pub to : q.at ≤ length src
 
-pub blanks-none : (g : Signs) (src : List ℕ) (p : Spot) → p.at ≤ length src → InBlanks g src p p
-blanks-none g src p h = record { rest = refl; to = h }
-
-pub plain-less : (g : Signs) (src : List ℕ) (q : Spot) {s : Plain} {m : ℕ} {r : Spot} → PlainIs g src q s → s ≡ Byte m r → length src - r.at < length src - q.at
-plain-less g src q {m = m} {r} w e = let x : PlainMark g src q m r = subst (PlainIs g src q) e w in omega (arith, x.on, x.to)
-
-module _ {g : Signs} {src : List ℕ} {p q : Spot} {s : Plain} (v : InBlanks g src p q) (w : PlainIs g src q s) where
-  pub blanks-end : s ≡ End → Skips g src p q
+module _ {g : Signs} {src : List ℕ} {p q : Spot} {s : Option (ℕ × Spot)} (v : InBlanks g src p q) (w : PlainIs g src q s) where
+  pub blanks-end : s ≡ None → Skips g src p q
   unfolding without_blanks
   blanks-end e = let n : plain_left g src q ≡ [] = subst (PlainIs g src q) e w in record { marks = sym (v.rest ∙ rw n); to = v.to }
 
-  module _ {m : ℕ} {r : Spot} (e : s ≡ Byte m r) {t : Bool} (b : t ≡ is_blank m) where
+  module _ {m : ℕ} {r : Spot} (e : s ≡ Some (m, r)) {t : Bool} (b : t ≡ is_blank m) where
     byte : PlainMark g src q m r
     byte = subst (PlainIs g src q) e w
 
@@ -94,38 +78,35 @@ pub record Alike (g : Signs) (src w : List ℕ) (p q : Spot) (i : ℕ) : Type 0 
   pub to : q.at ≤ length src
   pub short : i ≤ length w
 
-pub alike-none : (g : Signs) (src w : List ℕ) (p : Spot) → p.at ≤ length src → Alike g src w p p 0
-alike-none g src w p h = record { bytes = refl; after = refl; to = h; short = omega arith }
-
 -- where the run ends
 module _ {g : Signs} {src w : List ℕ} {p q : Spot} {i : ℕ} (v : Alike g src w p q i) (n : run_in (plain_left g src q) ≡ []) (a : after_run (plain_left g src q) ≡ plain_left g src q) where
-  ends_same : i ≡ length w → RunIs g src w p q
+  ends_same : length w ≤ i → RunIs g src w p q
   unfolding same
-  ends_same e =
+  ends_same h =
       record {
-        bytes = same_true (run_in (plain_left g src p)) w (v.bytes ∙ rw (n, drop_of_length-le w (le_of_eq (sym e))));
+        bytes = same_true (run_in (plain_left g src p)) w (v.bytes ∙ rw (n, drop_of_length-le w h));
         after = sym (v.after ∙ a);
         to = v.to;
       }
 
-  ends-other : (i ≡ length w → ⊥) → same (run_in (plain_left g src p)) w ≡ false
+  ends-other : i < length w → same (run_in (plain_left g src p)) w ≡ false
   unfolding same
-  ends-other h = let k = v.short in v.bytes ∙ rw (n, drop-cons w i 0 (omega arith))
+  ends-other h = v.bytes ∙ rw (n, drop-cons w i 0 h)
 
-module _ {g : Signs} {src w : List ℕ} {p q : Spot} {i : ℕ} {s : Plain} (v : Alike g src w p q i) (x : PlainIs g src q s) where
-  module _ (e : s ≡ End) where
+module _ {g : Signs} {src w : List ℕ} {p q : Spot} {i : ℕ} {s : Option (ℕ × Spot)} (v : Alike g src w p q i) (x : PlainIs g src q s) where
+  module _ (e : s ≡ None) where
     none : plain_left g src q ≡ []
     none = subst (PlainIs g src q) e x
 
-    pub alike_end : i ≡ length w → RunIs g src w p q
+    pub alike_end : length w ≤ i → RunIs g src w p q
     unfolding run_in after_run
     alike_end = ends_same v (rw none) (rw none)
 
-    pub alike-cut : (i ≡ length w → ⊥) → same (run_in (plain_left g src p)) w ≡ false
+    pub alike-cut : {o : Option Spot} → i < length w → o ≡ None → ComparedIs g src w p o
     unfolding run_in after_run
-    alike-cut = ends-other v (rw none) (rw none)
+    alike-cut {o} h z = subst (ComparedIs g src w p) (sym z) (ends-other v (rw none) (rw none) h)
 
-  module _ {m : ℕ} {r : Spot} (e : s ≡ Byte m r) {t : Bool} (b : t ≡ is_blank m) where
+  module _ {m : ℕ} {r : Spot} (e : s ≡ Some (m, r)) {t : Bool} (b : t ≡ is_blank m) where
     on : PlainMark g src q m r
     on = subst (PlainIs g src q) e x
 
@@ -133,11 +114,11 @@ module _ {g : Signs} {src w : List ℕ} {p q : Spot} {i : ℕ} {s : Plain} (v : 
       blank : is_blank m ≡ true
       blank = sym b ∙ f
 
-      pub alike-blank : i ≡ length w → RunIs g src w p q
+      pub alike-blank : length w ≤ i → RunIs g src w p q
       unfolding run_in after_run
       alike-blank = ends_same v (rw (on.marks, blank)) (rw (on.marks, blank))
 
-      pub alike-blank-cut : (i ≡ length w → ⊥) → same (run_in (plain_left g src p)) w ≡ false
+      pub alike-blank-cut : i < length w → same (run_in (plain_left g src p)) w ≡ false
       unfolding run_in after_run
       alike-blank-cut = ends-other v (rw (on.marks, blank)) (rw (on.marks, blank))
 

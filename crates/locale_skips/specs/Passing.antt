@@ -1,9 +1,10 @@
 -- Runs of lines that are passed over (Rattle.rules.specs.Source), for every state of the paper in which they stand.
-use Rattle.std.specs.Prelude.{◌≡◌, Bool, true, false, ◌||◌, List, ℕ, ◌+◌, ◌-◌, ◌≤◌, ◌<◌, length, drop}
+use Rattle.std.specs.Prelude.{◌≡◌, Bool, true, false, ◌||◌, List, ℕ, ◌+◌, ◌-◌, ◌≤◌, ◌<◌, length, drop, Err, Ok, Result}
 use Rattle.rules.specs.Text.{bytes, is}
 use Rattle.rules.specs.State.{between_categories, in_other_category, State, with_blocks, in_phase, to_phase, in_collate, gives}
 use Rattle.rules.specs.Conditionals.{blocks, is_unused}
 use Rattle.rules.specs.Source.{whole_line, line_outcome, Ended, lines_from}
+use Rattle.base_units.specs.declared.Refusal.{Refusal}
 use Rattle.base_units.specs.declared.Refusal.TheVariants.{Malformed}
 use Rattle.base_units.specs.Numbers.{number_of}
 use Rattle.text_lines.specs.declared.LineEnd.{LineEnd}
@@ -16,8 +17,6 @@ use Rattle.locale_skips.specs.declared.Kind.{Kind}
 use Rattle.locale_skips.specs.declared.Kind.TheVariants as kind
 use Rattle.locale_skips.specs.declared.Turn.{Turn}
 use Rattle.locale_skips.specs.declared.Turn.TheVariants as turn
-use Rattle.locale_skips.specs.declared.Skip.{Skip}
-use Rattle.locale_skips.specs.declared.Skip.TheVariants as skip
 use Rattle.locale_skips.specs.declared.Branch.{Branch}
 
 -- ## The states
@@ -125,9 +124,9 @@ pub record BranchStops (g : Signs) (src : List ℕ) (at number depth next n : �
 pub record BranchRefused (g : Signs) (src : List ℕ) (at number depth r l : ℕ) : Type 0 where
   pub run : (s : State) → Unused g depth s → Refuses (lines_from s number 0 (drop at src)) r l
 
-abbrev pub BranchIs : Signs → List ℕ → ℕ → ℕ → ℕ → Skip → Type 0
-BranchIs g src at number depth (skip.Stop next n) = BranchStops g src at number depth next n
-BranchIs g src at number depth (skip.Refused r l) = BranchRefused g src at number depth (number_of r) l
+abbrev pub BranchIs : Signs → List ℕ → ℕ → ℕ → ℕ → Result (ℕ × ℕ) (Refusal × ℕ) → Type 0
+BranchIs g src at number depth (Ok (next, n)) = BranchStops g src at number depth next n
+BranchIs g src at number depth (Err (r, l)) = BranchRefused g src at number depth (number_of r) l
 
 -- From the place `at` to i only lines of the branch are passed, with no inner chain open at first, and then `total` chains in all.
 pub record InBranch (g : Signs) (src : List ℕ) (at number depth i n total : ℕ) : Type 0 where
@@ -141,7 +140,7 @@ pub record InBranch (g : Signs) (src : List ℕ) (at number depth i n total : �
 pub record BranchStands (src : List ℕ) (s t : Branch) (i n : ℕ) : Type 0 where
   pub signs : t.signs ≡ s.signs
   pub depth : t.depth ≡ s.depth
-  pub answer : t.answer ≡ skip.Refused Malformed n
+  pub answer : t.answer ≡ Err (Malformed, n)
   pub passed : InBranch s.signs src s.next s.number s.depth i n t.total
 
 abbrev pub branch_reading : Reading Branch
@@ -185,9 +184,9 @@ pub record Missing (src : List ℕ) (at number r l : ℕ) : Type 0 where
   pub three : r ≡ 3
   pub line : l ≡ number
 
-abbrev pub AfterIs : Signs → List ℕ → ℕ → ℕ → Skip → Type 0
-AfterIs g src at number (skip.Stop next n) = Passed g src at number next n
-AfterIs g src at number (skip.Refused r l) = Missing src at number (number_of r) l
+abbrev pub AfterIs : Signs → List ℕ → ℕ → ℕ → Result (ℕ × ℕ) (Refusal × ℕ) → Type 0
+AfterIs g src at number (Ok (next, n)) = Passed g src at number next n
+AfterIs g src at number (Err (r, l)) = Missing src at number (number_of r) l
 
 -- Up to the line after its END line.
 pub record CategoryStops (g : Signs) (src : List ℕ) (at number : ℕ) (name : List ℕ) (next n : ℕ) : Type 0 where
@@ -200,6 +199,6 @@ pub record CategoryStops (g : Signs) (src : List ℕ) (at number : ℕ) (name : 
 pub record CategoryRefused (g : Signs) (src : List ℕ) (at number : ℕ) (name : List ℕ) (r l : ℕ) : Type 0 where
   pub run : (s : State) → InOther g name s → Refuses (lines_from s number 0 (drop at src)) r l
 
-abbrev pub CategoryIs : Signs → List ℕ → ℕ → ℕ → List ℕ → Skip → Type 0
-CategoryIs g src at number name (skip.Stop next n) = CategoryStops g src at number name next n
-CategoryIs g src at number name (skip.Refused r l) = CategoryRefused g src at number name (number_of r) l
+abbrev pub CategoryIs : Signs → List ℕ → ℕ → ℕ → List ℕ → Result (ℕ × ℕ) (Refusal × ℕ) → Type 0
+CategoryIs g src at number name (Ok (next, n)) = CategoryStops g src at number name next n
+CategoryIs g src at number name (Err (r, l)) = CategoryRefused g src at number name (number_of r) l

@@ -1,16 +1,12 @@
 -- The words of a line that is passed over (Rattle.rules.specs.Tokens), as code reads them from a spot on: its marks with no escape before
 -- them, and runs of those between blanks.
-use Rattle.std.specs.Prelude.{◌≡◌, Bool, false, ◌&&◌, List, [], ◌∷◌, ℕ, ◌≤◌, ◌<◌, length, get_or, eqb, if◌then◌else◌}
+use Rattle.std.specs.Prelude.{◌≡◌, Bool, false, ◌&&◌, List, [], ◌∷◌, ℕ, ◌≤◌, ◌<◌, length, get_or, eqb, if◌then◌else◌, None, Option, Some}
 use Rattle.rules.specs.Text.{same}
 use Rattle.rules.specs.Names.{is_blank}
 use Rattle.rules.specs.Tokens.{without_blanks, plain_marks, words_of}
 use Rattle.text_lines.specs.declared.Signs.{Signs}
 use Rattle.text_lines.specs.declared.Spot.{Spot}
 use Rattle.text_lines.specs.Stream.{marks_left}
-use Rattle.locale_skips.specs.declared.Plain.{Plain}
-use Rattle.locale_skips.specs.declared.Plain.TheVariants as plain
-use Rattle.locale_skips.specs.declared.Compared.{Compared}
-use Rattle.locale_skips.specs.declared.Compared.TheVariants as compared
 
 -- the marks still to come with no escape before them
 abbrev pub plain_left : Signs → List ℕ → Spot → List ℕ
@@ -46,9 +42,9 @@ pub record PlainMark (g : Signs) (src : List ℕ) (p : Spot) (m : ℕ) (q : Spot
   pub on : p.at < q.at
   pub to : q.at ≤ length src
 
-abbrev pub PlainIs : Signs → List ℕ → Spot → Plain → Type 0
-PlainIs g src p (plain.Byte m q) = PlainMark g src p m q
-PlainIs g src p plain.End = plain_left g src p ≡ []
+abbrev pub PlainIs : Signs → List ℕ → Spot → Option (ℕ × Spot) → Type 0
+PlainIs g src p (Some (m, q)) = PlainMark g src p m q
+PlainIs g src p None = plain_left g src p ≡ []
 
 -- The spot after the blanks that come next.
 pub record Skips (g : Signs) (src : List ℕ) (p q : Spot) : Type 0 where
@@ -61,9 +57,9 @@ pub record RunIs (g : Signs) (src w : List ℕ) (p q : Spot) : Type 0 where
   pub after : plain_left g src q ≡ after_run (plain_left g src p)
   pub to : q.at ≤ length src
 
-abbrev pub ComparedIs : Signs → List ℕ → List ℕ → Spot → Compared → Type 0
-ComparedIs g src w p (compared.Same q) = RunIs g src w p q
-ComparedIs g src w p compared.Other = same (run_in (plain_left g src p)) w ≡ false
+abbrev pub ComparedIs : Signs → List ℕ → List ℕ → Spot → Option Spot → Type 0
+ComparedIs g src w p (Some q) = RunIs g src w p q
+ComparedIs g src w p None = same (run_in (plain_left g src p)) w ≡ false
 
 -- the words still to come are these two
 abbrev pub are_two : List (List ℕ) → List ℕ → List ℕ → Bool

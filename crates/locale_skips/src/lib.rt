@@ -7,45 +7,26 @@ ghost use Rattle.locale_skips.specs.Words.{plain_left, words_left, first_word, a
 ghost use Rattle.text_tokens.specs.Left.{only_blanks};
 ghost use Rattle.text_lines.specs.Stream.{line_start};
 ghost use Rattle.text_reader.specs.Turns.{AtLine, Turns};
-ghost use Rattle.locale_skips.specs.Passing.{KindIs, Begins, TurnIs, BranchIs, BranchStands, branch_reading, Named, name_at, is_end, Reaches, AfterIs, CategoryIs};
+ghost use Rattle.locale_skips.specs.Passing.{opens, branches, KindIs, Begins, TurnIs, BranchIs, BranchStands, branch_reading, Named, name_at, is_end, Reaches, AfterIs, CategoryIs};
 
 use base_units::Refusal;
-use text_lines::{IN_PLAIN, Signs, Spot, Step, is_blank, next_mark};
+use text_lines::{IN_PLAIN, Signs, Spot, is_blank, next_mark};
 use text_reader::{Reader, line, line_at, line_number, past, place, reader_at, used_up};
 use text_tokens::copy_word;
 
-// The next byte of a line with no escape before it, and the spot after it.
-#[derive(Clone, Copy)]
-pub enum Plain {
-    Byte(u8, Spot),
-    End,
-}
-
-// Whether a run is a given one; the spot after it where it is.
-#[derive(Clone, Copy)]
-pub enum Compared {
-    Same(Spot),
-    Other,
-}
-
 // The next byte with no escape before it.
-fn plain_byte(src: &[u8], g: Signs, p: Spot) -> Plain
+fn plain_byte(src: &[u8], g: Signs, p: Spot) -> Option<(u8, Spot)>
     requires { p.at ≤ length src.now }
     ensures { PlainIs g src.now p result }
 {
     let mut q = p;
-    loop {
-        let s = next_mark(src, g, q);
-        match s {
-            Step::End => return Plain::End,
-            Step::Mark(m, r) => {
-                if m < 256 {
-                    return Plain::Byte(m as u8, r);
-                }
-                q = r;
-            }
+    while let Some((m, r)) = next_mark(src, g, q) {
+        if m < 256 {
+            return Some((m as u8, r));
         }
+        q = r;
     }
+    None
 }
 
 // The spot after the blanks that come next.
@@ -54,56 +35,31 @@ fn skip_blanks(src: &[u8], g: Signs, p: Spot) -> Spot
     ensures { Skips g src.now p result }
 {
     let mut q = p;
-    loop {
-        let s = plain_byte(src, g, q);
-        match s {
-            Plain::End => return q,
-            Plain::Byte(m, r) => {
-                if is_blank(m) {
-                    q = r;
-                } else {
-                    return q;
-                }
-            }
+    while let Some((m, r)) = plain_byte(src, g, q) {
+        if !is_blank(m) {
+            return q;
         }
+        q = r;
     }
+    q
 }
 
-// Whether the run at a spot is w.
-fn run_is(src: &[u8], g: Signs, p: Spot, w: &[u8]) -> Compared
+// The spot after the run at a spot, if that run is w.
+fn run_is(src: &[u8], g: Signs, p: Spot, w: &[u8]) -> Option<Spot>
     requires { p.at ≤ length src.now }
     ensures { ComparedIs g src.now w.now p result }
 {
     let mut q = p;
-    let mut i = 0;
-    loop {
-        let s = plain_byte(src, g, q);
-        match s {
-            Plain::End => {
-                if i == w.len() {
-                    return Compared::Same(q);
-                }
-                return Compared::Other;
-            }
-            Plain::Byte(m, r) => {
-                if is_blank(m) {
-                    if i == w.len() {
-                        return Compared::Same(q);
-                    }
-                    return Compared::Other;
-                }
-                if i < w.len() {
-                    if m == w[i] {
-                        i += 1;
-                        q = r;
-                    } else {
-                        return Compared::Other;
-                    }
-                } else {
-                    return Compared::Other;
-                }
-            }
+    for b in w {
+        let (m, r) = plain_byte(src, g, q)?;
+        if is_blank(m) || m != *b {
+            return None;
         }
+        q = r;
+    }
+    match plain_byte(src, g, q) {
+        Some((m, _)) if !is_blank(m) => None,
+        _ => Some(q),
     }
 }
 
@@ -112,12 +68,7 @@ fn first_word_is(src: &[u8], g: Signs, p: Spot, w: &[u8]) -> bool
     requires { p.at ≤ length src.now }
     ensures { result ≡ same (first_word g src.now p) w.now }
 {
-    let q = skip_blanks(src, g, p);
-    let c = run_is(src, g, q, w);
-    match c {
-        Compared::Same(_) => return true,
-        Compared::Other => return false,
-    }
+    run_is(src, g, skip_blanks(src, g, p), w).is_some()
 }
 
 // Whether only blanks are left.
@@ -125,12 +76,7 @@ fn only_blanks(src: &[u8], g: Signs, p: Spot) -> bool
     requires { p.at ≤ length src.now }
     ensures { result ≡ only_blanks (plain_left g src.now p) }
 {
-    let q = skip_blanks(src, g, p);
-    let s = plain_byte(src, g, q);
-    match s {
-        Plain::End => return true,
-        Plain::Byte(_, _) => return false,
-    }
+    plain_byte(src, g, skip_blanks(src, g, p)).is_none()
 }
 
 // Whether the words of the line are a and b alone, each of a byte or more.
@@ -139,18 +85,14 @@ fn words_are(src: &[u8], g: Signs, p: Spot, a: &[u8], b: &[u8]) -> bool
     ensures { result ≡ are_two (words_left g src.now p) a.now b.now }
 {
     let q = skip_blanks(src, g, p);
-    let c = run_is(src, g, q, a);
-    match c {
-        Compared::Other => return false,
-        Compared::Same(r) => {
-            let s = skip_blanks(src, g, r);
-            let d = run_is(src, g, s, b);
-            match d {
-                Compared::Other => return false,
-                Compared::Same(t) => return only_blanks(src, g, t),
-            }
-        }
-    }
+    let Some(r) = run_is(src, g, q, a) else {
+        return false;
+    };
+    let s = skip_blanks(src, g, r);
+    let Some(t) = run_is(src, g, s, b) else {
+        return false;
+    };
+    only_blanks(src, g, t)
 }
 
 // What a line is in an unused branch, by its first word.
@@ -176,11 +118,20 @@ pub enum Turn {
     Deep,
 }
 
-// Stop: the place and the number of the line that is to be read next. Refused: why, and at which line.
-#[derive(Clone, Copy)]
-pub enum Skip {
-    Stop(usize, usize),
-    Refused(Refusal, usize),
+// Whether the first word of the line opens an inner chain.
+fn opens(src: &[u8], g: Signs, p: Spot) -> bool
+    requires { p.at ≤ length src.now }
+    ensures { result ≡ opens (first_word g src.now p) }
+{
+    first_word_is(src, g, p, b"ifdef") || first_word_is(src, g, p, b"ifndef")
+}
+
+// Whether it begins another branch.
+fn branches(src: &[u8], g: Signs, p: Spot) -> bool
+    requires { p.at ≤ length src.now }
+    ensures { result ≡ branches (first_word g src.now p) }
+{
+    first_word_is(src, g, p, b"elif") || first_word_is(src, g, p, b"else")
 }
 
 // What the line at a place is in an unused branch.
@@ -189,26 +140,19 @@ fn line_kind(src: &[u8], g: Signs, at: usize) -> Kind
     ensures { KindIs (first_word g src.now (line_start at)) result }
 {
     let p = Spot {
-        at: at,
+        at,
         mode: IN_PLAIN,
         fresh: true,
     };
-    if first_word_is(src, g, p, b"ifdef") {
-        return Kind::Opens;
+    if opens(src, g, p) {
+        Kind::Opens
+    } else if first_word_is(src, g, p, b"endif") {
+        Kind::Closes
+    } else if branches(src, g, p) {
+        Kind::Branches
+    } else {
+        Kind::Other
     }
-    if first_word_is(src, g, p, b"ifndef") {
-        return Kind::Opens;
-    }
-    if first_word_is(src, g, p, b"endif") {
-        return Kind::Closes;
-    }
-    if first_word_is(src, g, p, b"elif") {
-        return Kind::Branches;
-    }
-    if first_word_is(src, g, p, b"else") {
-        return Kind::Branches;
-    }
-    Kind::Other
 }
 
 // What the line at a place does in an unused branch, where `depth` chains are open with the branch's own and `total` with the inner ones.
@@ -216,27 +160,14 @@ fn branch_turn(src: &[u8], g: Signs, at: usize, depth: usize, total: usize) -> T
     requires { (at ≤ length src.now) × (depth ≤ total) }
     ensures { TurnIs g src.now at depth total result }
 {
-    let k = line_kind(src, g, at);
-    match k {
-        Kind::Opens => {
-            if total < 8 {
-                return Turn::On(total + 1);
-            }
-            return Turn::Deep;
-        }
-        Kind::Closes => {
-            if total == depth {
-                return Turn::Own;
-            }
-            return Turn::On(total - 1);
-        }
-        Kind::Branches => {
-            if total == depth {
-                return Turn::Own;
-            }
-            return Turn::On(total);
-        }
-        Kind::Other => return Turn::On(total),
+    match line_kind(src, g, at) {
+        Kind::Opens if total < 8 => Turn::On(total + 1),
+        Kind::Opens => Turn::Deep,
+        Kind::Closes if total == depth => Turn::Own,
+        Kind::Closes => Turn::On(total - 1),
+        Kind::Branches if total == depth => Turn::Own,
+        Kind::Branches => Turn::On(total),
+        Kind::Other => Turn::On(total),
     }
 }
 
@@ -250,7 +181,7 @@ struct Branch {
     // the chains that are open, with the inner ones
     total: usize,
     // what is answered if it is over, or no line comes next
-    answer: Skip,
+    answer: Result<(usize, usize), (Refusal, usize)>,
     // the chains that are open, with the branch's own, and the two characters
     depth: usize,
     signs: Signs,
@@ -261,45 +192,32 @@ fn branch_line(src: &[u8], s: Branch, at: usize, number: usize) -> Branch
     requires { AtLine branch_reading src.now s at number }
     ensures { Turns branch_reading src.now s at number result }
 {
-    let g = s.signs;
-    let depth = s.depth;
-    let total = s.total;
-    let t = branch_turn(src, g, at, depth, total);
-    match t {
-        Turn::Own => {
-            return Branch {
-                over: true,
-                next: at,
-                number: number,
-                total: total,
-                answer: Skip::Stop(at, number),
-                depth: depth,
-                signs: g,
-            };
-        }
-        Turn::Deep => {
-            return Branch {
-                over: true,
-                next: at,
-                number: number,
-                total: total,
-                answer: Skip::Refused(Refusal::TooMany, number),
-                depth: depth,
-                signs: g,
-            };
-        }
-        Turn::On(o) => {
-            let e = line_at(src, g, at);
+    match branch_turn(src, s.signs, at, s.depth, s.total) {
+        Turn::Own => Branch {
+            over: true,
+            next: at,
+            number,
+            answer: Ok((at, number)),
+            ..s
+        },
+        Turn::Deep => Branch {
+            over: true,
+            next: at,
+            number,
+            answer: Err((Refusal::TooMany, number)),
+            ..s
+        },
+        Turn::On(total) => {
+            let e = line_at(src, s.signs, at);
             let n = number + e.feeds;
-            return Branch {
+            Branch {
                 over: false,
                 next: e.next,
                 number: n,
-                total: o,
-                answer: Skip::Refused(Refusal::Malformed, n),
-                depth: depth,
-                signs: g,
-            };
+                total,
+                answer: Err((Refusal::Malformed, n)),
+                ..s
+            }
         }
     }
 }
@@ -322,21 +240,26 @@ fn branch_lines(src: &[u8], s: Branch) -> Branch
 }
 
 // The rest of an unused branch, where `depth` chains are open: the next line of its own chain.
-pub fn skip_branch(src: &[u8], g: Signs, at: usize, number: usize, depth: usize) -> Skip
+pub fn skip_branch(
+    src: &[u8],
+    g: Signs,
+    at: usize,
+    number: usize,
+    depth: usize,
+) -> Result<(usize, usize), (Refusal, usize)>
     requires { Begins src.now at number }
     ensures { BranchIs g src.now at number depth result }
 {
     let s = Branch {
         over: false,
         next: at,
-        number: number,
+        number,
         total: depth,
-        answer: Skip::Refused(Refusal::Malformed, number),
-        depth: depth,
+        answer: Err((Refusal::Malformed, number)),
+        depth,
         signs: g,
     };
-    let t = branch_lines(src, s);
-    t.answer
+    branch_lines(src, s).answer
 }
 
 // Whether the line at a place is the END line of the category of this name.
@@ -345,7 +268,7 @@ fn is_end(src: &[u8], g: Signs, at: usize, name: &[u8]) -> bool
     ensures { result ≡ is_end g src.now at name.now }
 {
     let p = Spot {
-        at: at,
+        at,
         mode: IN_PLAIN,
         fresh: true,
     };
@@ -368,19 +291,31 @@ fn to_end<'a, 'b>(r: Reader<'a>, g: Signs, name: &'b [u8]) -> Reader<'a>
 }
 
 // The line after the one at a place, if one stands there.
-fn line_after(src: &[u8], g: Signs, at: usize, number: usize) -> Skip
+fn line_after(
+    src: &[u8],
+    g: Signs,
+    at: usize,
+    number: usize,
+) -> Result<(usize, usize), (Refusal, usize)>
     requires { Begins src.now at number }
     ensures { AfterIs g src.now at number result }
 {
     if at < src.len() {
         let e = line_at(src, g, at);
-        return Skip::Stop(e.next, number + e.feeds);
+        Ok((e.next, number + e.feeds))
+    } else {
+        Err((Refusal::Malformed, number))
     }
-    Skip::Refused(Refusal::Malformed, number)
 }
 
 // The rest of another category of this name: the line after its END line.
-fn skip_named(src: &[u8], g: Signs, at: usize, number: usize, name: &[u8]) -> Skip
+fn skip_named(
+    src: &[u8],
+    g: Signs,
+    at: usize,
+    number: usize,
+    name: &[u8],
+) -> Result<(usize, usize), (Refusal, usize)>
     requires { Begins src.now at number × (0 < length name.now) }
     ensures { CategoryIs g src.now at number name.now result }
 {
@@ -396,7 +331,7 @@ fn skip_copied(
     number: usize,
     category: usize,
     room: &mut [u8],
-) -> Skip
+) -> Result<(usize, usize), (Refusal, usize)>
     requires { Begins src.now at number × Named g src.now category × (32 ≤ length room.old) }
     ensures { CategoryIs g src.now at number (name_at g src.now category) result }
 {
@@ -410,7 +345,13 @@ fn skip_copied(
 }
 
 // The rest of another category, whose name stands at `category`: the line after its END line.
-pub fn skip_category(src: &[u8], g: Signs, at: usize, number: usize, category: usize) -> Skip
+pub fn skip_category(
+    src: &[u8],
+    g: Signs,
+    at: usize,
+    number: usize,
+    category: usize,
+) -> Result<(usize, usize), (Refusal, usize)>
     requires { Begins src.now at number × Named g src.now category }
     ensures { CategoryIs g src.now at number (name_at g src.now category) result }
 {

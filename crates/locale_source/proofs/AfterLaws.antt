@@ -1,5 +1,6 @@
 -- The lines after LC_COLLATE: from the ends of the lines outside it to what the whole source is.
-use mathlib.Core.Path.{◌≡◌, refl, subst}
+use Rattle.std.specs.Prelude.{Err, Ok, Result}
+use mathlib.Core.Path.{◌≡◌, refl, ap, ◌∙◌, subst}
 use mathlib.Core.Bool.{Bool, true, false}
 use mathlib.Core.List.{List}
 use Prim.Native.Nat.{ℕ}
@@ -15,19 +16,23 @@ use Rattle.locale_outside.proofs.EndLaws.{ends-whole, ends-early}
 use Rattle.locale_sheet.specs.declared.Sheet.{Sheet}
 use Rattle.locale_source.specs.Whole.{EndsAfter, RefusedAfter}
 
-module _ (c : Chars) (src : List ℕ) (at number : ℕ) (o : Outers) (v : OutersIs c false true src at number o) where
+-- an answer by what it holds
+pub answered : {o : Result Outers (Refusal × ℕ)} {x y : Outers} → o ≡ Ok x → x ≡ y → o ≡ Ok y
+answered e f = e ∙ ap (λ (x : Outers). Ok x) f
+
+module _ (c : Chars) (src : List ℕ) (at number : ℕ) (o : Result Outers (Refusal × ℕ)) (v : OutersIs c false true src at number o) where
   -- it is not opened twice
-  pub after-collate : {h : Chars} {next n r l : ℕ} → o ≡ outers.Collate h next n → RefusedAfter c src at number r l
+  pub after-collate : {h : Chars} {next n r l : ℕ} → o ≡ Ok (outers.Collate h next n) → RefusedAfter c src at number r l
   after-collate {h} {next} {n} e =
       let y : Opens c false true src at number h next n = subst (OutersIs c false true src at number) e v in
       clash {a = true} refl y.once
 
-  pub after-refused : {r : Refusal} {l : ℕ} → o ≡ outers.Refused r l → RefusedAfter c src at number (number_of r) l
+  pub after-refused : {r : Refusal} {l : ℕ} → o ≡ Err (r, l) → RefusedAfter c src at number (number_of r) l
   after-refused {r} {l} e =
       let y : Fails c false true src at number (number_of r) l = subst (OutersIs c false true src at number) e v in
       record { run = y.run }
 
-  module _ {h : Chars} {first : Bool} {n : ℕ} (e : o ≡ outers.End h first n) where
+  module _ {h : Chars} {first : Bool} {n : ℕ} (e : o ≡ Ok (outers.End h first n)) where
     there : EndsAll c false true src at number h first n
     there = subst (OutersIs c false true src at number) e v
 

@@ -1,4 +1,5 @@
 -- A whole source: its lines before LC_COLLATE, its own and those after it, put together.
+use Rattle.std.specs.Prelude.{Err, Ok, Result, ℕ}
 use mathlib.Core.Path.{◌≡◌, refl, sym, ap, ◌∙◌, subst}
 use mathlib.Core.Bool.{Bool, true, false}
 use mathlib.Core.List.{List, []}
@@ -23,11 +24,7 @@ use Rattle.locale_skips.proofs.LineRuns.{refuses-from}
 use Rattle.locale_sheet.specs.declared.Sheet.{Sheet}
 use Rattle.locale_sheet.specs.Sheets.{Open}
 use Rattle.locale_category.specs.Blocks.{GoesOut}
-use Rattle.locale_category.specs.declared.Category.{Category}
-use Rattle.locale_category.specs.declared.Category.TheVariants as category
 use Rattle.locale_category.specs.Category.{Begun, Ready, ClosedAt, RefusedAt, CategoryIs}
-use Rattle.locale_source.specs.declared.Source.{Source}
-use Rattle.locale_source.specs.declared.Source.TheVariants as source
 use Rattle.locale_source.specs.Whole.{Empty, RefusedSource, SourceIs, AfterIs, RefusedInside, InsideIs}
 
 -- ## The lines from the one after LC_COLLATE on
@@ -41,13 +38,13 @@ stands-behind : {c : Chars} {g : Signs} {src w : List ℕ} {sh : Sheet} {at : �
     → Stands c false true (to_phase s between_categories)
 stands-behind o e = record { outside = refl; chars = e; before = refl; collated = o.collated; chains = o.chains }
 
-module _ (c : Chars) (src : List ℕ) (at number : ℕ) (w' : List ℕ) (k : Category) (q : CategoryIs (signs_of c) src at number w' k) where
-  pub inside-refused : {r : Refusal} {l : ℕ} → k ≡ category.Refused r l → RefusedInside c src at number (number_of r) l
+module _ (c : Chars) (src : List ℕ) (at number : ℕ) (w' : List ℕ) (k : Result (Sheet × ℕ × ℕ) (Refusal × ℕ)) (q : CategoryIs (signs_of c) src at number w' k) where
+  pub inside-refused : {r : Refusal} {l : ℕ} → k ≡ Err (r, l) → RefusedInside c src at number (number_of r) l
   inside-refused {r} {l} e =
       let y : RefusedAt (signs_of c) src at number (number_of r) l = subst (CategoryIs (signs_of c) src at number w') e q in
       record { run = y.runs (collated_by c start) (begun c) }
 
-  module _ (sh : Sheet) (next n : ℕ) (e : k ≡ category.Closed sh next n) where
+  module _ (sh : Sheet) (next n : ℕ) (e : k ≡ Ok (sh, next, n)) where
     closed : ClosedAt (signs_of c) src at number w' sh next n
     closed = subst (CategoryIs (signs_of c) src at number w') e q
 
@@ -57,8 +54,8 @@ module _ (c : Chars) (src : List ℕ) (at number : ℕ) (w' : List ℕ) (k : Cat
     pub after-begins : Begins src next n
     after-begins = record { inside = closed.reached.to; few = closed.reached.few }
 
-    pub inside-after : (r : Source) → AfterIs c src sh next n r → InsideIs c src at number w' r
-    inside-after (source.Lines g x) y =
+    pub inside-after : (r : Result (Signs × Sheet) (Refusal × ℕ)) → AfterIs c src sh next n r → InsideIs c src at number w' r
+    inside-after (Ok (g, x)) y =
         let t = y.ends (to_phase out.after between_categories) (stands-behind out.held out.chars) in
         rw (y.signs, y.sheet)
         (record {
@@ -71,7 +68,7 @@ module _ (c : Chars) (src : List ℕ) (at number : ℕ) (w' : List ℕ) (k : Cat
           declared = t.keeps.declared;
           ordered = t.keeps.ordered;
         })
-    inside-after (source.Refused r l) y =
+    inside-after (Err (r, l)) y =
         record { run = refuses-from out.run (y.run (to_phase out.after between_categories) (stands-behind out.held out.chars)) }
 
 -- ## All lines
@@ -90,19 +87,19 @@ start-begins src = record { inside = omega arith; few = omega arith }
 stands-start : (c : Chars) → chars_as c ≡ paper.defaults → Stands c true false start
 stands-start c e = record { outside = refl; chars = sym e; before = refl; collated = refl; chains = refl }
 
-module _ (c : Chars) (e : chars_as c ≡ paper.defaults) (src : List ℕ) (o : Outers) (v : OutersIs c true false src 0 1 o) where
-  pub source-refused : {r : Refusal} {l : ℕ} → o ≡ outers.Refused r l → RefusedSource src (number_of r) l
+module _ (c : Chars) (e : chars_as c ≡ paper.defaults) (src : List ℕ) (o : Result Outers (Refusal × ℕ)) (v : OutersIs c true false src 0 1 o) where
+  pub source-refused : {r : Refusal} {l : ℕ} → o ≡ Err (r, l) → RefusedSource src (number_of r) l
   source-refused {r} {l} f =
       let y : Fails c true false src 0 1 (number_of r) l = subst (OutersIs c true false src 0 1) f v in
       record { run = y.run start (stands-start c e) }
 
   -- LC_COLLATE is missing
-  pub source-without : {h : Chars} {first : Bool} {n : ℕ} → o ≡ outers.End h first n → RefusedSource src 3 n
+  pub source-without : {h : Chars} {first : Bool} {n : ℕ} → o ≡ Ok (outers.End h first n) → RefusedSource src 3 n
   source-without {h} {first} {n} f =
       let y : EndsAll c true false src 0 1 h first n = subst (OutersIs c true false src 0 1) f v in
       record { run = ends-without (y.ends start (stands-start c e)) refl }
 
-  module _ (h : Chars) (at n : ℕ) (f : o ≡ outers.Collate h at n) where
+  module _ (h : Chars) (at n : ℕ) (f : o ≡ Ok (outers.Collate h at n)) where
     opens : Opens c true false src 0 1 h at n
     opens = subst (OutersIs c true false src 0 1) f v
 
@@ -112,8 +109,8 @@ module _ (c : Chars) (e : chars_as c ≡ paper.defaults) (src : List ℕ) (o : O
     pub inside-visible : Visible (signs_of h)
     inside-visible = opens.visible
 
-    pub source-inside : (w' : List ℕ) (r : Source) → InsideIs h src at n w' r → SourceIs src w' r
-    source-inside w' (source.Lines g sh) y = record {
+    pub source-inside : (w' : List ℕ) (r : Result (Signs × Sheet) (Refusal × ℕ)) → InsideIs h src at n w' r → SourceIs src w' r
+    source-inside w' (Ok (g, sh)) y = record {
       place = y.place;
       after = y.after;
       held = y.held;
@@ -123,4 +120,4 @@ module _ (c : Chars) (e : chars_as c ≡ paper.defaults) (src : List ℕ) (o : O
       declared = y.declared;
       ordered = y.ordered;
     }
-    source-inside w' (source.Refused r l) y = record { run = refuses-from (opens.run start (stands-start c e)) y.run }
+    source-inside w' (Err (r, l)) y = record { run = refuses-from (opens.run start (stands-start c e)) y.run }

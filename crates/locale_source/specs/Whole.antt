@@ -1,5 +1,5 @@
 -- All lines of a locale source, as the paper runs over them (Rattle.rules.specs.Source).
-use Rattle.std.specs.Prelude.{◌≡◌, true, false, List, [], ℕ, length, drop, replicate, eqb}
+use Rattle.std.specs.Prelude.{◌≡◌, true, false, List, [], ℕ, length, drop, replicate, eqb, Err, Ok, Result}
 use Rattle.rules.specs.State.{before_order, State, start}
 use Rattle.rules.specs.Source.{ended, lines_from}
 use Rattle.base_units.specs.Numbers.{number_of}
@@ -11,8 +11,7 @@ use Rattle.locale_skips.specs.Passing.{Refuses}
 use Rattle.work_store.specs.Store.{Roomy}
 use Rattle.locale_sheet.specs.declared.Sheet.{Sheet}
 use Rattle.locale_sheet.specs.Sheets.{Open}
-use Rattle.locale_source.specs.declared.Source.{Source}
-use Rattle.locale_source.specs.declared.Source.TheVariants as source
+use Rattle.base_units.specs.declared.Refusal.{Refusal}
 
 -- The work area is long enough and holds nothing.
 pub record Empty (src w : List ℕ) : Type 0 where
@@ -34,9 +33,9 @@ pub record WholeSource (src w' : List ℕ) (g : Signs) (sh : Sheet) : Type 0 whe
 pub record RefusedSource (src : List ℕ) (r l : ℕ) : Type 0 where
   pub run : Refuses (lines_from start 1 0 src) r l
 
-abbrev pub SourceIs : List ℕ → List ℕ → Source → Type 0
-SourceIs src w' (source.Lines g sh) = WholeSource src w' g sh
-SourceIs src w' (source.Refused r l) = RefusedSource src (number_of r) l
+abbrev pub SourceIs : List ℕ → List ℕ → Result (Signs × Sheet) (Refusal × ℕ) → Type 0
+SourceIs src w' (Ok (g, sh)) = WholeSource src w' g sh
+SourceIs src w' (Err (r, l)) = RefusedSource src (number_of r) l
 
 -- ## The lines after LC_COLLATE
 
@@ -56,9 +55,9 @@ pub record EndsAfter (c : Chars) (src : List ℕ) (sh : Sheet) (at number : ℕ)
 pub record RefusedAfter (c : Chars) (src : List ℕ) (at number r l : ℕ) : Type 0 where
   pub run : (s : State) → Stands c false true s → Refuses (lines_from s number 0 (drop at src)) r l
 
-abbrev pub AfterIs : Chars → List ℕ → Sheet → ℕ → ℕ → Source → Type 0
-AfterIs c src sh at number (source.Lines g x) = EndsAfter c src sh at number g x
-AfterIs c src sh at number (source.Refused r l) = RefusedAfter c src at number (number_of r) l
+abbrev pub AfterIs : Chars → List ℕ → Sheet → ℕ → ℕ → Result (Signs × Sheet) (Refusal × ℕ) → Type 0
+AfterIs c src sh at number (Ok (g, x)) = EndsAfter c src sh at number g x
+AfterIs c src sh at number (Err (r, l)) = RefusedAfter c src at number (number_of r) l
 
 -- ## The lines from the one after LC_COLLATE on
 
@@ -77,6 +76,6 @@ pub record WholeInside (c : Chars) (src : List ℕ) (at number : ℕ) (w' : List
 pub record RefusedInside (c : Chars) (src : List ℕ) (at number r l : ℕ) : Type 0 where
   pub run : Refuses (lines_from (collated_by c start) number 0 (drop at src)) r l
 
-abbrev pub InsideIs : Chars → List ℕ → ℕ → ℕ → List ℕ → Source → Type 0
-InsideIs c src at number w' (source.Lines g sh) = WholeInside c src at number w' g sh
-InsideIs c src at number w' (source.Refused r l) = RefusedInside c src at number (number_of r) l
+abbrev pub InsideIs : Chars → List ℕ → ℕ → ℕ → List ℕ → Result (Signs × Sheet) (Refusal × ℕ) → Type 0
+InsideIs c src at number w' (Ok (g, sh)) = WholeInside c src at number w' g sh
+InsideIs c src at number w' (Err (r, l)) = RefusedInside c src at number (number_of r) l

@@ -8,43 +8,47 @@ ghost use Rattle.locale_category.specs.Category.{Ready};
 ghost use Rattle.locale_source.specs.Whole.{Empty, AfterIs, InsideIs, SourceIs};
 
 use base_units::Refusal;
-use locale_category::{Category, category_lines};
+use locale_category::category_lines;
 use locale_outside::{Outers, outer_lines};
 use locale_sheet::Sheet;
 use text_lines::Signs;
 use text_specials::{Chars, start};
 
-// What the lines of a source leave beside the work area: the two characters in LC_COLLATE, and the sheet at its end; or a refusal, and its line.
-#[derive(Clone, Copy)]
-pub enum Source {
-    Lines(Signs, Sheet),
-    Refused(Refusal, usize),
-}
-
 // The lines after LC_COLLATE, which has left the sheet.
-fn lines_after(src: &[u8], c: Chars, sh: Sheet, at: usize, number: usize) -> Source
+fn lines_after(
+    src: &[u8],
+    c: Chars,
+    sh: Sheet,
+    at: usize,
+    number: usize,
+) -> Result<(Signs, Sheet), (Refusal, usize)>
     requires { Begins src.now at number × Visible (signs_of c) }
     ensures { AfterIs c src.now sh at number result }
 {
-    let o = outer_lines(src, c, false, true, at, number);
-    match o {
-        Outers::Collate(_, _, n) => return Source::Refused(Refusal::Malformed, n),
+    match outer_lines(src, c, false, true, at, number)? {
+        Outers::Collate(_, _, n) => Err((Refusal::Malformed, n)),
         Outers::End(_, first, n) => {
             if first {
-                return Source::Refused(Refusal::Malformed, n);
+                Err((Refusal::Malformed, n))
+            } else {
+                let g = Signs {
+                    comment: c.comment,
+                    escape: c.escape,
+                };
+                Ok((g, sh))
             }
-            let g = Signs {
-                comment: c.comment,
-                escape: c.escape,
-            };
-            return Source::Lines(g, sh);
         }
-        Outers::Refused(r, l) => return Source::Refused(r, l),
     }
 }
 
 // The lines from the one after LC_COLLATE on.
-fn lines_in(src: &[u8], c: Chars, work: &mut [u32], at: usize, number: usize) -> Source
+fn lines_in(
+    src: &[u8],
+    c: Chars,
+    work: &mut [u32],
+    at: usize,
+    number: usize,
+) -> Result<(Signs, Sheet), (Refusal, usize)>
     requires { Ready src.now work.old at number × Visible (signs_of c) }
     ensures { InsideIs c src.now at number work.new result }
 {
@@ -52,23 +56,20 @@ fn lines_in(src: &[u8], c: Chars, work: &mut [u32], at: usize, number: usize) ->
         comment: c.comment,
         escape: c.escape,
     };
-    let k = category_lines(src, g, work, at, number);
-    match k {
-        Category::Closed(sh, next, n) => return lines_after(src, c, sh, next, n),
-        Category::Refused(r, l) => return Source::Refused(r, l),
+    // no `?`: must-fail/ takes the line of the refusal out of the second arm
+    match category_lines(src, g, work, at, number) {
+        Ok((sh, next, n)) => lines_after(src, c, sh, next, n),
+        Err((r, l)) => Err((r, l)),
     }
 }
 
 // All lines, with an empty work area.
-pub fn source_lines(src: &[u8], work: &mut [u32]) -> Source
+pub fn source_lines(src: &[u8], work: &mut [u32]) -> Result<(Signs, Sheet), (Refusal, usize)>
     requires { Empty src.now work.old }
     ensures { SourceIs src.now work.new result }
 {
-    let c = start();
-    let o = outer_lines(src, c, true, false, 0, 1);
-    match o {
-        Outers::Collate(h, at, n) => return lines_in(src, h, work, at, n),
-        Outers::End(_, _, n) => return Source::Refused(Refusal::Malformed, n),
-        Outers::Refused(r, l) => return Source::Refused(r, l),
+    match outer_lines(src, start(), true, false, 0, 1)? {
+        Outers::Collate(h, at, n) => lines_in(src, h, work, at, n),
+        Outers::End(_, _, n) => Err((Refusal::Malformed, n)),
     }
 }

@@ -1,4 +1,5 @@
 -- The operands one after the other: their lowest refusal, and how many they are.
+use Rattle.std.specs.Prelude.{None, Option, Some}
 use mathlib.Core.Path.{◌≡◌, refl, sym, ap, ◌∙◌, subst}
 use mathlib.Core.Bool.{Bool, true, false, false≢true}
 use mathlib.Core.List.{List, [], ◌∷◌}
@@ -13,6 +14,9 @@ use Rattle.rules.specs.Lines.{in_plain}
 use Rattle.rules.specs.Tokens.{broken, Token, token, operands, tokens_refusal}
 use Rattle.rules.specs.State.{Declaration, Subject}
 use Rattle.rules.specs.OrderLines.{split_at, operand_list, stands, weights_refusal}
+use Rattle.base_units.specs.declared.Refusal.{Refusal}
+use Rattle.base_units.specs.declared.Refusal.TheVariants.{Malformed}
+use Rattle.base_units.specs.Numbers.{number_or_none}
 use Rattle.text_lines.specs.declared.Signs.{Signs}
 use Rattle.text_lines.specs.declared.Spot.{Spot}
 use Rattle.text_tokens.specs.Left.{tokens_left}
@@ -53,40 +57,40 @@ counting-none g src w p h m =
     }
 
 module _ (g : Signs) (src w : List ℕ) (p q : Spot) (refusal n : ℕ) (v : Counting g src w p q refusal n) {s : Turn} (a : TurnIs g src w q s) where
-  module _ {f : ℕ} {d : Spot} (e : s ≡ turn.More f d) where
-    more : MoreRefusals g src w q f d
+  module _ {f : Option Refusal} {d : Spot} (e : s ≡ turn.More f d) where
+    more : MoreRefusals g src w q (number_or_none f) d
     more = subst (TurnIs g src w q) e a
 
     pub counting-less : length src - d.at < length src - q.at
     counting-less = let x = more.less in let y = more.to in omega arith
 
-    pub counting_more : {r : ℕ} → r ≡ lower refusal f → Counting g src w p d r (n + 1)
+    pub counting_more : {r : ℕ} → r ≡ lower refusal (number_or_none f) → Counting g src w p d r (n + 1)
     counting_more {r} k =
         record {
           rest = λ m ds h.
               v.rest m ds h
               ∙ ap (λ (x : ℕ). lower refusal x) (more.refusal m ds h)
-              ∙ sym (lower-assoc refusal f (refusal_of (stands_in ds) (operands_left g src false d)))
+              ∙ sym (lower-assoc refusal (number_or_none f) (refusal_of (stands_in ds) (operands_left g src false d)))
               ∙ ap (λ (x : ℕ). lower x (refusal_of (stands_in ds) (operands_left g src false d))) (sym k);
           many = (let x = v.many in let y = more.many in omega arith);
-          bound = ap (λ (x : ℕ). lower x 3) k ∙ lower-assoc refusal f 3 ∙ ap (λ (x : ℕ). lower refusal x) more.bound ∙ v.bound;
+          bound = ap (λ (x : ℕ). lower x 3) k ∙ lower-assoc refusal (number_or_none f) 3 ∙ ap (λ (x : ℕ). lower refusal x) more.bound ∙ v.bound;
           moved = (let x = v.moved in let y = more.less in omega arith);
           mode = more.mode;
           to = more.to;
         }
 
-  pub counting-last : {f r : ℕ} → s ≡ turn.Last f → r ≡ lower refusal f
+  pub counting-last : {f r : Option Refusal} → s ≡ turn.Last f → number_or_none r ≡ lower refusal (number_or_none f)
       → Counts g src w (operands_left g src false p) (split_at [] (operands_left g src false p)) (record { refusal = r; operands = n + 1 })
   unfolding refusal_of many_of
   counting-last {f} {r} e k =
-      let z : LastRefusal g src w q f = subst (TurnIs g src w q) e a in
+      let z : LastRefusal g src w q (number_or_none f) = subst (TurnIs g src w q) e a in
       record {
         refusal = λ m ds h. k ∙ sym (v.rest m ds h ∙ ap (λ (x : ℕ). lower refusal x) (z.refusal m ds h));
         many = λ u. sym (v.many ∙ ap (λ (x : ℕ). n + x) z.many);
       }
 
   pub counting-bad : s ≡ turn.Bad
-      → Counts g src w (operands_left g src false p) (split_at [] (operands_left g src false p)) (record { refusal = 3; operands = n })
+      → Counts g src w (operands_left g src false p) (split_at [] (operands_left g src false p)) (record { refusal = Some Malformed; operands = n })
   unfolding refusal_of
   counting-bad e =
       let z : BadRefusal g src w q = subst (TurnIs g src w q) e a in
@@ -98,7 +102,7 @@ module _ (g : Signs) (src w : List ℕ) (p q : Spot) (refusal n : ℕ) (v : Coun
 -- ## A whole line
 
 module _ (g : Signs) (src w : List ℕ) where
-  none : (os : List Token) → os ≡ [] → Counts g src w os (operand_list os) (record { refusal = 0; operands = 0 })
+  none : (os : List Token) → os ≡ [] → Counts g src w os (operand_list os) (record { refusal = None; operands = 0 })
   unfolding tokens_refusal lower
   none os e =
       record {
@@ -106,7 +110,7 @@ module _ (g : Signs) (src w : List ℕ) where
         many = λ u. sym (ap (λ (ts : List Token). length (operand_list ts)) e);
       }
 
-  malformed : (os : List Token) → os ≡ token broken [] [] ∷ [] → Counts g src w os (operand_list os) (record { refusal = 3; operands = 0 })
+  malformed : (os : List Token) → os ≡ token broken [] [] ∷ [] → Counts g src w os (operand_list os) (record { refusal = Some Malformed; operands = 0 })
   malformed os e =
       record {
         refusal = λ m ds h.
@@ -121,10 +125,10 @@ module _ (g : Signs) (src w : List ℕ) where
   listed (t ∷ ts) h = refl
 
   module _ (p : Spot) {a : After} (v : AfterIs g src p a) where
-    pub counts-none : a ≡ after.None → Counts g src w (operands (tokens_left g src p)) (operand_list (operands (tokens_left g src p))) (record { refusal = 0; operands = 0 })
+    pub counts-none : a ≡ after.None → Counts g src w (operands (tokens_left g src p)) (operand_list (operands (tokens_left g src p))) (record { refusal = None; operands = 0 })
     counts-none e = none (operands (tokens_left g src p)) (subst (AfterIs g src p) e v)
 
-    pub counts-malformed : a ≡ after.Broken → Counts g src w (operands (tokens_left g src p)) (operand_list (operands (tokens_left g src p))) (record { refusal = 3; operands = 0 })
+    pub counts-malformed : a ≡ after.Broken → Counts g src w (operands (tokens_left g src p)) (operand_list (operands (tokens_left g src p))) (record { refusal = Some Malformed; operands = 0 })
     counts-malformed e = malformed (operands (tokens_left g src p)) (subst (AfterIs g src p) e v)
 
     from : {x : Spot} → a ≡ after.Operands x → OperandsFrom g src p x
@@ -137,7 +141,7 @@ module _ (g : Signs) (src w : List ℕ) where
     counts-mode e = (from e).mode
 
     module _ {x : Spot} (e : a ≡ after.Operands x) {b : Bool} (f : b ≡ eqb (length (operands_left g src false x)) 0) where
-      pub counts-empty : b ≡ true → Counts g src w (operands (tokens_left g src p)) (operand_list (operands (tokens_left g src p))) (record { refusal = 0; operands = 0 })
+      pub counts-empty : b ≡ true → Counts g src w (operands (tokens_left g src p)) (operand_list (operands (tokens_left g src p))) (record { refusal = None; operands = 0 })
       counts-empty k =
           let os = operands_left g src false x in
           none (operands (tokens_left g src p)) ((from e).operands ∙ length-zero os (eqb-true (length os) 0 (sym f ∙ k)))

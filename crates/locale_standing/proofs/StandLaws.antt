@@ -1,4 +1,5 @@
 -- Whether names stand: one name, the names in quotes one after the other, and those of a token.
+use Rattle.std.specs.Prelude.{None, Option, Some, ℕ, is_some}
 use mathlib.Core.Path.{◌≡◌, refl, sym, ap, ◌∙◌, subst}
 use mathlib.Core.Bool.{Bool, true, false, ◌&&◌}
 use mathlib.Core.List.{List, [], ◌∷◌, map}
@@ -12,24 +13,17 @@ use Rattle.rules.specs.Lines.{quoted}
 use Rattle.rules.specs.State.{Subject, character, named}
 use Rattle.rules.specs.OrderLines.{subject_of}
 use Rattle.rules.proofs.TextLaws.{one_of-head-false, one_of-tail-false}
+use Rattle.base_units.specs.declared.Refusal.{Refusal}
 use Rattle.text_lines.specs.declared.Signs.{Signs}
 use Rattle.text_lines.specs.declared.Spot.{Spot}
 use Rattle.text_lines.specs.Stream.{marks_left}
 use Rattle.text_lines.proofs.ByteLaws.{after-inner-close}
 use Rattle.text_tokens.specs.declared.Tok.{Tok}
-use Rattle.text_tokens.specs.declared.Closing.{Closing}
-use Rattle.text_tokens.specs.declared.Closing.TheVariants as closing
 use Rattle.text_tokens.specs.Left.{is_close, is_inside, after_name, names_from, names_in, NameEnds, ClosingIs}
 use Rattle.base_units.specs.declared.CodePoint.{CodePoint}
-use Rattle.text_names.specs.declared.Code.{Code}
-use Rattle.text_names.specs.declared.Code.TheVariants.{Char, Other}
-use Rattle.text_names.specs.declared.Named.{Named}
-use Rattle.text_names.specs.declared.Named.TheVariants.{Name, Close}
 use Rattle.text_names.specs.Named.{name_left, CharIs, CodeIs, NameAt, NamedIs}
 use Rattle.work_subjects.specs.Keys.{Key, item, key_at, subject_left}
 use Rattle.work_subjects.proofs.SpotLaws.{key_at-inside}
-use Rattle.work_store.specs.declared.Found.{Found}
-use Rattle.work_store.specs.declared.Found.TheVariants.{At, Nothing}
 use Rattle.work_store.specs.Store.{Decl, first, is_found, Holds, Finds}
 use Rattle.locale_standing.specs.Standing.{stands_in, Stands, AllStand, names_of, Inside}
 
@@ -39,18 +33,22 @@ subject-char : (n : List ℕ) {c : ℕ} → CharIs n c → subject_of n ≡ char
 unfolding subject_of
 subject-char n v = rw (v.shaped, v.code)
 
-subject-named : (n : List ℕ) → CodeIs n Other → subject_of n ≡ named n
+subject-named : (n : List ℕ) → CodeIs n None → subject_of n ≡ named n
 unfolding subject_of
 subject-named n e = rw e
 
-module _ (g : Signs) (src w : List ℕ) (p : Spot) {c : Code} (v : CodeIs (name_left g src p) c) where
-  pub stands_char : {x : CodePoint} {r : Bool} → c ≡ Char x → r ≡ is_character x.0 → Stands g src w p r
+some_found : (f : Option ℕ) → is_some f ≡ is_found f
+some_found None = refl
+some_found (Some m) = refl
+
+module _ (g : Signs) (src w : List ℕ) (p : Spot) {c : Option CodePoint} (v : CodeIs (name_left g src p) c) where
+  pub stands_char : {x : CodePoint} {r : Bool} → c ≡ Some x → r ≡ is_character x.0 → Stands g src w p r
   unfolding stands_in
   stands_char {x} {r} e f =
       let z : CharIs (name_left g src p) x.0 = subst (CodeIs (name_left g src p)) e v in
       record { is = λ n ds h. f ∙ sym (ap (λ (s : Subject). stands_in ds s) (subject-char (name_left g src p) z)) }
 
-  module _ (e : c ≡ Other) (i : is_inside p.mode ≡ true) {f : Found} (k : Finds (key_at g src) (length src) w (key_at g src (2 * p.at)) f) where
+  module _ (e : c ≡ None) (i : is_inside p.mode ≡ true) {f : Option ℕ} (k : Finds (key_at g src) (length src) w (key_at g src (2 * p.at)) f) where
     found : (n : ℕ) (ds : List Decl) → Holds (key_at g src) (length src) w n ds → is_found f ≡ stands_in ds (subject_left g src p)
     unfolding stands_in
     found n ds h =
@@ -59,11 +57,8 @@ module _ (g : Signs) (src w : List ℕ) (p : Spot) {c : Code} (v : CodeIs (name_
         ∙ ap (λ (x : Key). is_found (first x ds)) (key_at-inside g src p i ∙ ap item z)
         ∙ sym (ap (λ (s : Subject). stands_in ds s) z)
 
-    pub stands-found : {m : ℕ} → f ≡ At m → Stands g src w p true
-    stands-found a = record { is = λ n ds h. sym (ap is_found a) ∙ found n ds h }
-
-    pub stands-not : f ≡ Nothing → Stands g src w p false
-    stands-not a = record { is = λ n ds h. sym (ap is_found a) ∙ found n ds h }
+    pub stands-found : {t : Bool} → t ≡ is_some f → Stands g src w p t
+    stands-found a = record { is = λ n ds h. a ∙ some_found f ∙ found n ds h }
 
 -- ## The names in quotes
 
@@ -90,14 +85,14 @@ pub record Standing (g : Signs) (src w : List ℕ) (p q : Spot) : Type 0 where
 pub standing-none : (g : Signs) (src w : List ℕ) (p : Spot) → p.at ≤ length src → p.mode ≡ quoted → Standing g src w p p
 standing-none g src w p h m = record { rest = λ n ds k. refl; mode = m; to = h }
 
-module _ (g : Signs) (src w : List ℕ) (p q : Spot) (v : Standing g src w p q) {n : Named} (a : NamedIs g src q n) where
-  pub standing-end : n ≡ Close → AllStand g src w (names_in (marks_left g src p)) true
+module _ (g : Signs) (src w : List ℕ) (p q : Spot) (v : Standing g src w p q) {n : Option Spot} (a : NamedIs g src q n) where
+  pub standing-end : n ≡ None → AllStand g src w (names_in (marks_left g src p)) true
   unfolding every
   standing-end e =
       let z : names_in (marks_left g src q) ≡ [] = subst (NamedIs g src q) e a in
       record { is = λ m ds h. sym (v.rest m ds h ∙ ap (λ (ns : List (List ℕ)). every (stands_in ds) (map subject_of ns)) z) }
 
-  module _ {r : Spot} (e : n ≡ Name r) where
+  module _ {r : Spot} (e : n ≡ Some r) where
     there : NameAt g src q r
     there = subst (NamedIs g src q) e a
 
@@ -120,14 +115,14 @@ module _ (g : Signs) (src w : List ℕ) (p q : Spot) (v : Standing g src w p q) 
       pub standing-not : b ≡ false → AllStand g src w (names_in (marks_left g src p)) false
       standing-not f = record { is = λ m ds h. sym (one_more m ds h ∙ rw f) }
 
-      module _ (f : b ≡ true) {c : Closing} (x : ClosingIs g src r c) where
-        pub standing-open : c ≡ closing.Open → AllStand g src w (names_in (marks_left g src p)) true
+      module _ (f : b ≡ true) {c : Option (Option Refusal × Spot)} (x : ClosingIs g src r c) where
+        pub standing-open : c ≡ None → AllStand g src w (names_in (marks_left g src p)) true
         unfolding every
         standing-open k =
             let z : after_name (marks_left g src r) ≡ [] = open_none (marks_left g src r) (subst (ClosingIs g src r) k x) in
             record { is = λ m ds h. sym (one_more m ds h ∙ rw (f, z, no_names)) }
 
-        module _ {u : ℕ} {d : Spot} (k : c ≡ closing.Closed u d) where
+        module _ {u : Option Refusal} {d : Spot} (k : c ≡ Some (u, d)) where
           ends : NameEnds g src r u d
           ends = subst (ClosingIs g src r) k x
 

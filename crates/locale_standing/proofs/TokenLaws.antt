@@ -11,6 +11,7 @@ use Rattle.base_lists.proofs.Bools.{by}
 use Rattle.rules.specs.Text.{bytes, same, is, every, ◌unless◌, lower}
 use Rattle.rules.specs.Tokens.{word, tokens_refusal}
 use Rattle.rules.specs.OrderLines.{is_names, subject_of}
+use Rattle.base_units.specs.Numbers.{number_or_none}
 use Rattle.text_lines.specs.declared.Signs.{Signs}
 use Rattle.text_lines.specs.declared.Spot.{Spot}
 use Rattle.text_lines.specs.Stream.{marks_left}
@@ -102,6 +103,6 @@ module _ (g : Signs) (src w : List ℕ) (q : Spot) (t : Tok) (v : TokenIs g src 
 
   -- ## The token's own refusal too
 
-  pub refused-both : {r f : ℕ} → WeightRefused g src w (token_there g src q) r → f ≡ lower t.refusal r → OneRefused g src w (token_there g src q) f
+  pub refused-both : {r f : ℕ} → WeightRefused g src w (token_there g src q) r → f ≡ lower (number_or_none t.refusal) r → OneRefused g src w (token_there g src q) f
   refused-both {r} {f} x e =
       record { is = λ n ds h. e ∙ ap (λ (y : ℕ). lower y r) (sym v.refusal) ∙ ap (λ (y : ℕ). lower (tokens_refusal (token_there g src q ∷ [])) y) (x.is n ds h) }

@@ -5,6 +5,7 @@ use Rattle.rules.specs.Lines.{in_plain}
 use Rattle.rules.specs.Tokens.{Token, tokens_refusal}
 use Rattle.rules.specs.State.{Subject}
 use Rattle.rules.specs.OrderLines.{split_at}
+use Rattle.base_units.specs.Numbers.{number_or_none}
 use Rattle.text_lines.specs.declared.Signs.{Signs}
 use Rattle.text_lines.specs.declared.Spot.{Spot}
 use Rattle.text_operands.specs.Operand.{operands_left}
@@ -57,12 +58,12 @@ pub record BadRefusal (g : Signs) (src w : List ℕ) (p : Spot) : Type 0 where
   pub refusal : (n : ℕ) (ds : List Decl) → Holds (key_at g src) (length src) w n ds → refusal_of (stands_in ds) (operands_left g src false p) ≡ 3
 
 abbrev pub TurnIs : Signs → List ℕ → List ℕ → Spot → Turn → Type 0
-TurnIs g src w p (turn.More r next) = MoreRefusals g src w p r next
-TurnIs g src w p (turn.Last r) = LastRefusal g src w p r
+TurnIs g src w p (turn.More r next) = MoreRefusals g src w p (number_or_none r) next
+TurnIs g src w p (turn.Last r) = LastRefusal g src w p (number_or_none r)
 TurnIs g src w p turn.Bad = BadRefusal g src w p
 
 -- The refusal of the tokens os and of the operands ws that they are; and how many those are, unless they are malformed.
 pub record Counts (g : Signs) (src w : List ℕ) (os : List Token) (ws : List (List Token)) (r : Counted) : Type 0 where
   pub refusal : (n : ℕ) (ds : List Decl) → Holds (key_at g src) (length src) w n ds
-      → r.refusal ≡ lower (tokens_refusal os) (weights_refusal_by (stands_in ds) ws)
-  pub many : (r.refusal ≡ 3 → ⊥) → r.operands ≡ length ws
+      → number_or_none r.refusal ≡ lower (tokens_refusal os) (weights_refusal_by (stands_in ds) ws)
+  pub many : (number_or_none r.refusal ≡ 3 → ⊥) → r.operands ≡ length ws

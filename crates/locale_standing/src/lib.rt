@@ -5,6 +5,7 @@ ghost use Rattle.std.specs.Prelude.{◌≡◌, true, false, [], ◌≤◌, lengt
 ghost use Rattle.rules.specs.Lines.{in_plain, quoted};
 ghost use Rattle.rules.specs.Tokens.{operands};
 ghost use Rattle.rules.specs.OrderLines.{split_at, operand_list};
+ghost use Rattle.base_units.specs.Numbers.{number_or_none};
 ghost use Rattle.text_lines.specs.Stream.{marks_left};
 ghost use Rattle.text_tokens.specs.Left.{tokens_left, token_there, is_inside, names_in, TokenIs};
 ghost use Rattle.text_operands.specs.Operand.{operands_left};
@@ -13,28 +14,34 @@ ghost use Rattle.work_store.specs.Store.{Sound};
 ghost use Rattle.locale_standing.specs.Standing.{names_of, Inside, Stands, AllStand};
 ghost use Rattle.locale_standing.specs.Refusing.{WeightRefused, OneRefused, TurnIs, Counts};
 
-use base_units::is_character;
+use base_units::{Refusal, is_character, lower_of};
 use locale_weights::{Weight, next_weight};
 use text_lines::{Signs, Spot};
-use text_names::{Code, Named, name_char, next_name};
+use text_names::{name_char, next_name};
 use text_operands::{After, after_first, none_left};
-use text_tokens::{Closing, NAME, QUOTE, Tok, WORD, end_of_name, lower_of, word_is};
-use work_store::{Found, find};
+use text_tokens::{NAME, QUOTE, Tok, WORD, end_of_name, word_is};
+use work_store::find;
 
 // The refusal of the next operand, and the spot after its `;`; or the refusal of the last one. Bad: the operands are malformed.
 #[derive(Clone, Copy)]
 pub enum Turn {
-    More(u8, Spot),
-    Last(u8),
+    More(Option<Refusal>, Spot),
+    Last(Option<Refusal>),
     Bad,
 }
 
 // The lowest refusal of an order line's operands, and how many there are; of those that are malformed the number says nothing.
 #[derive(Clone, Copy)]
 pub struct Counted {
-    pub refusal: u8,
+    pub refusal: Option<Refusal>,
     pub operands: usize,
 }
+
+// What is counted where there is no operand.
+const NO_OPERANDS: Counted = Counted {
+    refusal: None,
+    operands: 0,
+};
 
 // Whether the name at a spot stands: it is that of a character, or declared.
 fn stands_at(src: &[u8], g: Signs, work: &[u32], p: Spot) -> bool
@@ -42,16 +49,9 @@ fn stands_at(src: &[u8], g: Signs, work: &[u32], p: Spot) -> bool
     requires sound { Sound (key_at g src.now) (length src.now) work.now }
     ensures { Stands g src.now work.now p result }
 {
-    let c = name_char(src, g, p);
-    match c {
-        Code::Char(x) => return is_character(x),
-        Code::Other => {
-            let f = find(src, g, work, 2 * p.at);
-            match f {
-                Found::At(_) => return true,
-                Found::Nothing => return false,
-            }
-        }
+    match name_char(src, g, p) {
+        Some(x) => is_character(x),
+        None => find(src, g, work, 2 * p.at).is_some(),
     }
 }
 
@@ -62,25 +62,16 @@ fn quoted_stand(src: &[u8], g: Signs, work: &[u32], p: Spot) -> bool
     ensures { AllStand g src.now work.now (names_in (marks_left g src.now p)) result }
 {
     let mut q = p;
-    loop {
-        let n = next_name(src, g, q);
-        match n {
-            Named::Close => return true,
-            Named::Name(r) => {
-                if stands_at(src, g, work, r) {
-                    let c = end_of_name(src, g, r);
-                    match c {
-                        Closing::Closed(_, e) => {
-                            q = e;
-                        }
-                        Closing::Open => return true,
-                    }
-                } else {
-                    return false;
-                }
-            }
+    while let Some(r) = next_name(src, g, q) {
+        if !stands_at(src, g, work, r) {
+            return false;
         }
+        let Some((_, e)) = end_of_name(src, g, r) else {
+            return true;
+        };
+        q = e;
     }
+    true
 }
 
 // Whether all names of a token stand.
@@ -100,41 +91,38 @@ fn names_stand(src: &[u8], g: Signs, work: &[u32], t: Tok) -> bool
 }
 
 // The refusal of an operand that is one token: it is a name, quotes of at most 8 names, or the word IGNORE, and its names stand.
-fn weight_refusal(src: &[u8], g: Signs, work: &[u32], q: Spot, t: Tok) -> u8
+fn weight_refusal(src: &[u8], g: Signs, work: &[u32], q: Spot, t: Tok) -> Option<Refusal>
     requires at_in_bounds { (q.at ≤ length src.now) × TokenIs g src.now q t }
     requires sound { Sound (key_at g src.now) (length src.now) work.now }
-    ensures { WeightRefused g src.now work.now (token_there g src.now q) result }
+    ensures { WeightRefused g src.now work.now (token_there g src.now q) (number_or_none result) }
 {
     if t.kind == WORD {
-        if word_is(src, g, q, b"IGNORE") {
-            return 0;
-        }
-        return 3;
+        return if word_is(src, g, q, b"IGNORE") {
+            None
+        } else {
+            Some(Refusal::Malformed)
+        };
     }
-    if t.kind < 5 {
-        return 3;
+    if t.kind < NAME || QUOTE < t.kind {
+        return Some(Refusal::Malformed);
     }
-    if t.kind > 6 {
-        return 3;
+    if !names_stand(src, g, work, t) {
+        return Some(Refusal::Unknown);
     }
-    if names_stand(src, g, work, t) {
-        if t.names <= 8 {
-            return 0;
-        }
-        return 7;
+    if t.names <= 8 {
+        None
+    } else {
+        Some(Refusal::TooMany)
     }
-    6
 }
 
 // The refusal of an operand that is one token, and of that token wherever it stands.
-fn one_refusal(src: &[u8], g: Signs, work: &[u32], q: Spot, t: Tok) -> u8
+fn one_refusal(src: &[u8], g: Signs, work: &[u32], q: Spot, t: Tok) -> Option<Refusal>
     requires at_in_bounds { (q.at ≤ length src.now) × TokenIs g src.now q t }
     requires sound { Sound (key_at g src.now) (length src.now) work.now }
-    ensures { OneRefused g src.now work.now (token_there g src.now q) result }
+    ensures { OneRefused g src.now work.now (token_there g src.now q) (number_or_none result) }
 {
-    let f = t.refusal;
-    let r = weight_refusal(src, g, work, q, t);
-    lower_of(f, r)
+    lower_of(t.refusal, weight_refusal(src, g, work, q, t))
 }
 
 // The refusal of the next operand.
@@ -143,21 +131,20 @@ fn next_refusal(src: &[u8], g: Signs, work: &[u32], p: Spot) -> Turn
     requires sound { Sound (key_at g src.now) (length src.now) work.now }
     ensures { TurnIs g src.now work.now p result }
 {
-    let w = next_weight(src, g, p);
-    match w {
-        Weight::Bad => return Turn::Bad,
-        Weight::Empty(more, d) => {
-            if more {
-                return Turn::More(0, d);
-            }
-            return Turn::Last(0);
-        }
+    match next_weight(src, g, p) {
+        Weight::Bad => Turn::Bad,
+        Weight::Empty(more, d) => if more {
+            Turn::More(None, d)
+        } else {
+            Turn::Last(None)
+        },
         Weight::One(q, t, more, d) => {
             let f = one_refusal(src, g, work, q, t);
             if more {
-                return Turn::More(f, d);
+                Turn::More(f, d)
+            } else {
+                Turn::Last(f)
             }
-            return Turn::Last(f);
         }
     }
 }
@@ -169,11 +156,10 @@ fn weights_left(src: &[u8], g: Signs, work: &[u32], p: Spot) -> Counted
     ensures { Counts g src.now work.now (operands_left g src.now false p) (split_at [] (operands_left g src.now false p)) result }
 {
     let mut q = p;
-    let mut refusal: u8 = 0;
+    let mut refusal = None;
     let mut n: usize = 0;
     loop {
-        let s = next_refusal(src, g, work, q);
-        match s {
+        match next_refusal(src, g, work, q) {
             Turn::More(f, d) => {
                 refusal = lower_of(refusal, f);
                 n += 1;
@@ -187,7 +173,7 @@ fn weights_left(src: &[u8], g: Signs, work: &[u32], p: Spot) -> Counted
             }
             Turn::Bad => {
                 return Counted {
-                    refusal: 3,
+                    refusal: Some(Refusal::Malformed),
                     operands: n,
                 };
             }
@@ -201,28 +187,16 @@ pub fn weights_refusal(src: &[u8], g: Signs, work: &[u32], p: Spot) -> Counted
     requires sound { Sound (key_at g src.now) (length src.now) work.now }
     ensures { Counts g src.now work.now (operands (tokens_left g src.now p)) (operand_list (operands (tokens_left g src.now p))) result }
 {
-    let a = after_first(src, g, p);
-    match a {
-        After::None => {
-            return Counted {
-                refusal: 0,
-                operands: 0,
-            };
-        }
-        After::Broken => {
-            return Counted {
-                refusal: 3,
-                operands: 0,
-            };
-        }
-        After::Operands(x) => {
-            if none_left(src, g, x, false) {
-                return Counted {
-                    refusal: 0,
-                    operands: 0,
-                };
-            }
-            return weights_left(src, g, work, x);
-        }
+    match after_first(src, g, p) {
+        After::None => NO_OPERANDS,
+        After::Broken => Counted {
+            refusal: Some(Refusal::Malformed),
+            operands: 0,
+        },
+        After::Operands(x) => if none_left(src, g, x, false) {
+            NO_OPERANDS
+        } else {
+            weights_left(src, g, work, x)
+        },
     }
 }

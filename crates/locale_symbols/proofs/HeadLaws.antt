@@ -1,4 +1,5 @@
 -- The first operand of a line: whether it is a name, and that its bytes and its `>` stand between the spots that are given.
+use Rattle.std.specs.Prelude.{None, Option, Some}
 use mathlib.Core.Path.{◌≡◌, refl, sym, ap, ◌∙◌, subst}
 use mathlib.Core.Logic.{inl, inr}
 use mathlib.Core.Bool.{false}
@@ -23,8 +24,6 @@ use Rattle.text_operands.specs.declared.Operand.TheVariants as operand
 use Rattle.text_operands.specs.declared.After.{After}
 use Rattle.text_operands.specs.declared.After.TheVariants as after
 use Rattle.text_operands.specs.Operand.{operands_left, OperandAt, OperandIs, OperandsFrom, AfterIs}
-use Rattle.locale_symbols.specs.declared.Head.{Head}
-use Rattle.locale_symbols.specs.declared.Head.TheVariants.{Name, Other}
 use Rattle.locale_symbols.specs.Symbols.{Unfit, NameFirst, HeadIs}
 
 -- ## How far a walk goes
@@ -108,8 +107,8 @@ module _ (g : Signs) (src : List ℕ) (p : Spot) {a : After} (v : AfterIs g src 
     pub first-mode : x.mode ≡ in_plain
     first-mode = from.mode
 
-    nearer : (os : List Token) (h : Head) → HeadIs g src x os h → HeadIs g src p os h
-    nearer os (Name i y) n =
+    nearer : (os : List Token) (h : Option (Spot × Spot)) → HeadIs g src x os h → HeadIs g src p os h
+    nearer os (Some (i, y)) n =
         record {
           token = n.token;
           first = n.first;
@@ -122,7 +121,7 @@ module _ (g : Signs) (src : List ℕ) (p : Spot) {a : After} (v : AfterIs g src 
           end = run_end g src p from.walk.run ∙ n.end;
           to = n.to;
         }
-    nearer os Other n = n
+    nearer os None n = n
 
-    pub first-from : (h : Head) → HeadIs g src x (operands_left g src false x) h → HeadIs g src p (operands (tokens_left g src p)) h
+    pub first-from : (h : Option (Spot × Spot)) → HeadIs g src x (operands_left g src false x) h → HeadIs g src p (operands (tokens_left g src p)) h
     first-from h n = nearer (operands (tokens_left g src p)) h (subst (λ (os : List Token). HeadIs g src x os h) (sym from.operands) n)

@@ -1,6 +1,7 @@
 -- Whether a name is new: it is not shaped as a character, and what is sought in the area is its key.
-use mathlib.Core.Path.{◌≡◌, sym, ap, ◌∙◌, subst}
-use mathlib.Core.Bool.{true, false, not}
+use Rattle.std.specs.Prelude.{None, Option, Some, is_some, ℕ}
+use mathlib.Core.Path.{◌≡◌, refl, sym, ap, ◌∙◌, subst}
+use mathlib.Core.Bool.{Bool, true, false, not, false≢true}
 use mathlib.Core.List.{List}
 use Prim.Native.Nat.{ℕ, ◌*◌}
 use lib.ListN.{length}
@@ -12,13 +13,9 @@ use Rattle.text_lines.specs.declared.Signs.{Signs}
 use Rattle.text_lines.specs.declared.Spot.{Spot}
 use Rattle.text_tokens.specs.Left.{is_inside}
 use Rattle.base_units.specs.declared.CodePoint.{CodePoint}
-use Rattle.text_names.specs.declared.Code.{Code}
-use Rattle.text_names.specs.declared.Code.TheVariants.{Char, Other}
 use Rattle.text_names.specs.Named.{name_left, CharIs, CodeIs}
 use Rattle.work_subjects.specs.Keys.{Key, item, key_at}
 use Rattle.work_subjects.proofs.SpotLaws.{key_at-inside}
-use Rattle.work_store.specs.declared.Found.{Found}
-use Rattle.work_store.specs.declared.Found.TheVariants.{At, Nothing}
 use Rattle.work_store.specs.Store.{Decl, is_found, known_in, Holds, Finds}
 use Rattle.locale_symbols.specs.Symbols.{is_new_in, NewIs}
 
@@ -50,18 +47,18 @@ key-named g src i h c = key_at-inside g src i h ∙ ap item (subject-named (name
 -- ## What is found
 
 -- something is declared with a key where it is found
-pub known_is : {key : ℕ → Key} {len : ℕ} {w : List ℕ} {k : Key} {f : Found} → Finds key len w k f → (m : ℕ) (ds : List Decl) → Holds key len w m ds
+pub known_is : {key : ℕ → Key} {len : ℕ} {w : List ℕ} {k : Key} {f : Option ℕ} → Finds key len w k f → (m : ℕ) (ds : List Decl) → Holds key len w m ds
     → known_in k ds ≡ is_found f
 unfolding known_in
 known_is v m ds h = ap is_found (sym (v.is m ds h))
 
-module _ (g : Signs) (src w : List ℕ) (i : Spot) {c : Code} (v : CodeIs (name_left g src i) c) where
-  pub new-shaped : {x : CodePoint} → c ≡ Char x → NewIs (key_at g src) (length src) w (name_left g src i) false
+module _ (g : Signs) (src w : List ℕ) (i : Spot) {c : Option CodePoint} (v : CodeIs (name_left g src i) c) where
+  new-shaped : {x : CodePoint} → c ≡ Some x → NewIs (key_at g src) (length src) w (name_left g src i) false
   new-shaped {x} e =
       let z : CharIs (name_left g src i) x.0 = subst (CodeIs (name_left g src i)) e v in
       record { is = λ m ds h. new-shaped-not ds (name_left g src i) z.shaped }
 
-  module _ (e : c ≡ Other) (inside : is_inside i.mode ≡ true) {f : Found} (u : Finds (key_at g src) (length src) w (key_at g src (2 * i.at)) f) where
+  module _ (e : c ≡ None) (inside : is_inside i.mode ≡ true) {f : Option ℕ} (u : Finds (key_at g src) (length src) w (key_at g src (2 * i.at)) f) where
     new-found : NewIs (key_at g src) (length src) w (name_left g src i) (not (is_found f))
     new-found =
         let z : char_shaped (name_left g src i) ≡ false = subst (CodeIs (name_left g src i)) e v in
@@ -70,8 +67,25 @@ module _ (g : Signs) (src w : List ℕ) (i : Spot) {c : Code} (v : CodeIs (name_
               ∙ ap not (ap (λ (k : Key). known_in k ds) (sym (key-named g src i inside z)) ∙ known_is u m ds h));
         }
 
-    pub new-twice : {q : ℕ} → f ≡ At q → NewIs (key_at g src) (length src) w (name_left g src i) false
+    new-twice : {q : ℕ} → f ≡ Some q → NewIs (key_at g src) (length src) w (name_left g src i) false
     new-twice d = rw d at new-found
 
-    pub new_none : f ≡ Nothing → NewIs (key_at g src) (length src) w (name_left g src i) true
+    new_none : f ≡ None → NewIs (key_at g src) (length src) w (name_left g src i) true
     new_none d = rw d at new-found
+
+-- ## By the tests
+
+module _ (g : Signs) (src w : List ℕ) (i : Spot) where
+  pub new-shaped-as : (c : Option CodePoint) → CodeIs (name_left g src i) c → {b : Bool} → is_some c ≡ not b → b ≡ false
+      → NewIs (key_at g src) (length src) w (name_left g src i) b
+  new-shaped-as None v s e = absurd (false≢true (s ∙ ap not e))
+  new-shaped-as (Some x) v s e = rw e (new-shaped g src w i {c = Some x} v refl)
+
+  pub new-unshaped : (c : Option CodePoint) → CodeIs (name_left g src i) c → {b : Bool} → is_some c ≡ not b → b ≡ true → is_inside i.mode ≡ true
+      → (f : Option ℕ) → Finds (key_at g src) (length src) w (key_at g src (2 * i.at)) f → (t : Bool) → is_some f ≡ not t
+      → NewIs (key_at g src) (length src) w (name_left g src i) t
+  new-unshaped (Some x) v s e m f u t h = absurd (false≢true (sym (s ∙ ap not e)))
+  new-unshaped None v s e m None u true h = new_none g src w i {c = None} v refl m {f = None} u refl
+  new-unshaped None v s e m None u false h = absurd (false≢true h)
+  new-unshaped None v s e m (Some q) u true h = absurd (false≢true (sym h))
+  new-unshaped None v s e m (Some q) u false h = new-twice g src w i {c = None} v refl m {f = Some q} u refl

@@ -1,4 +1,5 @@
 -- The line `collating-symbol`: a law for each answer.
+use Rattle.std.specs.Prelude.{Err, None, Ok, Option, Result, Some, ℕ}
 use mathlib.Core.Path.{◌≡◌, refl, sym, ap, ◌∙◌, subst}
 use mathlib.Core.Logic.{inr}
 use mathlib.Core.Bool.{Bool, true, false, not, ◌&&◌, ◌||◌, false≢true}
@@ -16,6 +17,8 @@ use Rattle.rules.specs.Lines.{in_plain}
 use Rattle.rules.specs.Tokens.{broken, name, quote, Token, token_at, the_name, single, tokens_refusal}
 use Rattle.rules.specs.State.{named}
 use Rattle.rules.proofs.TextLaws.{unless-none, lower-none, lowest-none}
+use Rattle.base_units.specs.declared.Refusal.{Refusal}
+use Rattle.base_units.specs.Numbers.{number_of}
 use Rattle.text_lines.specs.declared.Signs.{Signs}
 use Rattle.text_lines.specs.declared.Spot.{Spot}
 use Rattle.text_tokens.specs.Left.{is_inside}
@@ -26,10 +29,6 @@ use Rattle.text_operands.proofs.ListLaws.{single_more}
 use Rattle.text_names.specs.Named.{name_left}
 use Rattle.work_subjects.specs.Keys.{Key, item, key_at}
 use Rattle.work_store.specs.Store.{Decl, Sound, Roomy}
-use Rattle.locale_symbols.specs.declared.Head.{Head}
-use Rattle.locale_symbols.specs.declared.Head.TheVariants as head
-use Rattle.locale_symbols.specs.declared.Symbol.{Symbol}
-use Rattle.locale_symbols.specs.declared.Symbol.TheVariants as symbol
 use Rattle.locale_symbols.specs.Symbols.{is_new_in, Gives, operands_after, symbol_refusal, Unfit, NameFirst, HeadIs, NewIs, SymbolAt, SymbolNot, SymbolChecked}
 use Rattle.locale_symbols.proofs.UnfitLaws.{unfit-three, unfit-other}
 use Rattle.locale_symbols.proofs.NewLaws.{new-shape, key-named}
@@ -73,13 +72,13 @@ name-some t ts n e h =
 
 -- ## The answers
 
-module _ (g : Signs) (src : List ℕ) (p : Spot) (w : List ℕ) {h : Head} (v : HeadIs g src p (operands_after g src p) h) where
-  pub symbol-other : h ≡ head.Other → SymbolNot g src p w 3
+module _ (g : Signs) (src : List ℕ) (p : Spot) (w : List ℕ) {h : Option (Spot × Spot)} (v : HeadIs g src p (operands_after g src p) h) where
+  pub symbol-other : h ≡ None → SymbolNot g src p w 3
   symbol-other e =
       let os = operands_after g src p in
       not_three g src p w (unfit-other os (eqb (token_at os 0).kind name) (single name os) (single-kind os) (subst (HeadIs g src p os) e v))
 
-  module _ {i e : Spot} (k : h ≡ head.Name i e) where
+  module _ {i e : Spot} (k : h ≡ Some (i, e)) where
     pub named-first : NameFirst g src p (operands_after g src p) i e
     named-first = subst (HeadIs g src p (operands_after g src p)) k v
 
@@ -128,41 +127,36 @@ module _ (g : Signs) (src : List ℕ) (p : Spot) (w : List ℕ) {h : Head} (v : 
                   ∙ ap (λ (q : ℕ). lower q (5 unless b)) (sym f) ∙ y;
             }
 
-        -- a name that may not be declared
-        pub symbol-twice : b ≡ false → {x : ℕ} → x ≡ lower r 5 → SymbolNot g src p w x
-        symbol-twice c {x} y =
+        -- the lowest of what the operands and the name are refused for
+        pub symbol-fault : {q m : ℕ} → q ≡ (5 unless b) → m ≡ lower r q → (m ≡ 0 → ⊥) → SymbolNot g src p w m
+        symbol-fault {q} {m} c d a = record { refusal = told m (ap (λ (x : ℕ). lower r x) (sym c) ∙ sym d); some = a }
+
+        -- neither is refused
+        pub symbol-at : {q m : ℕ} → q ≡ (5 unless b) → m ≡ lower r q → m ≡ 0 → Sound (key_at g src) (length src) w → SymbolAt g src p w (2 * i.at)
+        symbol-at {q} {m} d k x s =
+            let all = lower-none r (5 unless b) (ap (λ (y : ℕ). lower r y) (sym d) ∙ sym k ∙ x) in
+            let a = all.0 in
+            let c = unless-none 5 b (omega arith) all.1 in
+            let y = new-shape s.ds (name_left g src i) (sym (u.is s.n s.ds s.holds) ∙ c) in
+            let o = name-some named-first.token (operands_left g src true e) (name_left g src i) named-first.names (rw (← named-first.first, ← f) a) in
             record {
-              refusal = told x (rw c (sym y));
-              some = λ a. let q = (lower-none r 5 (sym y ∙ a)).1 in omega arith;
+              refusal = told 0 (rw c (lower-none-right r ∙ a));
+              mark = record {
+                even = omega arith;
+                behind = omega (arith, named-first.behind);
+                within = omega (arith, head-within);
+                key = key-named g src i (head-inside) y ∙ ap (λ (t : List ℕ). item (named t)) (sym head-text);
+                room = record { after = e; end = named-first.end; long = omega (arith, named-first.long, o); to = named-first.to };
+              };
             }
-
-        module _ (c : b ≡ true) where
-          -- operands that are refused for themselves
-          pub symbol-long : (r ≡ 0 → ⊥) → SymbolNot g src p w r
-          symbol-long a = record { refusal = told r (rw c (lower-none-right r)); some = a }
-
-          pub symbol-at : r ≡ 0 → Sound (key_at g src) (length src) w → SymbolAt g src p w (2 * i.at)
-          symbol-at a s =
-              let y = new-shape s.ds (name_left g src i) (sym (u.is s.n s.ds s.holds) ∙ c) in
-              let o = name-some named-first.token (operands_left g src true e) (name_left g src i) named-first.names (rw (← named-first.first, ← f) a) in
-              record {
-                refusal = told 0 (rw c (lower-none-right r ∙ a));
-                mark = record {
-                  even = omega arith;
-                  behind = omega (arith, named-first.behind);
-                  within = omega (arith, head-within);
-                  key = key-named g src i (head-inside) y ∙ ap (λ (t : List ℕ). item (named t)) (sym head-text);
-                  room = record { after = e; end = named-first.end; long = omega (arith, named-first.long, o); to = named-first.to };
-                };
-              }
 
 -- ## The declaration
 
-module _ (g : Signs) (src : List ℕ) (p : Spot) (w : List ℕ) {s : Symbol} (v : SymbolChecked g src p w s) where
-  pub symbol-refused : {r : ℕ} → s ≡ symbol.Refused r → SymbolNot g src p w r
+module _ (g : Signs) (src : List ℕ) (p : Spot) (w : List ℕ) {s : Result ℕ Refusal} (v : SymbolChecked g src p w s) where
+  pub symbol-refused : {r : Refusal} → s ≡ Err r → SymbolNot g src p w (number_of r)
   symbol-refused e = subst (SymbolChecked g src p w) e v
 
-  module _ {x : ℕ} (e : s ≡ symbol.Declared x) where
+  module _ {x : ℕ} (e : s ≡ Ok x) where
     pub symbol-mark : SymbolAt g src p w x
     symbol-mark = subst (SymbolChecked g src p w) e v
 

@@ -1,12 +1,14 @@
 -- The line `collating-symbol` as code reads it: from the spot after its first word on, with what is declared so far in the work area. The
 -- area holds some list of declarations (Rattle.work_store.specs.Store); what is told of one is told of every list that it holds.
-use Rattle.std.specs.Prelude.{◌≡◌, ◌⊎◌, Bool, true, false, not, ◌||◌, List, [], ◌∷◌, ℕ, ◌+◌, ◌/◌, ◌%◌, ◌≤◌, ◌<◌, length, eqb}
+use Rattle.std.specs.Prelude.{◌≡◌, ◌⊎◌, Bool, true, false, not, ◌||◌, List, [], ◌∷◌, ℕ, ◌+◌, ◌/◌, ◌%◌, ◌≤◌, ◌<◌, length, eqb, Err, None, Ok, Option, Result, Some}
 use Rattle.rules.specs.Text.{one_of, ◌unless◌, lower, lowest}
 use Rattle.rules.specs.Names.{char_shaped}
 use Rattle.rules.specs.Lines.{in_plain, in_name}
 use Rattle.rules.specs.Tokens.{name, Token, token_at, the_name, single, operands, tokens_refusal}
 use Rattle.rules.specs.State.{Declaration, named}
 use Rattle.rules.specs.Declarations.{declares, declares_chars}
+use Rattle.base_units.specs.declared.Refusal.{Refusal}
+use Rattle.base_units.specs.Numbers.{number_of}
 use Rattle.text_lines.specs.declared.Signs.{Signs}
 use Rattle.text_lines.specs.declared.Spot.{Spot}
 use Rattle.text_lines.specs.Stream.{end_of}
@@ -15,10 +17,6 @@ use Rattle.text_operands.specs.Operand.{operands_left}
 use Rattle.text_names.specs.Named.{name_left}
 use Rattle.work_subjects.specs.Keys.{Key, item, chars, key_at}
 use Rattle.work_store.specs.Store.{Decl, known_in, Holds, Declares}
-use Rattle.locale_symbols.specs.declared.Head.{Head}
-use Rattle.locale_symbols.specs.declared.Head.TheVariants as head
-use Rattle.locale_symbols.specs.declared.Symbol.{Symbol}
-use Rattle.locale_symbols.specs.declared.Symbol.TheVariants as symbol
 
 -- ## What is declared
 
@@ -61,9 +59,9 @@ pub record NameFirst (g : Signs) (src : List ℕ) (from : Spot) (os : List Token
   pub end : end_of g src from ≡ end_of g src e
   pub to : e.at ≤ length src
 
-abbrev pub HeadIs : Signs → List ℕ → Spot → List Token → Head → Type 0
-HeadIs g src from os (head.Name i e) = NameFirst g src from os i e
-HeadIs g src from os head.Other = Unfit os (eqb (token_at os 0).kind name)
+abbrev pub HeadIs : Signs → List ℕ → Spot → List Token → Option (Spot × Spot) → Type 0
+HeadIs g src from os (Some (i, e)) = NameFirst g src from os i e
+HeadIs g src from os None = Unfit os (eqb (token_at os 0).kind name)
 
 -- Whether a name is new, whatever list the area holds.
 pub record NewIs (key : ℕ → Key) (len : ℕ) (w : List ℕ) (n : List ℕ) (r : Bool) : Type 0 where
@@ -98,11 +96,11 @@ pub record SymbolNot (g : Signs) (src : List ℕ) (p : Spot) (w : List ℕ) (r :
   pub refusal : Gives (key_at g src) (length src) w (λ (ds : List Decl). symbol_refusal ds (operands_after g src p)) r
   pub some : r ≡ 0 → ⊥
 
-abbrev pub SymbolChecked : Signs → List ℕ → Spot → List ℕ → Symbol → Type 0
-SymbolChecked g src p w (symbol.Declared v) = SymbolAt g src p w v
-SymbolChecked g src p w (symbol.Refused r) = SymbolNot g src p w r
+abbrev pub SymbolChecked : Signs → List ℕ → Spot → List ℕ → Result ℕ Refusal → Type 0
+SymbolChecked g src p w (Ok v) = SymbolAt g src p w v
+SymbolChecked g src p w (Err r) = SymbolNot g src p w (number_of r)
 
 -- what the line leaves: its name declared; or its refusal, and the area as it was
-abbrev pub SymbolIs : Signs → List ℕ → Spot → List ℕ → List ℕ → Symbol → Type 0
-SymbolIs g src p w w' (symbol.Declared v) = SymbolAt g src p w v × Declares (key_at g src) (length src) w v w'
-SymbolIs g src p w w' (symbol.Refused r) = SymbolNot g src p w r × (w' ≡ w)
+abbrev pub SymbolIs : Signs → List ℕ → Spot → List ℕ → List ℕ → Result ℕ Refusal → Type 0
+SymbolIs g src p w w' (Ok v) = SymbolAt g src p w v × Declares (key_at g src) (length src) w v w'
+SymbolIs g src p w w' (Err r) = SymbolNot g src p w (number_of r) × (w' ≡ w)

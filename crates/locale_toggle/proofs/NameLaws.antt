@@ -1,4 +1,5 @@
 -- The ways of `name_toggle`: no single word, a word that is refused, a toggle that is turned.
+use Rattle.std.specs.Prelude.{None, Option, Some}
 use mathlib.Core.Path.{◌≡◌, refl, sym, ap, ◌∙◌, subst}
 use mathlib.Core.Logic.{◌⊎◌, inl, inr}
 use mathlib.Core.Bool.{Bool, true, ◌&&◌}
@@ -16,8 +17,6 @@ use Rattle.text_lines.specs.declared.Spot.{Spot}
 use Rattle.text_lines.specs.Stream.{line_start}
 use Rattle.text_tokens.specs.Left.{tokens_left}
 use Rattle.text_tokens.proofs.RefusalLaws.{lower-none-left, three-last}
-use Rattle.text_operands.specs.declared.One.{One}
-use Rattle.text_operands.specs.declared.One.TheVariants as one
 use Rattle.text_operands.specs.Operand.{WordAlone, OneIs}
 use Rattle.text_operands.proofs.LineLaws.{spot-start, word-single, word-text, word-unrefused}
 use Rattle.work_toggles.specs.Kept.{word_left, toggles_in, Proper, Kept, is_free, refusal_for, MayTurn, Turned}
@@ -35,9 +34,9 @@ which-refusal w known =
     (λ e. by (leb (length w) 32 && is_free w known) (λ f. rw (e, f) (λ n. absurd (n refl))) (λ f. rw (e, f) (λ n. inr refl)))
     (λ e. by (leb (length w) 32 && is_free w known) (λ f. rw (e, f) (λ n. inl refl)) (λ f. rw (e, f) (λ n. inl refl)))
 
-module _ (g : Signs) (src : List ℕ) (os : List Token) {o : One} (v : OneIs g src os o) where
+module _ (g : Signs) (src : List ℕ) (os : List Token) {o : Option Spot} (v : OneIs g src os o) where
   -- any other operands than one word
-  pub no_word : {work : List ℕ} {base n : ℕ} → o ≡ one.Other → RefusedIs g src work work base n os 3
+  pub no_word : {work : List ℕ} {base n : ℕ} → o ≡ None → RefusedIs g src work work base n os 3
   no_word e =
       record {
         refusal = λ s h. ap (λ (x : ℕ). lower (tokens_refusal os) x) (paper-foul s os (subst (OneIs g src os) e v)) ∙ three-last os;
@@ -45,7 +44,7 @@ module _ (g : Signs) (src : List ℕ) (os : List Token) {o : One} (v : OneIs g s
         area = refl;
       }
 
-  module _ {q : Spot} (e : o ≡ one.Word q) where
+  module _ {q : Spot} (e : o ≡ Some q) where
     alone : WordAlone g src os q
     alone = subst (OneIs g src os) e v
 
@@ -98,8 +97,8 @@ module _ (g : Signs) (src : List ℕ) (os : List Token) {o : One} (v : OneIs g s
 
 -- ## What the callees ask
 
-module _ (g : Signs) {src work : List ℕ} {base n : ℕ} {p : Spot} (m : MayName g src work base n p) (q : Spot) {o : One}
-    (v : OneIs g src (operands (tokens_left g src p)) o) (e : o ≡ one.Word q) where
+module _ (g : Signs) {src work : List ℕ} {base n : ℕ} {p : Spot} (m : MayName g src work base n p) (q : Spot) {o : Option Spot}
+    (v : OneIs g src (operands (tokens_left g src p)) o) (e : o ≡ Some q) where
   -- the toggle may be looked up
   pub word_kept : Kept g src work base n × (q.at ≤ length src)
   word_kept = (m.kept, (alone g src (operands (tokens_left g src p)) v e).to)

@@ -1,5 +1,5 @@
 -- The operand of a line that names a toggle, as the paper reads it (Rattle.rules.specs.Conditionals), and the toggles after the line.
-use Rattle.std.specs.Prelude.{◌≡◌, ◌⊎◌, Bool, true, false, List, ℕ, ◌+◌, ◌≤◌, ◌<◌, length, get_or}
+use Rattle.std.specs.Prelude.{◌≡◌, ◌⊎◌, Bool, true, false, List, ℕ, ◌+◌, ◌≤◌, ◌<◌, length, get_or, Err, Ok, Result}
 use Rattle.rules.specs.Text.{lower}
 use Rattle.rules.specs.Lines.{in_plain}
 use Rattle.rules.specs.Tokens.{Token, token_at, tokens_refusal}
@@ -7,11 +7,11 @@ use Rattle.rules.specs.State.{State}
 use Rattle.rules.specs.Conditionals.{is_on, turned, toggle_refusal}
 use Rattle.text_lines.specs.declared.Signs.{Signs}
 use Rattle.text_lines.specs.declared.Spot.{Spot}
+use Rattle.base_units.specs.declared.Refusal.{Refusal}
+use Rattle.base_units.specs.Numbers.{number_of}
 use Rattle.work_toggles.specs.Kept.{toggles_in, Kept}
 use Rattle.locale_toggle.specs.declared.Set.{Set}
 use Rattle.locale_toggle.specs.declared.Set.TheVariants as set
-use Rattle.locale_toggle.specs.declared.Toggled.{Toggled}
-use Rattle.locale_toggle.specs.declared.Toggled.TheVariants as toggled
 
 -- whether a toggle is defined after a line, where it was so before
 abbrev pub set_to : Set → Bool → Bool
@@ -47,6 +47,6 @@ pub record RefusedIs (g : Signs) (src work after : List ℕ) (base n : ℕ) (os 
   pub which : (r ≡ 3) ⊎ (r ≡ 7)
   pub area : after ≡ work
 
-abbrev pub ToggledIs : Signs → List ℕ → List ℕ → List ℕ → ℕ → ℕ → List Token → Set → Toggled → Type 0
-ToggledIs g src work after base n os set (toggled.Named was m) = NamedIs g src work after base n os set was m
-ToggledIs g src work after base n os set (toggled.Refused r) = RefusedIs g src work after base n os r
+abbrev pub ToggledIs : Signs → List ℕ → List ℕ → List ℕ → ℕ → ℕ → List Token → Set → Result (Bool × ℕ) Refusal → Type 0
+ToggledIs g src work after base n os set (Ok (was, m)) = NamedIs g src work after base n os set was m
+ToggledIs g src work after base n os set (Err r) = RefusedIs g src work after base n os (number_of r)

@@ -6,8 +6,9 @@ ghost use Rattle.rules.specs.Tokens.{operands};
 ghost use Rattle.text_tokens.specs.Left.{tokens_left};
 ghost use Rattle.locale_toggle.specs.Named.{set_to, MayName, ToggledIs};
 
+use base_units::Refusal;
 use text_lines::{Signs, Spot};
-use text_operands::{One, single_word};
+use text_operands::single_word;
 use work_toggles::{is_on, toggle_refusal, turn};
 
 // What a line does to the toggle that it names: define turns it on, undef off, and a test keeps it.
@@ -18,21 +19,14 @@ pub enum Set {
     Keep,
 }
 
-// Named: whether the toggle was defined before the line, and how many toggles there are after it. Refused: the refusal of the operand.
-#[derive(Clone, Copy)]
-pub enum Toggled {
-    Named(bool, usize),
-    Refused(u8),
-}
-
 // Whether a toggle is defined after the line.
 fn set_to(set: Set, was: bool) -> bool
     ensures { result ≡ set_to set was }
 {
     match set {
-        Set::On => return true,
-        Set::Off => return false, // undef
-        Set::Keep => return was,
+        Set::On => true,
+        Set::Off => false, // undef
+        Set::Keep => was,
     }
 }
 
@@ -45,22 +39,18 @@ pub fn name_toggle(
     n: usize,
     p: Spot,
     set: Set,
-) -> Toggled
+) -> Result<(bool, usize), Refusal>
     requires { MayName g src.now work.old base n p }
     ensures { ToggledIs g src.now work.old work.new base n (operands (tokens_left g src.now p)) set result }
 {
-    let o = single_word(src, g, p);
-    match o {
-        One::Other => return Toggled::Refused(3),
-        One::Word(q) => {
-            let refusal = toggle_refusal(src, g, work, base, n, q);
-            if refusal == 0 {
-                let was = is_on(src, g, work, base, n, q);
-                let on = set_to(set, was);
-                let m = turn(src, g, work, base, n, q.at, on);
-                return Toggled::Named(was, m);
-            }
-            return Toggled::Refused(refusal);
-        }
+    let Some(q) = single_word(src, g, p) else {
+        return Err(Refusal::Malformed);
+    };
+    if let Some(refusal) = toggle_refusal(src, g, work, base, n, q) {
+        return Err(refusal);
     }
+    let was = is_on(src, g, work, base, n, q);
+    let on = set_to(set, was);
+    let m = turn(src, g, work, base, n, q.at, on);
+    Ok((was, m))
 }

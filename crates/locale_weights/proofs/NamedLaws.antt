@@ -1,4 +1,5 @@
 -- An operand that is a name, with a `;` or the line's LF right behind it.
+use Rattle.std.specs.Prelude.{None, Option, Some, ℕ}
 use mathlib.Core.Path.{◌≡◌, refl, subst}
 use mathlib.Core.Bool.{true, false}
 use mathlib.Core.List.{List, []}
@@ -7,11 +8,10 @@ use native.Mathlib.Omega.{arith}
 use lib.ListN.{length, get_or}
 use Rattle.rules.specs.Lines.{in_plain, after}
 use Rattle.rules.specs.Tokens.{without_gaps}
+use Rattle.base_units.specs.declared.Refusal.{Refusal}
 use Rattle.text_lines.specs.declared.Signs.{Signs}
 use Rattle.text_lines.specs.declared.Spot.{Spot}
 use Rattle.text_lines.proofs.LineLaws.{spot, ends-feed}
-use Rattle.text_tokens.specs.declared.Closing.{Closing}
-use Rattle.text_tokens.specs.declared.Closing.TheVariants as closing
 use Rattle.text_tokens.specs.declared.Tok.{Tok}
 use Rattle.text_tokens.specs.declared.Next.TheVariants as next
 use Rattle.text_tokens.specs.Left.{tokens_left, PlainAt, NameEnds, ClosingIs, bare_at, named_at}
@@ -38,13 +38,13 @@ semi-behind g src r o w e =
     tail_more g src true r {o = operand.Token r (bare_at 1 n)} a refl refl
 
 module _ (g : Signs) (src : List ℕ) (p : Spot) (o : p.mode ≡ in_plain) {b : ℕ} (v : PlainAt g src p.at b) (e : b ≡ 60)
-    {c : Closing} (k : ClosingIs g src (spot (p.at + 1) 1 false) c) where
-  pub named-open : c ≡ closing.Open → BadWeights (operands_left g src false p)
+    {c : Option (Option Refusal × Spot)} (k : ClosingIs g src (spot (p.at + 1) 1 false) c) where
+  pub named-open : c ≡ None → BadWeights (operands_left g src false p)
   named-open i =
       weight-broken g src p {o = operand.Broken}
       (operand-broken g src false p refl (ahead_none g src p o v (omega arith)) {n = next.Broken} (ahead-open g src p o v e k i) refl) refl
 
-  module _ {f : ℕ} {r : Spot} (i : c ≡ closing.Closed f r) where
+  module _ {f : Option Refusal} {r : Spot} (i : c ≡ Some (f, r)) where
     abbrev this : Tok
     this = named_at f (spot (p.at + 1) 1 false) r
 

@@ -7,7 +7,7 @@ ghost use Rattle.locale_weights.specs.Weights.{TailIs, WeightIs};
 
 use text_lines::{IN_NAME, IN_PLAIN, Signs, Spot};
 use text_operands::{Operand, next_operand};
-use text_tokens::{Closing, SEMI, Tok, end_of_name, named, plain_at};
+use text_tokens::{SEMI, Tok, end_of_name, named, plain_at};
 
 // The next operand: whether a `;` follows it, and the spot after that. One: the spot where its one token begins, and the token. Bad: the
 // operands still to come are malformed, whatever their names stand for.
@@ -31,16 +31,15 @@ fn after_token(src: &[u8], g: Signs, p: Spot, glued: bool) -> Tail
     requires { (p.at ≤ length src.now) × (p.mode ≡ in_plain) }
     ensures { TailIs g src.now glued p result }
 {
-    let o = next_operand(src, g, p, glued);
-    match o {
-        Operand::End => return Tail::Last,
-        Operand::Broken => return Tail::Bad,
+    match next_operand(src, g, p, glued) {
+        Operand::End => Tail::Last,
+        Operand::Broken => Tail::Bad,
         Operand::Token(_, t) => {
-            let e = t.next;
             if t.kind == SEMI {
-                return Tail::More(e);
+                Tail::More(t.next)
+            } else {
+                Tail::Bad // a second token
             }
-            return Tail::Bad;
         }
     }
 }
@@ -58,30 +57,26 @@ pub fn next_weight(src: &[u8], g: Signs, p: Spot) -> Weight
             mode: IN_NAME,
             fresh: false,
         };
-        let c = end_of_name(src, g, q);
-        match c {
-            Closing::Open => return Weight::Bad,
-            Closing::Closed(f, r) => {
-                let t = named(f, q, r);
-                let e = r.at;
-                if e < src.len() {
-                    if src[e] == 10 {
-                        return Weight::One(p, t, false, r);
-                    }
-                    if plain_at(src, g, e) == 59 {
-                        return Weight::One(
-                            p,
-                            t,
-                            true,
-                            Spot {
-                                at: e + 1,
-                                mode: IN_PLAIN,
-                                fresh: false,
-                            },
-                        );
-                    }
-                }
-                return any_weight(src, g, p);
+        let Some((f, r)) = end_of_name(src, g, q) else {
+            return Weight::Bad;
+        };
+        let t = named(f, q, r);
+        let e = r.at;
+        if e < src.len() {
+            if src[e] == 10 {
+                return Weight::One(p, t, false, r);
+            }
+            if plain_at(src, g, e) == 59 {
+                return Weight::One(
+                    p,
+                    t,
+                    true,
+                    Spot {
+                        at: e + 1,
+                        mode: IN_PLAIN,
+                        fresh: false,
+                    },
+                );
             }
         }
     }
@@ -93,20 +88,18 @@ fn any_weight(src: &[u8], g: Signs, p: Spot) -> Weight
     requires { (p.at ≤ length src.now) × (p.mode ≡ in_plain) }
     ensures { WeightIs g src.now p result }
 {
-    let o = next_operand(src, g, p, false);
-    match o {
-        Operand::End => return Weight::Empty(false, p),
-        Operand::Broken => return Weight::Bad,
+    match next_operand(src, g, p, false) {
+        Operand::End => Weight::Empty(false, p),
+        Operand::Broken => Weight::Bad,
         Operand::Token(q, t) => {
             let e = t.next;
             if t.kind == SEMI {
                 return Weight::Empty(true, e);
             }
-            let u = after_token(src, g, e, t.kind >= 3);
-            match u {
-                Tail::Last => return Weight::One(q, t, false, e),
-                Tail::Bad => return Weight::Bad,
-                Tail::More(d) => return Weight::One(q, t, true, d),
+            match after_token(src, g, e, t.kind >= 3) {
+                Tail::Last => Weight::One(q, t, false, e),
+                Tail::Bad => Weight::Bad,
+                Tail::More(d) => Weight::One(q, t, true, d),
             }
         }
     }

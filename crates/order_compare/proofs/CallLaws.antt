@@ -60,9 +60,6 @@ module _ (t a b : List ℕ) {x : Bool} (e : x ≡ accepted t) where
       unfolding compare_call
       compare-second-string k = rw (← e, h, ← f, g, ← i, k)
 
-      pub compare-good : z ≡ true → Good t a b
-      compare-good k = record { checked = sym e ∙ h; first = sym f ∙ g; second = sym i ∙ k }
-
       pub compare-answer : z ≡ true → {r : order.Answer} → r ≡ compare_of (meaning_in t) a b → record { refusal = 0; answer = r } ≡ compare_call t a b
       unfolding compare_call
       compare-answer k w = rw (← e, h, ← f, g, ← i, k, w)

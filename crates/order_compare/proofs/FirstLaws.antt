@@ -6,13 +6,12 @@ use Prim.Native.Nat.{ℕ, ◌≤◌}
 use native.Mathlib.Omega.{arith}
 use native.Mathlib.Nat.{zero-add}
 use lib.ListN.{length, take}
-use lib.Seq.{length-take-le}
 use Rattle.rules.specs.Table.{meaning_in}
 use Rattle.rules.specs.Order as order
 use Rattle.rules.specs.Order.{less, greater, answer_from, compare_of}
 use Rattle.rules.proofs.PassedLaws.{starts, with_passed}
 use Rattle.table_layout.proofs.PartLaws.{table-good}
-use Rattle.base_units.specs.declared.Sign.TheVariants.{Less, Equal, Greater}
+use Rattle.std.specs.declared.cmp.Ordering.TheVariants.{Less, Equal, Greater}
 use Rattle.order_elements.specs.Cuts.{Ready, Split}
 use Rattle.order_elements.specs.Firsts.{first_entries, Ends, Agrees, FirstCompared}
 use Rattle.order_elements.specs.declared.Alike.{Alike}
@@ -20,10 +19,6 @@ use Rattle.order_elements.specs.declared.First.{First}
 use Rattle.order_elements.specs.declared.First.TheVariants.{Before, After, Same}
 use Rattle.order_compare.specs.Strings.{answer_on, Placed, BothCut, Forward}
 use Rattle.order_compare.proofs.LevelLaws.{settled-less, settled-greater, settled_on, lists_after, on-level}
-
--- a beginning within a list has its own length
-pub count-is : (n : ℕ) (xs : List ℕ) → n ≤ length xs → n ≡ length (take n xs)
-count-is n xs h = sym (length-take-le n xs h)
 
 -- a string that is cut
 placed : {t s places : List ℕ} {n : ℕ} (after : List ℕ) → Ready t s places → Split t s after n → Placed t s (take n after)

@@ -21,7 +21,8 @@ use Rattle.table_layout.specs.Parts.{rule_as, rule_at}
 use Rattle.table_layout.specs.declared.Rule.{Rule}
 use Rattle.table_layout.proofs.PartLaws.{table-good}
 use Rattle.base_units.specs.Numbers.{sign_of}
-use Rattle.base_units.specs.declared.Sign.TheVariants.{Less, Equal, Greater}
+use Rattle.std.specs.declared.cmp.Ordering.{Ordering}
+use Rattle.std.specs.declared.cmp.Ordering.TheVariants.{Less, Equal, Greater}
 use Rattle.order_entries.specs.Walk.{Level, seen_as, Compared}
 use Rattle.order_entries.specs.declared.Seen.{Seen}
 use Rattle.order_compare.specs.Strings.{CodesCompared, Placed, answer_on}
@@ -43,6 +44,16 @@ module _ (s : Seen) (k n : ℕ) (xs ys : List Entry) (as' bs : List (List Entry)
       → record { sign = greater; level = k; agreed = n + s.agreed } ≡ with_passed n (answer_from k (xs ∷ as') (ys ∷ bs))
   settled-greater z = rw agreed (sym (decided-greater k n xs ys as' bs (sign ∙ ap sign_of z)))
 
+  pub settled : (s.sign ≡ Equal → ⊥)
+      → record { sign = sign_of s.sign; level = k; agreed = n + s.agreed } ≡ with_passed n (answer_from k (xs ∷ as') (ys ∷ bs))
+  settled f = go s.sign refl
+    where
+      go : (z : Ordering) → s.sign ≡ z
+          → record { sign = sign_of s.sign; level = k; agreed = n + s.agreed } ≡ with_passed n (answer_from k (xs ∷ as') (ys ∷ bs))
+      go Less z = rw z (settled-less z)
+      go Equal z = absurd (f z)
+      go Greater z = rw z (settled-greater z)
+
   -- where they are equal the lists after them decide
   pub settled_on : s.sign ≡ Equal
       → with_passed (n + s.agreed) (answer_from (suc k) as' bs) ≡ with_passed n (answer_from k (xs ∷ as') (ys ∷ bs))
@@ -51,13 +62,9 @@ module _ (s : Seen) (k n : ℕ) (xs ys : List Entry) (as' bs : List (List Entry)
 -- ## Code points, as the last list
 
 module _ (s : Seen) (n k : ℕ) {a b : List ℕ} (v : CodesCompared a b s) where
-  pub last_less : s.sign ≡ Less
-      → record { sign = less; level = k; agreed = n + s.agreed } ≡ with_passed n (answer_from k (codes a ∷ []) (codes b ∷ []))
-  last_less = settled-less s k n (codes a) (codes b) [] [] v.is
-
-  pub last-greater : s.sign ≡ Greater
-      → record { sign = greater; level = k; agreed = n + s.agreed } ≡ with_passed n (answer_from k (codes a ∷ []) (codes b ∷ []))
-  last-greater = settled-greater s k n (codes a) (codes b) [] [] v.is
+  pub last-settled : (s.sign ≡ Equal → ⊥)
+      → record { sign = sign_of s.sign; level = k; agreed = n + s.agreed } ≡ with_passed n (answer_from k (codes a ∷ []) (codes b ∷ []))
+  last-settled = settled s k n (codes a) (codes b) [] [] v.is
 
   pub last-equal : s.sign ≡ Equal
       → record { sign = equal; level = 0; agreed = n + s.agreed } ≡ with_passed n (answer_from k (codes a ∷ []) (codes b ∷ []))
@@ -132,13 +139,9 @@ module _ {t a b as' bs : List ℕ} {l level agreed k n : ℕ} {rule : Rule} {s :
   asked : with_passed n (answer_from (suc k) (entries_at t k a ∷ lists_after t k a) (entries_at t k b ∷ lists_after t k b)) ≡ answer_on t a b level agreed
   asked = sym (on-level t a b k n (omega (arith, v.many))) ∙ v.same
 
-  pub level-less : s.sign ≡ Less → record { sign = less; level = k + 1; agreed = n + s.agreed } ≡ answer_on t a b level agreed
-  level-less z =
-      rw (add-one k) (settled-less s (suc k) n (entries_at t k a) (entries_at t k b) (lists_after t k a) (lists_after t k b) run z ∙ asked)
-
-  pub level-greater : s.sign ≡ Greater → record { sign = greater; level = k + 1; agreed = n + s.agreed } ≡ answer_on t a b level agreed
-  level-greater z =
-      rw (add-one k) (settled-greater s (suc k) n (entries_at t k a) (entries_at t k b) (lists_after t k a) (lists_after t k b) run z ∙ asked)
+  pub level-settled : (s.sign ≡ Equal → ⊥) → record { sign = sign_of s.sign; level = k + 1; agreed = n + s.agreed } ≡ answer_on t a b level agreed
+  level-settled z =
+      rw (add-one k) (settled s (suc k) n (entries_at t k a) (entries_at t k b) (lists_after t k a) (lists_after t k b) run z ∙ asked)
 
   pub levels-more : s.sign ≡ Equal → Levels t a b l level agreed (k + 1) (n + s.agreed)
   unfolding answer_on

@@ -12,43 +12,24 @@ ghost use Rattle.order_elements.specs.Cuts.{Ready};
 ghost use Rattle.order_compare.specs.Answers.{answer_as, compared_as, stepped_as};
 ghost use Rattle.order_compare.specs.Strings.{CodesCompared, Placed, answer_on, BothCut, Forward, Good};
 
-use base_units::{CodePoint, Refusal, Sign};
+use base_units::{CodePoint, Refusal};
 use order_elements::{Alike, First};
 use order_entries::Seen;
+use std::cmp::Ordering;
 
 // How two strings stand to each other, the level that decides, from 1, or 0 where they are equal, and how many entries agreed.
 #[derive(Clone, Copy)]
 pub struct Answer {
-    pub sign: Sign,
+    pub sign: Ordering,
     pub level: usize,
     pub agreed: usize,
 }
 
-// What a comparison gives.
-#[derive(Clone, Copy)]
-pub enum Comparison {
-    Decided(Answer),
-    Refused(Refusal),
-}
-
-// What a step gives: an item's place in the table, from 1, and how many characters it takes.
-#[derive(Clone, Copy)]
-pub enum Stepping {
-    At(usize, usize),
-    Refused(Refusal),
-}
-
 // How two characters compare.
-fn order_of(x: CodePoint, y: CodePoint) -> Sign
+fn order_of(x: CodePoint, y: CodePoint) -> Ordering
     ensures { sign_of result ≡ sign_ℕ x.0 y.0 }
 {
-    if x.0 < y.0 {
-        return Sign::Less;
-    }
-    if y.0 < x.0 {
-        return Sign::Greater;
-    }
-    Sign::Equal
+    x.cmp(&y)
 }
 
 // How two strings compare by their code points: the first difference decides.
@@ -56,43 +37,16 @@ fn compare_codes(a: &[u32], b: &[u32]) -> Seen
     requires { length a.now ≤ 4096 }
     ensures { CodesCompared a.now b.now result }
 {
-    let mut i: usize = 0;
-    while i < a.len() {
-        if i < b.len() {
-            let s = order_of(CodePoint(a[i]), CodePoint(b[i]));
-            match s {
-                Sign::Less => {
-                    return Seen {
-                        sign: Sign::Less,
-                        agreed: i,
-                    };
-                }
-                Sign::Greater => {
-                    return Seen {
-                        sign: Sign::Greater,
-                        agreed: i,
-                    };
-                }
-                Sign::Equal => {
-                    i += 1;
-                }
-            }
-        } else {
-            return Seen {
-                sign: Sign::Greater,
-                agreed: i,
-            };
+    let end = a.len().min(b.len());
+    for i in 0..end {
+        match order_of(CodePoint(a[i]), CodePoint(b[i])) {
+            Ordering::Equal => {}
+            sign => return Seen { sign, agreed: i },
         }
     }
-    if i < b.len() {
-        return Seen {
-            sign: Sign::Less,
-            agreed: i,
-        };
-    }
     Seen {
-        sign: Sign::Equal,
-        agreed: i,
+        sign: a.len().cmp(&b.len()),
+        agreed: end,
     }
 }
 
@@ -103,21 +57,15 @@ fn compare_last(a: &[u32], b: &[u32], level: usize, agreed: usize) -> Answer
 {
     let seen = compare_codes(a, b);
     let n = agreed + seen.agreed;
-    let sign = seen.sign;
-    match sign {
-        Sign::Less => Answer {
-            sign: Sign::Less,
-            level: level,
-            agreed: n,
-        },
-        Sign::Greater => Answer {
-            sign: Sign::Greater,
-            level: level,
-            agreed: n,
-        },
-        Sign::Equal => Answer {
-            sign: Sign::Equal,
+    match seen.sign {
+        Ordering::Equal => Answer {
+            sign: Ordering::Equal,
             level: 0,
+            agreed: n,
+        },
+        sign => Answer {
+            sign,
+            level,
             agreed: n,
         },
     }
@@ -139,30 +87,20 @@ fn compare_from(
     ensures { answer_as result ≡ answer_on t.now a.now b.now level agreed }
 {
     let levels = table_layout::levels(t);
-    let mut k = level;
     let mut n = agreed;
-    while k < levels {
+    for k in level..levels {
         let rule = table_layout::rule_of(t, k);
         let seen = order_entries::compare_level(t, first, second, k, rule);
         n += seen.agreed;
-        k += 1;
-        let sign = seen.sign;
-        match sign {
-            Sign::Less => {
+        match seen.sign {
+            Ordering::Equal => {}
+            sign => {
                 return Answer {
-                    sign: Sign::Less,
-                    level: k,
+                    sign,
+                    level: k + 1,
                     agreed: n,
                 };
             }
-            Sign::Greater => {
-                return Answer {
-                    sign: Sign::Greater,
-                    level: k,
-                    agreed: n,
-                };
-            }
-            Sign::Equal => {}
         }
     }
     compare_last(a, b, levels + 1, n)
@@ -181,9 +119,15 @@ fn compare_cut(
     requires { BothCut t.now a.now b.now first.now second.now cut level }
     ensures { answer_as result ≡ answer_on t.now a.now b.now level cut.agreed }
 {
-    let n = cut.first;
-    let m = cut.second;
-    compare_from(t, a, b, &first[..n], &second[..m], level, cut.agreed)
+    compare_from(
+        t,
+        a,
+        b,
+        &first[..cut.first],
+        &second[..cut.second],
+        level,
+        cut.agreed,
+    )
 }
 
 // The answer of two strings that are cut first.
@@ -216,15 +160,14 @@ fn compare_forward(
     requires forward { Forward t.now position }
     ensures { answer_as result ≡ compare_of (meaning_in t.now) a.now b.now }
 {
-    let level = order_elements::compare_first(t, a, b, first, second, position);
-    match level {
+    match order_elements::compare_first(t, a, b, first, second, position) {
         First::Before(n) => Answer {
-            sign: Sign::Less,
+            sign: Ordering::Less,
             level: 1,
             agreed: n,
         },
         First::After(n) => Answer {
-            sign: Sign::Greater,
+            sign: Ordering::Greater,
             level: 1,
             agreed: n,
         },
@@ -240,30 +183,21 @@ fn compare_within(t: &[u32], a: &[u32], b: &[u32], first: &mut [u32], second: &m
 {
     let rule = table_layout::rule_of(t, 0);
     if rule.backward {
-        return compare_split(t, a, b, first, second);
+        compare_split(t, a, b, first, second)
+    } else {
+        compare_forward(t, a, b, first, second, rule.position)
     }
-    compare_forward(t, a, b, first, second, rule.position)
 }
 
-// The answer of two short strings, with little room to be made.
-fn compare_short(t: &[u32], a: &[u32], b: &[u32]) -> Answer
+// The answer of two strings of at most N characters, with room made for as many elements of each.
+fn compare_sized<const N: usize>(t: &[u32], a: &[u32], b: &[u32]) -> Answer
     requires good { Good t.now a.now b.now }
-    requires a_len_bound { (length a.now ≤ 128) × (length b.now ≤ 128) }
+    requires a_len_bound { (length a.now ≤ N) × (length b.now ≤ N) }
+    requires n_bound { N ≤ 4096 }
     ensures { answer_as result ≡ compare_of (meaning_in t.now) a.now b.now }
 {
-    let mut first = [0u32; 128];
-    let mut second = [0u32; 128];
-    compare_within(t, a, b, &mut first, &mut second)
-}
-
-// The answer of two strings, with room for the longest.
-fn compare_long(t: &[u32], a: &[u32], b: &[u32]) -> Answer
-    requires good { Good t.now a.now b.now }
-    requires a_len_bound { (length a.now ≤ 4096) × (length b.now ≤ 4096) }
-    ensures { answer_as result ≡ compare_of (meaning_in t.now) a.now b.now }
-{
-    let mut first = [0u32; 4096];
-    let mut second = [0u32; 4096];
+    let mut first = [0u32; N];
+    let mut second = [0u32; N];
     compare_within(t, a, b, &mut first, &mut second)
 }
 
@@ -272,50 +206,42 @@ fn compare_good(t: &[u32], a: &[u32], b: &[u32]) -> Answer
     requires { Good t.now a.now b.now }
     ensures { answer_as result ≡ compare_of (meaning_in t.now) a.now b.now }
 {
-    if a.len() <= 128 {
-        if b.len() <= 128 {
-            return compare_short(t, a, b);
-        }
+    if a.len() <= 128 && b.len() <= 128 {
+        compare_sized::<128>(t, a, b)
+    } else {
+        compare_sized::<4096>(t, a, b)
     }
-    compare_long(t, a, b)
 }
 
 // How two strings compare, by a table: checked here, as are the strings, the first before the second. It has no `requires`.
-pub fn compare(t: &[u32], a: &[u32], b: &[u32]) -> Comparison
+pub fn compare(t: &[u32], a: &[u32], b: &[u32]) -> Result<Answer, Refusal>
     ensures { compared_as result ≡ compare_call t.now a.now b.now }
 {
-    let accepted = table_check::accepts(t);
-    if accepted {
-        let first = base_units::good_string(a);
-        if first {
-            let second = base_units::good_string(b);
-            if second {
-                let answer = compare_good(t, a, b);
-                return Comparison::Decided(answer);
-            }
-            return Comparison::Refused(Refusal::BadString);
-        }
-        return Comparison::Refused(Refusal::BadString);
+    if !table_check::accepts(t) {
+        return Err(Refusal::NotAccepted);
     }
-    Comparison::Refused(Refusal::NotAccepted)
+    if !base_units::good_string(a) || !base_units::good_string(b) {
+        return Err(Refusal::BadString);
+    }
+    let answer = compare_good(t, a, b);
+    Ok(answer)
 }
 
 // The element that begins at a place of a string, from 0: its item's place in the table, from 1, and how many characters it takes; both 0
 // at or past the end. The table and the whole string are checked here. It has no `requires`.
-pub fn step(t: &[u32], s: &[u32], at: usize) -> Stepping
+pub fn step(t: &[u32], s: &[u32], at: usize) -> Result<(usize, usize), Refusal>
     ensures { stepped_as result ≡ step_call t.now s.now at }
 {
-    let accepted = table_check::accepts(t);
-    if accepted {
-        let good = base_units::good_string(s);
-        if good {
-            if at < s.len() {
-                let found = order_find::longest(t, s, at);
-                return Stepping::At(found.place, found.size);
-            }
-            return Stepping::At(0, 0);
-        }
-        return Stepping::Refused(Refusal::BadString);
+    if !table_check::accepts(t) {
+        return Err(Refusal::NotAccepted);
     }
-    Stepping::Refused(Refusal::NotAccepted)
+    if !base_units::good_string(s) {
+        return Err(Refusal::BadString);
+    }
+    if at < s.len() {
+        let found = order_find::longest(t, s, at);
+        Ok((found.place, found.size))
+    } else {
+        Ok((0, 0))
+    }
 }

@@ -2,7 +2,7 @@
 use mathlib.Core.Path.{◌≡◌, refl, sym, ap, ◌∙◌}
 use mathlib.Core.Bool.{Bool, true, false, ◌&&◌, false≢true}
 use mathlib.Core.List.{List, [], ◌∷◌, map}
-use Prim.Native.Nat.{ℕ, zero, suc, ◌+◌, ◌-◌, ◌/◌, ◌≤◌, ◌<◌}
+use Prim.Native.Nat.{ℕ, zero, suc, ◌+◌, ◌≤◌, ◌<◌}
 use native.Mathlib.Numerals.{add-one}
 use native.Mathlib.Nat.{le_of_suc-le-suc}
 use native.Mathlib.Omega.{arith}
@@ -10,9 +10,11 @@ use mir.Syntax.{w32}
 use mir.Val.{Fits}
 use lib.ListN.{length, get_or, take, drop, set, length-set, length-map, drop_of_length-le}
 use lib.Seq.{take_all, take-suc, drop-cons, take-suc-set}
-use lib.Dec.{ltb}
-use borrow.Author.Tests.{ltb-true, lt-ltb, le-ltb}
+use lib.Dec.{ltb, leb}
+use borrow.Author.Tests.{ltb-true, lt-ltb, le-ltb, leb-true, leb-false}
 use Rattle.base_lists.proofs.Bools.{by, and_left, and_right, and_intro}
+use Rattle.base_lists.proofs.Places.{get_d_default}
+use Rattle.std.specs.List.Sorted.{IsPartitionedBy, IsPartitionPoint}
 use Rattle.rules.specs.Text.{every}
 use Rattle.rules.specs.Table.{meaning_in}
 use Rattle.rules.specs.Directory.{part, parts_of, part_weight, rising, good_headings, heading_of, part_at, weights_of}
@@ -55,58 +57,33 @@ headings-run (w ∷ ws) =
     (λ t. rw (t, rising-run w ws) (and-implied (every (ltb 0) ws) (rising_from w ws) (λ h. run-above 0 w ws (omega arith) h)))
     (λ t. rw t)
 
--- ## Halving
+-- ## The last heading that is not above a weight
 
--- The heading before the range is not above w, and those from its end on are.
-pub record Halving (ws : List ℕ) (w lo hi : ℕ) : Type 0 where
-  pub ordered : lo ≤ hi
-  pub inside : hi ≤ length ws
-  pub below : (k : ℕ) → lo ≡ suc k → get_or ws k 0 ≤ w
-  pub above : Above w hi ws
+module _ {ws : List ℕ} (w : ℕ) (r : Rising ws) where
+  -- behind one that is above it, all are
+  pub weights-parted : IsPartitionedBy (λ (y : ℕ). leb y w) ws
+  weights-parted i j d h l t =
+      by (leb (get_or ws i d) w)
+      (λ e. e)
+      (λ e.
+      let up : w < get_or ws i 0 = rw (← get_d_default ws i d 0 (omega arith)) (leb-false (get_or ws i d) w e) in
+      let a = rising-from w ws i (headings-rise ws r.rise) (omega arith) up in
+      let low : get_or ws j 0 ≤ w = rw (← get_d_default ws j d 0 l) (leb-true (get_or ws j d) w t) in
+      absurd (omega (arith, a.each j h l)))
 
-pub halving-start : (ws : List ℕ) (w : ℕ) → Halving ws w 0 (length ws)
-halving-start ws w = record {
-  ordered = omega arith;
-  inside = omega arith;
-  below = λ k e. absurd (omega arith);
-  above = record { each = λ j h l. absurd (omega arith) };
-}
-
-abbrev pub half : ℕ → ℕ → ℕ
-half lo hi = lo + (hi - lo) / 2
-
-module _ {ws : List ℕ} {w lo hi : ℕ} (v : Halving ws w lo hi) where
-  pub halving-inside : lo < hi → half lo hi < length ws
-  halving-inside h = omega (arith, v.inside)
-
-  pub halving-up : lo < hi → get_or ws (half lo hi) 0 ≤ w → Halving ws w (half lo hi + 1) hi
-  halving-up h l = record { ordered = omega arith; inside = v.inside; below = lower; above = v.above }
+  pub heading-parted : {h : ℕ} → IsPartitionPoint (λ (y : ℕ). leb y w ≡ true) (λ (y : ℕ). leb y w ≡ false) ws h → h ≤ length ws → h ≡ heading_of ws w
+  heading-parted {h} p b = go h refl
     where
-      lower : (k : ℕ) → half lo hi + 1 ≡ suc k → get_or ws k 0 ≤ w
-      lower k e = let q : k ≡ half lo hi = omega arith in rw q l
+      above : Above w h ws
+      above = record { each = λ j l k. leb-false (get_or ws j 0) w (p.1 j 0 l k) }
 
-  module _ (r : Rising ws) where
-    pub halving-down : lo < hi → w < get_or ws (half lo hi) 0 → Halving ws w lo (half lo hi)
-    halving-down h l = record {
-      ordered = omega arith;
-      inside = omega (arith, v.inside);
-      below = v.below;
-      above = rising-from w ws (half lo hi) (headings-rise ws r.rise) (halving-inside h) l;
-    }
-
-    pub halving-end : hi ≤ lo → lo ≡ heading_of ws w
-    halving-end h = go lo refl
-      where
-        here : hi ≡ lo
-        here = omega (arith, v.ordered)
-
-        go : (n : ℕ) → lo ≡ n → lo ≡ heading_of ws w
-        go zero e = e ∙ sym (heading-before ws w (rw (here, e) at v.above))
-        go (suc k) e =
-            let l : k < length ws = omega (arith, v.inside) in
-            let p = some-weight ws k r.rise l in
-            let b = v.below k e in
-            e ∙ sym (heading-last ws w k (omega arith) l b (rw (here, e) at v.above))
+      go : (n : ℕ) → h ≡ n → h ≡ heading_of ws w
+      go zero e = e ∙ sym (heading-before ws w (rw e at above))
+      go (suc k) e =
+          let l : k < length ws = omega arith in
+          let q = some-weight ws k r.rise l in
+          let low : get_or ws k 0 ≤ w = leb-true (get_or ws k 0) w (p.0 k 0 (omega arith) (omega arith)) in
+          e ∙ sym (heading-last ws w k (omega arith) l low (rw e at above))
 
 -- a heading's number is small
 pub heading-fits : (ws : List ℕ) (w : ℕ) {h : ℕ} → Rising ws → h ≡ heading_of ws w → Fits w32 h

@@ -1,5 +1,5 @@
 -- The first weight of a part, and the answer of the directory, refusal by refusal.
-use Rattle.std.specs.Prelude.{if◌then◌else◌}
+use Rattle.std.specs.Prelude.{if◌then◌else◌, Err, Ok}
 use mathlib.Core.Path.{◌≡◌, sym, ap, ◌∙◌}
 use mathlib.Core.Bool.{Bool, true, false, not, ◌&&◌, ◌||◌}
 use mathlib.Core.List.{List, map}
@@ -25,7 +25,6 @@ use Rattle.table_layout.proofs.PartLaws.{table-good}
 use Rattle.order_elements.specs.Cuts as cuts
 use Rattle.order_elements.specs.Firsts.{first_entries}
 use Rattle.order_elements.proofs.CutLaws.{good-ready}
-use Rattle.order_directory.specs.declared.Directed.TheVariants.{Done, Refused}
 use Rattle.order_directory.specs.Answers.{directed_is}
 use Rattle.order_directory.specs.Asks.{PartReady, Ready, Rising, Weighed, Fitting, Page, RisingPage}
 use Rattle.order_directory.proofs.PartLaws.{slice_is, each_part}
@@ -41,11 +40,11 @@ module _ (t : List ℕ) (a : accepted t ≡ true) {r : Rule} (e : rule_as r ≡ 
       plain-first (meaning_in t).rules (record { backward = false; position = false }) (first-level t a)
       ∙ ap (λ (x : meaning.Rule). not (x.backward || x.position)) (sym e)
 
-  pub backward-first : r.backward ≡ true → false ≡ plain_first (meaning_in t).rules
-  backward-first b = sym (plain-is ∙ rw b)
+  pub backward-first : not r.backward ≡ false → not r.backward ≡ plain_first (meaning_in t).rules
+  backward-first h = let b = not-false r.backward h in rw b (sym (plain-is ∙ rw b))
 
-  pub forward-first : r.backward ≡ false → not r.position ≡ plain_first (meaning_in t).rules
-  forward-first b = sym (plain-is ∙ rw b)
+  pub forward-first : not r.backward ≡ true → not r.position ≡ plain_first (meaning_in t).rules
+  forward-first h = let b = not-true r.backward h in sym (plain-is ∙ rw b)
 
 -- ## The first weight of a part
 
@@ -75,15 +74,11 @@ ready-part t run parts places i q v h e = record {
   room = v.room;
 }
 
-pub weight-at : (t run parts : List ℕ) (i : ℕ) (q : Part) {r : ℕ} → q ≡ part_at parts i → r ≡ part_weight (meaning_in t) run q
-    → r ≡ part_weight (meaning_in t) run (part_at parts i)
-weight-at t run parts i q e f = f ∙ ap (part_weight (meaning_in t) run) e
-
 -- ## Parts that fit
 
-pub too_many : (run parts : List ℕ) {n : ℕ} → n ≡ length (parts_of parts) → 1000 < n → false ≡ parts_fit run (parts_of parts)
+pub too_many : (run parts : List ℕ) {n : ℕ} → n ≡ length (parts_of parts) → 1000 < n → leb n 1000 ≡ parts_fit run (parts_of parts)
 unfolding parts_fit
-too_many run parts e h = rw (lt-leb (length (parts_of parts)) 1000 (omega arith))
+too_many run parts {n} e h = lt-leb n 1000 h ∙ rw (lt-leb (length (parts_of parts)) 1000 (omega arith))
 
 pub few-enough : (run parts : List ℕ) {n : ℕ} {b : Bool} → n ≡ length (parts_of parts) → n ≤ 1000 → b ≡ every (in_run run) (parts_of parts)
     → b ≡ parts_fit run (parts_of parts)
@@ -99,13 +94,6 @@ fit-few run parts e = leb-true (length (parts_of parts)) 1000 (and_left (leb (le
 fit-inside : (run parts : List ℕ) → parts_fit run (parts_of parts) ≡ true → every (in_run run) (parts_of parts) ≡ true
 unfolding parts_fit
 fit-inside run parts e = and_right (leb (length (parts_of parts)) 1000) (every (in_run run) (parts_of parts)) e
-
--- two tests at once: the first fails, or the second decides
-pub first-fails : {a : Bool} (b c : Bool) → a ≡ b → not a ≡ true → false ≡ (b && c)
-first-fails {a} b c e h = rw (← e, not-true a h)
-
-pub second-decides : {a d : Bool} (b c : Bool) → a ≡ b → not a ≡ false → d ≡ c → d ≡ (b && c)
-second-decides {a} b c e h f = rw (← e, not-false a h) f
 
 pub fitting-headings : (run headings topics : List ℕ) → Fitting run headings topics → every (in_run run) (parts_of headings) ≡ true
 fitting-headings run headings topics v = fit-inside run headings (and_left (parts_fit run (parts_of headings)) (parts_fit run (parts_of topics)) v.fit)
@@ -152,7 +140,7 @@ module _ (t run headings topics : List ℕ) (v : Page t run headings topics) whe
   page-call list = rw (v.checked, v.plain, v.fit, v.good)
 
   module _ (weights : List ℕ) {b : Bool} (w : Weighed t run headings weights b) where
-    pub page-falls : (list : List ℕ) → not b ≡ true → directed_is (Refused NotRising) list ≡ directory_call t run headings topics list
+    pub page-falls : (list : List ℕ) → not b ≡ true → directed_is (Err NotRising) list ≡ directory_call t run headings topics list
     unfolding directed_as
     page-falls list e = rw (page-call list, ← w.is, e)
 
@@ -178,7 +166,7 @@ module _ (t run headings topics places weights : List ℕ) (v : RisingPage t run
   ranked-call list = page-call t run headings topics v.page list ∙ rw v.rise
 
   pub ranked-short : (list : List ℕ) {n : ℕ} → n ≡ length (parts_of topics) → length list < n
-      → directed_is (Refused NoRoom) list ≡ directory_call t run headings topics list
+      → directed_is (Err NoRoom) list ≡ directory_call t run headings topics list
   unfolding directed_as
   ranked-short list e h = rw (ranked-call list, lt-ltb (length list) (length (parts_of topics)) (omega arith))
 
@@ -199,14 +187,14 @@ module _ (t run headings topics places weights : List ℕ) (v : RisingPage t run
     }
 
     pub ranked-written : (list : List ℕ) {n : ℕ} {o : List ℕ} → n ≡ length (parts_of topics) → n ≤ length list
-        → o ≡ over (map (heading_of (take m weights)) (weights_of t run topics)) list → directed_is Done o ≡ directory_call t run headings topics list
+        → o ≡ over (map (heading_of (take m weights)) (weights_of t run topics)) list → directed_is (Ok tt) o ≡ directory_call t run headings topics list
     unfolding directed_as
     ranked-written list e h k = rw (k, ranked-kept, ranked-call list, le-ltb (length list) (length (parts_of topics)) (omega arith))
 
 -- ## The refusals before
 
 module _ (t run headings topics list : List ℕ) {a : Bool} (accepts : a ≡ accepted t) where
-  pub call-unaccepted : not a ≡ true → directed_is (Refused NotAccepted) list ≡ directory_call t run headings topics list
+  pub call-unaccepted : not a ≡ true → directed_is (Err NotAccepted) list ≡ directory_call t run headings topics list
   unfolding directory_call directed_as directory_of
   call-unaccepted e = rw (← accepts, e)
 
@@ -214,17 +202,17 @@ module _ (t run headings topics list : List ℕ) {a : Bool} (accepts : a ≡ acc
   call-accepted e = sym accepts ∙ not-false a e
 
   module _ {p : Bool} (yes-table : not a ≡ false) (plains : p ≡ plain_first (meaning_in t).rules) where
-    pub call-unplain : not p ≡ true → directed_is (Refused NotPlain) list ≡ directory_call t run headings topics list
+    pub call-unplain : not p ≡ true → directed_is (Err NotPlain) list ≡ directory_call t run headings topics list
     unfolding directory_call directed_as directory_of
     call-unplain e = rw (← accepts, yes-table, ← plains, e)
 
     module _ {f : Bool} (yes-plain : not p ≡ false) (fits : f ≡ (parts_fit run (parts_of headings) && parts_fit run (parts_of topics))) where
-      pub call-outside : not f ≡ true → directed_is (Refused BadPart) list ≡ directory_call t run headings topics list
+      pub call-outside : not f ≡ true → directed_is (Err BadPart) list ≡ directory_call t run headings topics list
       unfolding directory_call directed_as directory_of
       call-outside e = rw (← accepts, yes-table, ← plains, yes-plain, ← fits, e)
 
       module _ {g : Bool} (yes-fits : not f ≡ false) (goods : g ≡ (every (good_part run) (parts_of headings) && every (good_part run) (parts_of topics))) where
-        pub call-bad : not g ≡ true → directed_is (Refused BadString) list ≡ directory_call t run headings topics list
+        pub call-bad : not g ≡ true → directed_is (Err BadString) list ≡ directory_call t run headings topics list
         unfolding directory_call directed_as directory_of
         call-bad e = rw (← accepts, yes-table, ← plains, yes-plain, ← fits, yes-fits, ← goods, e)
 

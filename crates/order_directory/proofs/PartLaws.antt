@@ -40,9 +40,9 @@ part-inside xs i h = let e = parts-many xs in omega arith
 -- ## One part
 
 -- a part that begins outside the run reaches outside it
-pub begins-outside : (run : List ℕ) (a n : ℕ) → length run < a → false ≡ in_run run (part a n)
+pub begins-outside : (run : List ℕ) (a n : ℕ) → length run < a → leb a (length run) ≡ in_run run (part a n)
 unfolding in_run
-begins-outside run a n h = sym (lt-leb (a + n) (length run) (omega arith))
+begins-outside run a n h = lt-leb a (length run) h ∙ sym (lt-leb (a + n) (length run) (omega arith))
 
 -- else what the run has from its start on decides
 pub begins-inside : (run : List ℕ) (a n : ℕ) → a ≤ length run → leb n (length run - a) ≡ in_run run (part a n)

@@ -10,15 +10,7 @@ ghost use Rattle.rules.specs.Calls.{over, directory_call};
 ghost use Rattle.order_directory.specs.Answers.{directed_is};
 ghost use Rattle.order_directory.specs.Asks.{part_as, PartReady, Ready, Rising, Weighed, Fitting, Page, RisingPage};
 
-use base_units::Refusal;
-use order_elements::Leading;
-
-// Whether the list was written, or why it was not.
-#[derive(Clone, Copy)]
-pub enum Directed {
-    Done,
-    Refused(Refusal),
-}
+use base_units::{Rank, Refusal};
 
 // A part of the run: where it begins, and how many characters it has.
 #[derive(Clone, Copy)]
@@ -41,36 +33,24 @@ fn part_at(parts: &[u64], i: usize) -> Part
 {
     let start = parts[2 * i] as usize;
     let size = parts[2 * i + 1] as usize;
-    Part {
-        start: start,
-        size: size,
-    }
+    Part { start, size }
 }
 
 // Whether a part lies in the run.
 fn inside(run: &[u32], p: Part) -> bool
     ensures { result ≡ in_run run.now (part_as p) }
 {
-    let n = run.len();
-    if n < p.start {
-        return false;
-    }
-    p.size <= n - p.start
+    p.start <= run.len() && p.size <= run.len() - p.start
 }
 
 // Whether every part lies in the run.
 fn all_inside(run: &[u32], parts: &[u64]) -> bool
     ensures { result ≡ every (in_run run.now) (parts_of parts.now) }
 {
-    let n = count(parts);
-    let mut i = 0;
-    while i < n {
-        let p = part_at(parts, i);
-        let ok = inside(run, p);
-        if !ok {
+    for i in 0..count(parts) {
+        if !inside(run, part_at(parts, i)) {
             return false;
         }
-        i += 1;
     }
     true
 }
@@ -79,22 +59,14 @@ fn all_inside(run: &[u32], parts: &[u64]) -> bool
 fn fit(run: &[u32], parts: &[u64]) -> bool
     ensures { result ≡ parts_fit run.now (parts_of parts.now) }
 {
-    let n = count(parts);
-    if 1000 < n {
-        return false;
-    }
-    all_inside(run, parts)
+    count(parts) <= 1000 && all_inside(run, parts)
 }
 
 // Whether headings and topics are not too many, and lie in the run.
 fn both_fit(run: &[u32], headings: &[u64], topics: &[u64]) -> bool
     ensures { result ≡ (parts_fit run.now (parts_of headings.now) && parts_fit run.now (parts_of topics.now)) }
 {
-    let first = fit(run, headings);
-    if !first {
-        return false;
-    }
-    fit(run, topics)
+    fit(run, headings) && fit(run, topics)
 }
 
 // Whether the string of a part is one that no operation refuses.
@@ -107,20 +79,16 @@ fn good(run: &[u32], p: Part) -> bool
     base_units::good_string(&run[start..end])
 }
 
-// Whether the string of every part is one that no operation refuses.
+// Whether the string of every part is one that no operation refuses. One function for this and `all_inside`, with a closure for the test, would have to
+// say in its contract what `good` asks of a part and that the closure may be called there, which is longer than both.
 fn all_good(run: &[u32], parts: &[u64]) -> bool
     requires { every (in_run run.now) (parts_of parts.now) ≡ true }
     ensures { result ≡ every (good_part run.now) (parts_of parts.now) }
 {
-    let n = count(parts);
-    let mut i = 0;
-    while i < n {
-        let p = part_at(parts, i);
-        let ok = good(run, p);
-        if !ok {
+    for i in 0..count(parts) {
+        if !good(run, part_at(parts, i)) {
             return false;
         }
-        i += 1;
     }
     true
 }
@@ -130,20 +98,16 @@ fn both_good(run: &[u32], headings: &[u64], topics: &[u64]) -> bool
     requires { Fitting run.now headings.now topics.now }
     ensures { result ≡ (every (good_part run.now) (parts_of headings.now) && every (good_part run.now) (parts_of topics.now)) }
 {
-    let first = all_good(run, headings);
-    if !first {
-        return false;
-    }
-    all_good(run, topics)
+    all_good(run, headings) && all_good(run, topics)
 }
 
-// A first weight as a number: 0 where there is none, since no weight is 0.
-fn number(w: Leading) -> u32
+// A first weight as a number, as `part_weight` of the rules has it: 0 where there is none, since no weight is 0.
+fn number(w: Option<Rank>) -> u32
     ensures { result ≡ leading_as w }
 {
     match w {
-        Leading::At(rank) => rank.0,
-        Leading::Nothing => 0,
+        Some(rank) => rank.0,
+        None => 0,
     }
 }
 
@@ -154,8 +118,7 @@ fn part_weight(t: &[u32], run: &[u32], p: Part, places: &mut [u32]) -> u32
 {
     let start = p.start;
     let end = start + p.size;
-    let w = order_elements::first_weight(t, &run[start..end], places);
-    number(w)
+    number(order_elements::first_weight(t, &run[start..end], places))
 }
 
 // The first weight of the string of the part at a place, from 0.
@@ -164,8 +127,7 @@ fn weight(t: &[u32], run: &[u32], parts: &[u64], i: usize, places: &mut [u32]) -
     requires i_in_bounds { i < length (parts_of parts.now) }
     ensures { result ≡ part_weight (meaning_in t.now) run.now (part_at parts.now i) }
 {
-    let p = part_at(parts, i);
-    part_weight(t, run, p, places)
+    part_weight(t, run, part_at(parts, i), places)
 }
 
 // The first weights of the headings, kept in front of `weights`, as far as each has one that is above the one before it: whether all have.
@@ -176,15 +138,13 @@ fn weigh(t: &[u32], run: &[u32], headings: &[u64], places: &mut [u32], weights: 
 {
     let n = count(headings);
     let mut last = 0;
-    let mut i = 0;
-    while i < n {
+    for i in 0..n {
         let w = weight(t, run, headings, i, places);
         if w <= last {
             return false;
         }
         weights[i] = w;
         last = w;
-        i += 1;
     }
     true
 }
@@ -194,17 +154,7 @@ fn heading(weights: &[u32], w: u32) -> usize
     requires { Rising weights.now }
     ensures { result ≡ heading_of weights.now w }
 {
-    let mut lo = 0;
-    let mut hi = weights.len();
-    while lo < hi {
-        let mid = lo + (hi - lo) / 2;
-        if weights[mid] <= w {
-            lo = mid + 1;
-        } else {
-            hi = mid;
-        }
-    }
-    lo
+    weights.partition_point(|weight| *weight <= w)
 }
 
 // The heading of each topic, written to the front of the list.
@@ -222,12 +172,9 @@ fn write(
     ensures { list.new ≡ over (map (heading_of weights.now) (map (part_weight (meaning_in t.now) run.now) (parts_of topics.now))) list.old }
 {
     let n = count(topics);
-    let mut i = 0;
-    while i < n {
+    for i in 0..n {
         let w = weight(t, run, topics, i, places);
-        let h = heading(weights, w);
-        list[i] = h as u32;
-        i += 1;
+        list[i] = heading(weights, w) as u32;
     }
 }
 
@@ -240,17 +187,17 @@ fn list_rising(
     list: &mut [u32],
     places: &mut [u32],
     weights: &[u32],
-) -> Directed
+) -> Result<(), Refusal>
     requires { RisingPage t.now run.now headings.now topics.now places.old weights.now }
     ensures { directed_is result list.new ≡ directory_call t.now run.now headings.now topics.now list.old }
 {
     let n = count(topics);
     if list.len() < n {
-        return Directed::Refused(Refusal::NoRoom);
+        return Err(Refusal::NoRoom);
     }
     let m = count(headings);
     write(t, run, topics, places, &weights[..m], list);
-    Directed::Done
+    Ok(())
 }
 
 // The list of a page, where its headings rise, with room for the places of a string's elements and for the headings' weights.
@@ -262,20 +209,25 @@ fn list_within(
     list: &mut [u32],
     places: &mut [u32],
     weights: &mut [u32],
-) -> Directed
+) -> Result<(), Refusal>
     requires page { Page t.now run.now headings.now topics.now }
     requires in_bounds { (4096 ≤ length places.old) × (1000 ≤ length weights.old) }
     ensures { directed_is result list.new ≡ directory_call t.now run.now headings.now topics.now list.old }
 {
-    let rise = weigh(t, run, headings, places, weights);
-    if !rise {
-        return Directed::Refused(Refusal::NotRising);
+    if !weigh(t, run, headings, places, weights) {
+        return Err(Refusal::NotRising);
     }
     list_rising(t, run, headings, topics, list, places, weights)
 }
 
 // The list of a page, where its headings rise.
-fn list_page(t: &[u32], run: &[u32], headings: &[u64], topics: &[u64], list: &mut [u32]) -> Directed
+fn list_page(
+    t: &[u32],
+    run: &[u32],
+    headings: &[u64],
+    topics: &[u64],
+    list: &mut [u32],
+) -> Result<(), Refusal>
     requires { Page t.now run.now headings.now topics.now }
     ensures { directed_is result list.new ≡ directory_call t.now run.now headings.now topics.now list.old }
 {
@@ -290,10 +242,7 @@ fn plain(t: &[u32]) -> bool
     ensures { result ≡ plain_first (meaning_in t.now).rules }
 {
     let rule = table_layout::rule_of(t, 0);
-    if rule.backward {
-        return false;
-    }
-    !rule.position
+    !rule.backward && !rule.position
 }
 
 // The heading of each topic of a page, by its number from 1, or 0 for the top of the page, written to the front of the list, which stays as
@@ -305,24 +254,20 @@ pub fn directory(
     headings: &[u64],
     topics: &[u64],
     list: &mut [u32],
-) -> Directed
+) -> Result<(), Refusal>
     ensures { directed_is result list.new ≡ directory_call t.now run.now headings.now topics.now list.old }
 {
-    let ok = table_check::accepts(t);
-    if !ok {
-        return Directed::Refused(Refusal::NotAccepted);
+    if !table_check::accepts(t) {
+        return Err(Refusal::NotAccepted);
     }
-    let forward = plain(t);
-    if !forward {
-        return Directed::Refused(Refusal::NotPlain);
+    if !plain(t) {
+        return Err(Refusal::NotPlain);
     }
-    let fits = both_fit(run, headings, topics);
-    if !fits {
-        return Directed::Refused(Refusal::BadPart);
+    if !both_fit(run, headings, topics) {
+        return Err(Refusal::BadPart);
     }
-    let good = both_good(run, headings, topics);
-    if !good {
-        return Directed::Refused(Refusal::BadString);
+    if !both_good(run, headings, topics) {
+        return Err(Refusal::BadString);
     }
     list_page(t, run, headings, topics, list)
 }

@@ -23,7 +23,7 @@ use Rattle.rules.proofs.ElementLaws.{step-size}
 use Rattle.rules.proofs.PassedLaws.{seen}
 use Rattle.table_layout.specs.Parts.{Within, Many}
 use Rattle.table_layout.proofs.PartLaws.{table-good}
-use Rattle.order_find.specs.Answer.{found_as, Quick}
+use Rattle.order_find.specs.Answer.{found_as, Alone}
 use Rattle.order_find.specs.declared.Found.{Found}
 use Rattle.order_entries.specs.Walk.{level_with, skipped_after}
 use Rattle.order_entries.proofs.BothLaws.{Abreast, abreast}
@@ -31,9 +31,9 @@ use Rattle.order_elements.specs.declared.Walk.{Walk}
 use Rattle.order_elements.specs.declared.Common.{Common}
 use Rattle.order_elements.specs.Cuts.{Ready, CutOne}
 use Rattle.order_elements.specs.Firsts.{entries_on, Sound}
-use Rattle.order_elements.specs.Commons.{Shared, Certain, Level, Further, Both, Together}
+use Rattle.order_elements.specs.Commons.{Shared, Begins, Level, Further, Both, Together}
 use Rattle.order_elements.proofs.AlikeLaws.{step-front, seen-element, entries-element}
-use Rattle.order_find.proofs.FoundLaws.{found_first}
+use Rattle.order_find.proofs.FoundLaws.{found-size, found_first}
 use Rattle.order_elements.proofs.CutLaws.{ready-kept, first-within, place-fits, cut-more}
 use Rattle.order_elements.proofs.FirstLaws.{left-none}
 
@@ -69,11 +69,11 @@ module _ {a : List ℕ} {i : ℕ} {b : List ℕ} {j end : ℕ} where
       stop = λ h k. f;
     }
 
-    pub matching-all : end ≤ n → Shared a i b j n
+    pub matching-all : end ≤ n → Shared a i b j end
     matching-all h = record {
       first = omega (arith, v.within, v.first, v.least);
       second = omega (arith, v.within, v.second, v.least);
-      same = v.same;
+      same = λ m l. v.same m (omega arith);
       stop = λ l m. absurd (omega (arith, v.least, v.within, v.first, v.second));
     }
 
@@ -114,22 +114,19 @@ module _ (t s : List ℕ) (at left : ℕ) (h : accepted t ≡ true) (k : 0 < lef
   pub certain-character : every is_character s ≡ true → is_character (get_or s at 0) ≡ true
   certain-character g = every-at is_character s at 0 g (omega arith)
 
-  pub certain-quick : {place : ℕ} → Quick (meaning_in t).items (get_or s at 0) place → 0 < place
-      → Certain (meaning_in t).items (take left (drop at s)) (record { place = place; size = 1 })
-  certain-quick q p = record { is = λ z rest. rw (run-first s at left k l) (sym (q.is p (take (left - 1) (drop (at + 1) s) ++ rest))) }
+  pub certain-quick : {place : ℕ} → Alone (meaning_in t).items (get_or s at 0) place
+      → Begins (meaning_in t).items (take left (drop at s)) (record { place = place; size = 1 })
+  certain-quick q = record { some = omega arith; is = λ rest. rw (run-first s at left k l) (sym (q.is (take (left - 1) (drop (at + 1) s) ++ rest))) }
 
   pub certain-four : {f : Found} → 4 ≤ left → found_as f ≡ step_of (meaning_in t).items (drop at s)
-      → Certain (meaning_in t).items (take left (drop at s)) f
-  certain-four n e = record { is = λ z rest. e ∙ ap (step_of (meaning_in t).items) (sym (take-append-drop left (drop at s))) ∙ front (drop left (drop at s)) ∙ sym (front rest) }
+      → Begins (meaning_in t).items (take left (drop at s)) f
+  certain-four n e = record { some = (found-size t s h certain-inside e).least; is = λ rest. e ∙ ap (step_of (meaning_in t).items) (sym (take-append-drop left (drop at s))) ∙ front (drop left (drop at s)) ∙ sym (front rest) }
     where
       long : 4 ≤ length (take left (drop at s))
       long = rw (length-take-le left (drop at s) (rw (length-drop at s) (omega arith))) n
 
       front : (rest : List ℕ) → step_of (meaning_in t).items (take left (drop at s) ++ rest) ≡ step_of (meaning_in t).items (take left (drop at s))
       front rest = step-front (length (meaning_in t).rules) (meaning_in t).items (take left (drop at s)) rest (table-good t h).items long
-
-pub certain-none : (is : List Item) (s : List ℕ) → Certain is s (record { place = 0; size = 0 })
-certain-none is s = record { is = λ z. absurd (omega arith) }
 
 -- ## The elements without a weight
 
@@ -213,12 +210,12 @@ module _ {t a b as₀ bs₀ as' bs : List ℕ} {i j n k skipped agreed end size 
   pub going_end : Both t a b as' bs i j n k skipped agreed (record { size = size; many = many; agreed = passed; skipped = blank })
   going_end = record { level = v.level; further = v.further }
 
-  module _ {f : Found} (h : size < end) (c : Certain (meaning_in t).items (take (end - size) (drop (i + size) a)) f) (z : f.size ≡ 0 → ⊥) where
+  module _ {f : Found} (h : size < end) (c : Begins (meaning_in t).items (take (end - size) (drop (i + size) a)) f) where
     abbrev left : List ℕ
     left = take (end - size) (drop (i + size) a)
 
     is : (rest : List ℕ) → found_as f ≡ step_of (meaning_in t).items (left ++ rest)
-    is = c.is (omega arith)
+    is = c.is
 
     first_found : found_as f ≡ step_of (meaning_in t).items (drop (i + size) a)
     first_found =

@@ -14,8 +14,8 @@ use Rattle.rules.proofs.ElementLaws.{elements-length}
 use Rattle.rules.proofs.PassedLaws.{seen, seen-passed, seen-less, seen-greater, seen-ends, seen-ends-first, seen-ends-second}
 use Rattle.table_layout.proofs.PartLaws.{table-good}
 use Rattle.base_units.specs.Numbers.{sign_of}
-use Rattle.base_units.specs.declared.Sign.{Sign}
-use Rattle.base_units.specs.declared.Sign.TheVariants.{Less, Equal, Greater}
+use Rattle.std.specs.declared.cmp.Ordering.{Ordering}
+use Rattle.std.specs.declared.cmp.Ordering.TheVariants.{Less, Equal, Greater}
 use Rattle.order_entries.specs.Walk.{entry_as}
 use Rattle.order_entries.specs.declared.Entry.{Entry}
 use Rattle.order_elements.specs.declared.Walk.{Walk}
@@ -37,13 +37,13 @@ module _ {p q : Ahead} where
   meet-over i j = rw (i, j)
 
   module _ {e f : Entry} {c d : Walk} (i : p ≡ One e c) (j : q ≡ One f d) where
-    pub meet-before : {s : Sign} → sign_of s ≡ sign_entry (entry_as e) (entry_as f) → s ≡ Less → Before ≡ meeting p q
+    pub meet-before : {s : Ordering} → sign_of s ≡ sign_entry (entry_as e) (entry_as f) → s ≡ Less → Before ≡ meeting p q
     meet-before k z = rw (i, j, ← k, z)
 
-    pub meet-after : {s : Sign} → sign_of s ≡ sign_entry (entry_as e) (entry_as f) → s ≡ Greater → After ≡ meeting p q
+    pub meet-after : {s : Ordering} → sign_of s ≡ sign_entry (entry_as e) (entry_as f) → s ≡ Greater → After ≡ meeting p q
     meet-after k z = rw (i, j, ← k, z)
 
-    pub meet-on : {s : Sign} → sign_of s ≡ sign_entry (entry_as e) (entry_as f) → s ≡ Equal → On c d ≡ meeting p q
+    pub meet-on : {s : Ordering} → sign_of s ≡ sign_entry (entry_as e) (entry_as f) → s ≡ Equal → On c d ≡ meeting p q
     meet-on k z = rw (i, j, ← k, z)
 
 -- what a meeting says of the entries still to come

@@ -127,24 +127,27 @@ fresh-sound t s places r =
 
 module _ (t s places : List ℕ) where
   -- a string of which nothing is cut yet
-  pub uncut : Ready t s places → Cut t s places 0 0
-  uncut r = (cutting-none t s places r).cut
+  pub uncut : {c : Walk} → c ≡ fresh → Ready t s places → Cut t s places c.at c.many
+  uncut e r = rw e (cutting-none t s places r).cut
 
   all-entries : entries_on t s false 0 0 ≡ first_entries t s false
   unfolding entries_on first_entries level_entries walked
   all-entries = refl
 
-  module _ {a : Ahead} (g : Gives t s places false (entries_on t s false 0 0) a) where
+  from-all : {w : Walk} → w ≡ fresh → entries_on t s false w.at w.skipped ≡ first_entries t s false
+  from-all f = rw f all-entries
+
+  module _ {a : Ahead} {w : Walk} (f : w ≡ fresh) (g : Gives t s places false (entries_on t s false w.at w.skipped) a) where
     -- it is that of the next entry
     pub leading_at : {e : Entry} {c : Walk} → a ≡ One e c → e.rank.0 ≡ first_of (first_entries t s false)
     unfolding first_of
     leading_at {e} {c} k =
-        let n : Next t s places false (entries_on t s false 0 0) e c = subst (Gives t s places false (entries_on t s false 0 0)) k g in
-        rw (← all-entries, n.is)
+        let n : Next t s places false (entries_on t s false w.at w.skipped) e c = subst (Gives t s places false (entries_on t s false w.at w.skipped)) k g in
+        rw (← from-all f, n.is)
 
     -- and none where the level has no entry
     pub leading-none : {many : ℕ} → a ≡ End many → 0 ≡ first_of (first_entries t s false)
     unfolding first_of
     leading-none {many} k =
-        let n : Ended t s places (entries_on t s false 0 0) many = subst (Gives t s places false (entries_on t s false 0 0)) k g in
-        rw (← all-entries, n.is)
+        let n : Ended t s places (entries_on t s false w.at w.skipped) many = subst (Gives t s places false (entries_on t s false w.at w.skipped)) k g in
+        rw (← from-all f, n.is)

@@ -1,5 +1,5 @@
 -- What two strings have in common is walked once: the same elements, from walks that stand level, give the same entries.
-use Rattle.std.specs.Prelude.{◌≡◌, Bool, List, ◌++◌, ℕ, ◌+◌, ◌*◌, ◌≤◌, ◌<◌, length, get_or}
+use Rattle.std.specs.Prelude.{◌≡◌, Bool, List, ◌++◌, ℕ, ◌+◌, ◌*◌, ◌≤◌, ◌<◌, length, get_or, Option, Some, None}
 use Rattle.rules.specs.Meaning.{Item}
 use Rattle.rules.specs.Order.{step_of}
 use Rattle.rules.proofs.PassedLaws.{seen}
@@ -20,9 +20,15 @@ pub record Shared (a : List ℕ) (i : ℕ) (b : List ℕ) (j r : ℕ) : Type 0 w
   pub same : (n : ℕ) → n < r → get_or a (i + n) 0 ≡ get_or b (j + n) 0
   pub stop : i + r < length a → j + r < length b → get_or a (i + r) 0 ≡ get_or b (j + r) 0 → ⊥
 
--- The element that begins each string that begins with s; of size 0 it says nothing.
-pub record Certain (items : List Item) (s : List ℕ) (r : Found) : Type 0 where
-  pub is : 0 < r.size → (rest : List ℕ) → found_as r ≡ step_of items (s ++ rest)
+-- The element that begins each string that begins with s.
+pub record Begins (items : List Item) (s : List ℕ) (f : Found) : Type 0 where
+  pub some : 0 < f.size
+  pub is : (rest : List ℕ) → found_as f ≡ step_of items (s ++ rest)
+
+-- that element, where s tells it
+abbrev pub Certain : List Item → List ℕ → Option Found → Type 0
+Certain items s (Some f) = Begins items s f
+Certain items s None = Unit
 
 -- ## Two walks
 

@@ -1,5 +1,5 @@
 -- What a walk over the entries of the first level has still to come, where the string is cut on the way, and what its operations give.
-use Rattle.std.specs.Prelude.{◌≡◌, Bool, false, List, [], ◌∷◌, map, ℕ, suc, ◌+◌, ◌≤◌, ◌<◌, length, take, drop}
+use Rattle.std.specs.Prelude.{◌≡◌, Bool, false, List, [], ◌∷◌, map, ℕ, suc, ◌+◌, ◌≤◌, ◌<◌, length, take, drop, None, Option, Some}
 use Rattle.rules.specs.Table.{meaning_in}
 use Rattle.rules.specs.Order as order
 use Rattle.rules.specs.Order.{elements, weights_at, more, entries_from, level_entries, sign_entry}
@@ -9,15 +9,13 @@ use Rattle.order_entries.specs.declared.Entry.{Entry}
 use Rattle.order_elements.specs.declared.Walk.{Walk}
 use Rattle.order_elements.specs.declared.Ahead.{Ahead}
 use Rattle.order_elements.specs.declared.Ahead.TheVariants.{One, End}
-use Rattle.order_elements.specs.declared.Leading.{Leading}
-use Rattle.order_elements.specs.declared.Leading.TheVariants.{At, Nothing}
 use Rattle.order_elements.specs.declared.Meeting.{Meeting}
-use Rattle.order_elements.specs.declared.Meeting.TheVariants as Meeting
 use Rattle.order_elements.specs.declared.Meeting.TheVariants.{Over, On}
 use Rattle.order_elements.specs.declared.Alike.{Alike}
 use Rattle.order_elements.specs.declared.First.{First}
 use Rattle.order_elements.specs.declared.First.TheVariants.{Before, After, Same}
 use Rattle.order_elements.specs.Cuts.{Cut, Split}
+use Rattle.base_units.specs.declared.Rank.{Rank}
 
 -- the entries of the elements from a place of the string on, n elements without a weight having stood before it
 unfoldable pub entries_on : List ℕ → List ℕ → Bool → ℕ → ℕ → List order.Entry
@@ -61,9 +59,9 @@ first_entries t s position =
     level_entries (meaning_in t).items (record { backward = false; position = position }) 0 (elements (meaning_in t).items 0 s)
 
 -- a first weight as a number, 0 where there is none
-abbrev pub leading_as : Leading → ℕ
-leading_as (At rank) = rank.0
-leading_as Nothing = 0
+abbrev pub leading_as : Option Rank → ℕ
+leading_as (Some rank) = rank.0
+leading_as None = 0
 
 -- what two next entries of this sign decide
 abbrev pub met_by : order.Sign → Walk → Walk → Meeting

@@ -10,9 +10,10 @@ ghost use Rattle.order_elements.specs.Cuts.{Ready, Cut, CutOne, Split};
 ghost use Rattle.order_elements.specs.Firsts.{fresh, Sound, entries_on, entries_left, Gives, leading_as, first_entries, meeting, Meets, FirstCompared};
 ghost use Rattle.order_elements.specs.Commons.{Shared, Certain, Level, Both, Together};
 
-use base_units::{Rank, Sign};
+use base_units::Rank;
 use order_entries::Entry;
 use order_find::Found;
+use std::cmp::Ordering;
 
 // Where a walk over the first level stands: up to a place of the string so many elements are cut; where the weights begin of the last of
 // them that are still to come, and how many; and the elements without a weight since the last that had one.
@@ -25,7 +26,8 @@ struct Walk {
     pub skipped: usize,
 }
 
-// The next entry and where the walk stands after it; or how many elements the string has.
+// The next entry and where the walk stands after it; or how many elements the string has. The names say which: as `Result<(Entry, Walk), usize>`
+// a string that is all cut would be an error.
 #[derive(Clone, Copy)]
 enum Ahead {
     One(Entry, Walk),
@@ -71,7 +73,7 @@ pub struct Alike {
     pub second: usize,
 }
 
-// How the first level of two strings compares.
+// How the first level of two strings compares. Three cases: as `Result<Alike, (Ordering, usize)>` it could say that an `Equal` has decided.
 #[derive(Clone, Copy)]
 pub enum First {
     // the first string comes first, so many entries having agreed
@@ -80,13 +82,6 @@ pub enum First {
     After(usize),
     // it does not decide
     Same(Alike),
-}
-
-// The first weight that a string has at the first level, or nothing.
-#[derive(Clone, Copy)]
-pub enum Leading {
-    At(Rank),
-    Nothing,
 }
 
 // Cuts the element that begins at a place, so many having been cut before it, and keeps its item's place.
@@ -129,25 +124,16 @@ fn start() -> Walk
     }
 }
 
-// The entry that begins the next element with a weight, cut from a place on, `many` elements being cut before it, the last `skipped` of
-// them without a weight.
-fn next_element(
-    t: &[u32],
-    s: &[u32],
-    places: &mut [u32],
-    position: bool,
-    at: usize,
-    many: usize,
-    skipped: usize,
-) -> Ahead
+// The entry that begins the next element with a weight, cut from where a walk stands on; the weights that this has still to come are not asked for.
+fn next_element(t: &[u32], s: &[u32], places: &mut [u32], position: bool, c: Walk) -> Ahead
     requires ready { Ready t.now s.now places.old }
-    requires cut { Cut t.now s.now places.old at many }
-    requires skipped_le_many { skipped ≤ many }
-    ensures { Gives t.now s.now places.new position (entries_on t.now s.now position at skipped) result }
+    requires cut { Cut t.now s.now places.old c.at c.many }
+    requires skipped_le_many { c.skipped ≤ c.many }
+    ensures { Gives t.now s.now places.new position (entries_on t.now s.now position c.at c.skipped) result }
 {
-    let mut i = at;
-    let mut k = many;
-    let mut n = skipped;
+    let mut i = c.at;
+    let mut k = c.many;
+    let mut n = c.skipped;
     while i < s.len() {
         let found = cut_one(t, s, places, i, k);
         let run = table_layout::weights(t, found.place, 0);
@@ -159,10 +145,7 @@ fn next_element(
             let rank = table_layout::weight(t, from);
             let count = order_entries::counted(position, n);
             return Ahead::One(
-                Entry {
-                    count: count,
-                    rank: rank,
-                },
+                Entry { count, rank },
                 Walk {
                     at: i,
                     many: k,
@@ -188,34 +171,25 @@ fn next_first(t: &[u32], s: &[u32], places: &mut [u32], position: bool, c: Walk)
     if 0 < left {
         let rank = table_layout::weight(t, from);
         return Ahead::One(
-            Entry {
-                count: 0,
-                rank: rank,
-            },
+            Entry { count: 0, rank },
             Walk {
-                at: c.at,
-                many: c.many,
                 from: from + 1,
                 left: left - 1,
-                skipped: c.skipped,
+                ..c
             },
         );
     }
-    next_element(t, s, places, position, c.at, c.many, c.skipped)
+    next_element(t, s, places, position, c)
 }
 
 // The first weight of the first level, walked forward without position; the string is cut no further than to the element that has it.
-pub fn first_weight(t: &[u32], s: &[u32], places: &mut [u32]) -> Leading
+pub fn first_weight(t: &[u32], s: &[u32], places: &mut [u32]) -> Option<Rank>
     requires { Ready t.now s.now places.old }
     ensures { leading_as result ≡ first_of (first_entries t.now s.now false) }
 {
-    let ahead = next_element(t, s, places, false, 0, 0, 0);
-    match ahead {
-        Ahead::One(e, _) => {
-            let rank = e.rank;
-            Leading::At(rank)
-        }
-        Ahead::End(_) => Leading::Nothing,
+    match next_element(t, s, places, false, start()) {
+        Ahead::One(e, _) => Some(e.rank),
+        Ahead::End(_) => None,
     }
 }
 
@@ -223,21 +197,14 @@ pub fn first_weight(t: &[u32], s: &[u32], places: &mut [u32]) -> Leading
 fn meet(p: Ahead, q: Ahead) -> Meeting
     ensures { result ≡ meeting p q }
 {
-    match p {
-        Ahead::End(n) => match q {
-            Ahead::End(m) => Meeting::Over(n, m),
-            Ahead::One(_, _) => Meeting::Before,
-        },
-        Ahead::One(e, after) => match q {
-            Ahead::End(_) => Meeting::After,
-            Ahead::One(f, behind) => {
-                let s = order_entries::order_of(e, f);
-                match s {
-                    Sign::Less => Meeting::Before,
-                    Sign::Greater => Meeting::After,
-                    Sign::Equal => Meeting::On(after, behind),
-                }
-            }
+    match (p, q) {
+        (Ahead::End(n), Ahead::End(m)) => Meeting::Over(n, m),
+        (Ahead::End(_), Ahead::One(_, _)) => Meeting::Before,
+        (Ahead::One(_, _), Ahead::End(_)) => Meeting::After,
+        (Ahead::One(e, after), Ahead::One(f, behind)) => match order_entries::order_of(e, f) {
+            Ordering::Less => Meeting::Before,
+            Ordering::Greater => Meeting::After,
+            Ordering::Equal => Meeting::On(after, behind),
         },
     }
 }
@@ -269,87 +236,67 @@ fn shared(a: &[u32], i: usize, b: &[u32], j: usize) -> usize
     requires { (i ≤ length a.now) × (j ≤ length b.now) }
     ensures { Shared a.now i b.now j result }
 {
-    let end = order_entries::smaller(a.len() - i, b.len() - j);
-    let mut n: usize = 0;
-    while n < end {
-        if a[i + n] == b[j + n] {
-            n += 1;
-        } else {
+    let end = (a.len() - i).min(b.len() - j);
+    for n in 0..end {
+        if a[i + n] != b[j + n] {
             return n;
         }
     }
-    n
+    end
 }
 
-// The element that begins each string that begins with `left` characters from a place on, where they tell; else one of size 0. No item has
-// more than four characters.
-fn certain(t: &[u32], s: &[u32], at: usize, left: usize) -> Found
+// The element that begins each string that begins with `left` characters from a place on, where they tell. No item has more than four
+// characters.
+fn certain(t: &[u32], s: &[u32], at: usize, left: usize) -> Option<Found>
     requires t_value { (accepted t.now ≡ true) × (every is_character s.now ≡ true) }
     requires left_nonzero { (0 < left) × (at + left ≤ length s.now) }
     ensures { Certain (meaning_in t.now).items (take left (drop at s.now)) result }
 {
-    let place = order_find::quick(t, s[at]);
-    if 0 < place {
-        return Found {
-            place: place,
-            size: 1,
-        };
+    if let Some(place) = order_find::quick(t, s[at]) {
+        return Some(Found { place, size: 1 });
     }
     if 4 <= left {
-        return order_find::search(t, s, at);
+        return Some(order_find::search(t, s, at));
     }
-    Found { place: 0, size: 0 }
+    None
 }
 
-// Cuts what two strings have in common from two places on, n and k elements being cut before them, the last `skipped` of both without a
-// weight: each element is found once, and its entries agree.
+// Cuts what two strings have in common from where two walks stand level on, so many entries having agreed: each element is found once, and its
+// entries agree.
 fn both(
     t: &[u32],
     a: &[u32],
     b: &[u32],
     first: &mut [u32],
     second: &mut [u32],
-    i: usize,
-    j: usize,
-    n: usize,
-    k: usize,
-    skipped: usize,
+    x: Walk,
+    y: Walk,
     agreed: usize,
 ) -> Common
-    requires { Level t.now a.now b.now first.old second.old i j n k skipped agreed }
-    ensures { Both t.now a.now b.now first.new second.new i j n k skipped agreed result }
+    requires { Level t.now a.now b.now first.old second.old x.at y.at x.many y.many x.skipped agreed }
+    ensures { Both t.now a.now b.now first.new second.new x.at y.at x.many y.many x.skipped agreed result }
 {
-    let end = shared(a, i, b, j);
-    let mut size: usize = 0;
-    let mut many: usize = 0;
-    let mut passed = agreed;
-    let mut blank = skipped;
-    while size < end {
-        let found = certain(t, a, i + size, end - size);
-        let taken = found.size;
-        if taken == 0 {
-            return Common {
-                size: size,
-                many: many,
-                agreed: passed,
-                skipped: blank,
-            };
-        }
+    let end = shared(a, x.at, b, y.at);
+    let mut c = Common {
+        size: 0,
+        many: 0,
+        agreed,
+        skipped: x.skipped,
+    };
+    while c.size < end {
+        let Some(found) = certain(t, a, x.at + c.size, end - c.size) else {
+            return c;
+        };
         let place = found.place;
         let count = table_layout::count_at(t, place, 0);
-        first[n + many] = place as u32;
-        second[k + many] = place as u32;
-        passed += count;
-        blank = order_entries::skipped_after(blank, count);
-        size += taken;
-        many += 1;
+        first[x.many + c.many] = place as u32;
+        second[y.many + c.many] = place as u32;
+        c.agreed += count;
+        c.skipped = order_entries::skipped_after(c.skipped, count);
+        c.size += found.size;
+        c.many += 1;
     }
-    Common {
-        size: size,
-        many: many,
-        agreed: passed,
-        skipped: blank,
-    }
+    c
 }
 
 // Two walks that stand level go on over what both strings have in common; others stay where they are.
@@ -370,11 +317,8 @@ fn together(
     requires agreed_bound { agreed ≤ 32768 }
     ensures { Together t.now a.now b.now first.new second.new x y agreed result }
 {
-    let level = order_entries::level_with(x.left, y.left, x.skipped, y.skipped);
-    if level {
-        let c = both(
-            t, a, b, first, second, x.at, y.at, x.many, y.many, x.skipped, agreed,
-        );
+    if order_entries::level_with(x.left, y.left, x.skipped, y.skipped) {
+        let c = both(t, a, b, first, second, x, y, agreed);
         return Pair {
             x: Walk {
                 at: x.at + c.size,
@@ -393,11 +337,7 @@ fn together(
             agreed: c.agreed,
         };
     }
-    Pair {
-        x: x,
-        y: y,
-        agreed: agreed,
-    }
+    Pair { x, y, agreed }
 }
 
 // How the entries of the first level compare, walked forward: the first difference decides, and no string is cut further than to it.
@@ -421,8 +361,7 @@ pub fn compare_first(
         let c = pair.x;
         let d = pair.y;
         let passed = pair.agreed;
-        let met = next_meeting(t, a, b, first, second, position, c, d);
-        match met {
+        match next_meeting(t, a, b, first, second, position, c, d) {
             Meeting::Before => return First::Before(passed),
             Meeting::After => return First::After(passed),
             Meeting::Over(n, m) => {

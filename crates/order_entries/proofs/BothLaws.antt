@@ -1,6 +1,6 @@
 -- Two walks that stand level: an element that both go on with gives both the same entries, and leaves them level.
 use mathlib.Core.Path.{◌≡◌, refl, sym, ap, ◌∙◌}
-use mathlib.Core.Bool.{Bool, true, false, cond, ◌&&◌}
+use mathlib.Core.Bool.{Bool, true, cond, ◌&&◌}
 use mathlib.Core.List.{List, [], ◌∷◌, ◌++◌}
 use Prim.Native.Nat.{ℕ, suc, min, ◌+◌, ◌-◌, ◌≤◌, ◌<◌}
 use native.Mathlib.Numerals.{add-one}
@@ -8,7 +8,7 @@ use native.Mathlib.Nat.{add-zero, min-le_left, min-le_right}
 use native.Mathlib.Omega.{arith}
 use lib.Dec.{eqb}
 use lib.ListN.{length, get_or, length-append}
-use borrow.Author.Tests.{eqb-true, eq-eqb, ne_eqb}
+use borrow.Author.Tests.{eqb-true, ne_eqb}
 use Rattle.base_lists.proofs.Bools.{and_left, and_right, cond_both}
 use Rattle.rules.specs.Meaning.{Rule, count_all}
 use Rattle.rules.specs.Table.{meaning_in}
@@ -29,37 +29,15 @@ pub record Abreast (m n skipped other : ℕ) : Type 0 where
   pub second : n ≡ 0
   pub as_many : skipped ≡ other
 
-module _ (m n skipped other : ℕ) where
-  pub abreast : level_with m n skipped other ≡ true → Abreast m n skipped other
-  unfolding level_with
-  abreast l =
-      let rest = and_right (eqb m 0) (eqb n 0 && eqb skipped other) l in
-      record {
-        first = eqb-true m 0 (and_left (eqb m 0) (eqb n 0 && eqb skipped other) l);
-        second = eqb-true n 0 (and_left (eqb n 0) (eqb skipped other) rest);
-        as_many = eqb-true skipped other (and_right (eqb n 0) (eqb skipped other) rest);
-      }
-
-  -- where the first walk stands within an element, where the second does, and where neither does
-  pub within_first : (m ≡ 0 → ⊥) → false ≡ level_with m n skipped other
-  unfolding level_with
-  within_first h = rw (ne_eqb m 0 h)
-
-  module _ (h : m ≡ 0) where
-    pub within-second : (n ≡ 0 → ⊥) → false ≡ level_with m n skipped other
-    unfolding level_with
-    within-second k = rw (eq-eqb m 0 h, ne_eqb n 0 k)
-
-    pub within_none : n ≡ 0 → eqb skipped other ≡ level_with m n skipped other
-    unfolding level_with
-    within_none k = rw (eq-eqb m 0 h, eq-eqb n 0 k)
-
-module _ (n count : ℕ) where
-  pub one-skipped : count ≡ 0 → n + 1 ≡ skipped_after n count
-  one-skipped h = rw (eq-eqb count 0 h)
-
-  pub none-skipped : (count ≡ 0 → ⊥) → ◌≡◌ {A = ℕ} 0 (skipped_after n count)
-  none-skipped h = rw (ne_eqb count 0 h)
+pub abreast : (m n skipped other : ℕ) → level_with m n skipped other ≡ true → Abreast m n skipped other
+unfolding level_with
+abreast m n skipped other l =
+    let rest = and_right (eqb m 0) (eqb n 0 && eqb skipped other) l in
+    record {
+      first = eqb-true m 0 (and_left (eqb m 0) (eqb n 0 && eqb skipped other) l);
+      second = eqb-true n 0 (and_left (eqb n 0) (eqb skipped other) rest);
+      as_many = eqb-true skipped other (and_right (eqb n 0) (eqb skipped other) rest);
+    }
 
 -- what the test answers, the walks are
 pub level-told : (m n skipped other : ℕ) {r : Bool} → r ≡ level_with m n skipped other → r ≡ true → level_with m n skipped other ≡ true
@@ -113,6 +91,7 @@ on-own t places level rule i n h = on-element t places level rule i n h ∙ rw (
 pub record Alike (t a b : List ℕ) (level : ℕ) (rule : Rule) (i₀ j₀ skipped₀ agreed₀ end i j skipped agreed : ℕ) : Type 0 where
   pub first : i ≤ length a
   pub second : j ≤ length b
+  pub to : i ≤ end
   pub end-first : end ≤ length a
   pub end-second : end + j ≤ length b + i
   pub skipped-first : skipped ≤ i
@@ -141,6 +120,7 @@ module _ (t a b : List ℕ) (level : ℕ) (rule : Rule) (w : Walks) (s : Walking
       record {
         first = s.first.passed;
         second = s.second.passed;
+        to = omega arith;
         end-first = omega (arith, s.first.passed);
         end-second = omega (arith, s.second.passed);
         skipped-first = s.first.skipped;
@@ -169,6 +149,11 @@ module _ (t a b : List ℕ) (level : ℕ) (rule : Rule) (w : Walks) (s : Walking
         no_more = rw (x, first-left) v.no_more;
         same = rw (x, y, first-left, second-left) v.same;
       })
+
+  pub alike-over : {end i j skipped agreed : ℕ} {r : Walks}
+      → Alike t a b level rule w.x.passed w.y.passed w.x.skipped w.agreed end i j skipped agreed → end ≤ i
+      → r ≡ at_elements end j skipped agreed → Onward t a b level rule w r
+  alike-over {end} {i} v h e = let k : end ≡ i = omega (arith, v.to) in alike-there v (rw k at e)
 
 module _ {t a b : List ℕ} {level : ℕ} {rule : Rule} {i₀ j₀ skipped₀ agreed₀ end i j skipped agreed : ℕ}
     (v : Alike t a b level rule i₀ j₀ skipped₀ agreed₀ end i j skipped agreed) where
@@ -210,6 +195,7 @@ module _ {t a b : List ℕ} {level : ℕ} {rule : Rule} {i₀ j₀ skipped₀ ag
     alike-more = record {
       first = omega (arith, alike-first h);
       second = omega (arith, alike-second h);
+      to = omega arith;
       end-first = v.end-first;
       end-second = omega (arith, v.end-second);
       skipped-first = omega (arith, skipped-small, v.skipped-first);

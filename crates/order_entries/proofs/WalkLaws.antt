@@ -1,4 +1,5 @@
 -- The entries that a walk has still to come: element by element, weight by weight.
+use Rattle.std.specs.Prelude.{Option}
 use mathlib.Core.Path.{◌≡◌, refl, sym, ◌∙◌, subst}
 use mathlib.Core.Bool.{Bool, true, false, cond}
 use mathlib.Core.List.{List, [], ◌∷◌, map, reverse}
@@ -20,7 +21,6 @@ use Rattle.table_layout.specs.declared.Run.{Run}
 use Rattle.base_units.specs.declared.Rank.{Rank}
 use Rattle.order_entries.specs.declared.Entry.{Entry}
 use Rattle.order_entries.specs.declared.Cursor.{Cursor}
-use Rattle.order_entries.specs.declared.Ahead.{Ahead}
 use Rattle.order_entries.specs.Walk.{directed, Level, Sound, fresh, entries_on, entries_left, First, Gives}
 
 -- ## The direction
@@ -110,7 +110,7 @@ module _ (t places : List ℕ) (level : ℕ) (rule : Rule) where
   unfolding entries_left more
   left-none c h = let e : c.left ≡ 0 = omega arith in rw e
 
-  pub left-on : (c : Cursor) (r : Ahead) → c.left ≤ 0 → Gives t places level rule (entries_on t places level rule c.passed c.skipped) r
+  pub left-on : (c : Cursor) (r : Option (Entry × Cursor)) → c.left ≤ 0 → Gives t places level rule (entries_on t places level rule c.passed c.skipped) r
       → Gives t places level rule (entries_left t places level rule c) r
   left-on c r h g = subst (λ (es : List order.Entry). Gives t places level rule es r) (sym (left-none c h)) g
 

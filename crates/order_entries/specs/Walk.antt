@@ -1,5 +1,5 @@
 -- What a walk over a level's entries has still to come, and what its operations give.
-use Rattle.std.specs.Prelude.{◌≡◌, Bool, true, ◌&&◌, List, [], ◌∷◌, map, reverse, ℕ, ◌+◌, ◌≤◌, ◌<◌, length, take, drop, eqb, if◌then◌else◌}
+use Rattle.std.specs.Prelude.{◌≡◌, Bool, true, ◌&&◌, List, [], ◌∷◌, map, reverse, ℕ, ◌+◌, ◌≤◌, ◌<◌, length, take, drop, eqb, if◌then◌else◌, None, Option, Some}
 use Rattle.base_lists.proofs.Lists.{All}
 use Rattle.rules.specs.Meaning.{Rule}
 use Rattle.rules.specs.Table.{accepted, meaning_in}
@@ -13,8 +13,6 @@ use Rattle.order_entries.specs.declared.Entry.{Entry}
 use Rattle.order_entries.specs.declared.Cursor.{Cursor}
 use Rattle.order_entries.specs.declared.Walks.{Walks}
 use Rattle.order_entries.specs.declared.Seen.{Seen}
-use Rattle.order_entries.specs.declared.Ahead.{Ahead}
-use Rattle.order_entries.specs.declared.Ahead.TheVariants.{One, End}
 
 -- the places of elements in the direction walked
 unfoldable pub directed : Bool → List ℕ → List ℕ
@@ -57,9 +55,9 @@ pub record First (t places : List ℕ) (level : ℕ) (rule : Rule) (es : List or
   pub sound : Sound t places c
 
 -- what stands ahead where these entries are still to come
-abbrev pub Gives : List ℕ → List ℕ → ℕ → Rule → List order.Entry → Ahead → Type 0
-Gives t places level rule es (One e c) = First t places level rule es e c
-Gives t places level rule es End = es ≡ []
+abbrev pub Gives : List ℕ → List ℕ → ℕ → Rule → List order.Entry → Option (Entry × Cursor) → Type 0
+Gives t places level rule es (Some (e, c)) = First t places level rule es e c
+Gives t places level rule es None = es ≡ []
 
 -- whether two walks, with m and n weights of an element still to come, stand between elements with as many without a weight behind them
 unfoldable pub level_with : ℕ → ℕ → ℕ → ℕ → Bool

@@ -7,11 +7,12 @@ ghost use Rattle.base_units.specs.Numbers.{sign_of};
 ghost use Rattle.table_layout.specs.Parts.{rule_as};
 ghost use Rattle.order_entries.specs.Walk.{directed, Level, Sound, fresh, entry_as, entries_on, entries_left, Gives, level_with, at_elements, skipped_after, Walking, Onward, Compared};
 
-use base_units::{Rank, Sign};
+use base_units::Rank;
+use std::cmp::Ordering;
 use table_layout::Rule;
 
 // How many elements without a weight stood before it, 0 without position; and its weight.
-#[derive(Clone, Copy)]
+#[derive(Clone, Copy, PartialEq, Eq, PartialOrd, Ord)]
 pub struct Entry {
     pub count: usize,
     pub rank: Rank,
@@ -27,13 +28,6 @@ pub struct Cursor {
     pub skipped: usize,
 }
 
-// The next entry and where the walk stands after it, or nothing.
-#[derive(Clone, Copy)]
-pub enum Ahead {
-    One(Entry, Cursor),
-    End,
-}
-
 // Two walks over a level, and how many entries both have passed as equal.
 #[derive(Clone, Copy)]
 struct Walks {
@@ -45,7 +39,7 @@ struct Walks {
 // How two lists of entries compare, and how many entries they begin with alike.
 #[derive(Clone, Copy)]
 pub struct Seen {
-    pub sign: Sign,
+    pub sign: Ordering,
     pub agreed: usize,
 }
 
@@ -67,20 +61,17 @@ fn place_at(places: &[u32], backward: bool, i: usize) -> usize
     ensures { result ≡ get_or (directed backward places.now) i 0 }
 {
     if backward {
-        let k = places.len() - 1 - i;
-        return places[k] as usize;
+        places[places.len() - 1 - i] as usize
+    } else {
+        places[i] as usize
     }
-    places[i] as usize
 }
 
 // The count of an entry, n elements without a weight having stood before it.
 pub fn counted(position: bool, n: usize) -> usize
     ensures { result ≡ cond position n 0 }
 {
-    if position {
-        return n;
-    }
-    0
+    if position { n } else { 0 }
 }
 
 // The entry that begins the next element with a weight, `passed` elements being passed, the last `skipped` of them without one.
@@ -91,14 +82,13 @@ fn next_element(
     rule: Rule,
     passed: usize,
     skipped: usize,
-) -> Ahead
+) -> Option<(Entry, Cursor)>
     requires level { Level t.now places.now level }
     requires passed_in_bounds { (passed ≤ length places.now) × (skipped ≤ passed) }
     ensures { Gives t.now places.now level (rule_as rule) (entries_on t.now places.now level (rule_as rule) passed skipped) result }
 {
-    let mut i = passed;
     let mut n = skipped;
-    while i < places.len() {
+    for i in passed..places.len() {
         let place = place_at(places, rule.backward, i);
         let run = table_layout::weights(t, place, level);
         let from = run.from;
@@ -106,27 +96,23 @@ fn next_element(
         if 0 < many {
             let rank = table_layout::weight(t, from);
             let count = counted(rule.position, n);
-            return Ahead::One(
-                Entry {
-                    count: count,
-                    rank: rank,
-                },
+            return Some((
+                Entry { count, rank },
                 Cursor {
                     passed: i + 1,
                     from: from + 1,
                     left: many - 1,
                     skipped: 0,
                 },
-            );
+            ));
         }
-        i += 1;
         n += 1;
     }
-    Ahead::End
+    None
 }
 
 // The next of a level's entries.
-fn next(t: &[u32], places: &[u32], level: usize, rule: Rule, c: Cursor) -> Ahead
+fn next(t: &[u32], places: &[u32], level: usize, rule: Rule, c: Cursor) -> Option<(Entry, Cursor)>
     requires level { Level t.now places.now level }
     requires sound { Sound t.now places.now c }
     ensures { Gives t.now places.now level (rule_as rule) (entries_left t.now places.now level (rule_as rule) c) result }
@@ -135,53 +121,30 @@ fn next(t: &[u32], places: &[u32], level: usize, rule: Rule, c: Cursor) -> Ahead
     let left = c.left;
     if 0 < left {
         let rank = table_layout::weight(t, from);
-        return Ahead::One(
-            Entry {
-                count: 0,
-                rank: rank,
-            },
+        return Some((
+            Entry { count: 0, rank },
             Cursor {
-                passed: c.passed,
                 from: from + 1,
                 left: left - 1,
-                skipped: c.skipped,
+                ..c
             },
-        );
+        ));
     }
     next_element(t, places, level, rule, c.passed, c.skipped)
 }
 
 // How two entries compare: by their counts first.
-pub fn order_of(x: Entry, y: Entry) -> Sign
+pub fn order_of(x: Entry, y: Entry) -> Ordering
     ensures { sign_of result ≡ sign_entry (entry_as x) (entry_as y) }
 {
-    if x.count < y.count {
-        return Sign::Less;
-    }
-    if y.count < x.count {
-        return Sign::Greater;
-    }
-    let a = x.rank.0;
-    let b = y.rank.0;
-    if a < b {
-        return Sign::Less;
-    }
-    if b < a {
-        return Sign::Greater;
-    }
-    Sign::Equal
+    x.cmp(&y)
 }
 
 // Whether two walks, with m and n weights of an element still to come, stand between elements with as many without a weight behind them.
 pub fn level_with(m: usize, n: usize, skipped: usize, other: usize) -> bool
     ensures { result ≡ level_with m n skipped other }
 {
-    if m == 0 {
-        if n == 0 {
-            return skipped == other;
-        }
-    }
-    false
+    m == 0 && n == 0 && skipped == other
 }
 
 // Two walks that stand level, i and j elements passed, the last `skipped` of them without a weight.
@@ -193,26 +156,16 @@ fn between(i: usize, j: usize, skipped: usize, agreed: usize) -> Walks
             passed: i,
             from: 0,
             left: 0,
-            skipped: skipped,
+            skipped,
         },
         y: Cursor {
             passed: j,
             from: 0,
             left: 0,
-            skipped: skipped,
+            skipped,
         },
-        agreed: agreed,
+        agreed,
     }
-}
-
-// The smaller of two numbers.
-pub fn smaller(m: usize, n: usize) -> usize
-    ensures { result ≡ min m n }
-{
-    if m < n {
-        return m;
-    }
-    n
 }
 
 // How many elements without a weight stand behind one that has so many weights, n having stood before it.
@@ -220,10 +173,7 @@ pub fn skipped_after(n: usize, count: usize) -> usize
     requires { n ≤ 4096 }
     ensures { result ≡ skipped_after n count }
 {
-    if count == 0 {
-        return n + 1;
-    }
-    0
+    if count == 0 { n + 1 } else { 0 }
 }
 
 // Two walks that stand level, behind the elements that both go on with: those give both the same entries, which need not be read.
@@ -236,12 +186,11 @@ fn both(t: &[u32], a: &[u32], b: &[u32], level: usize, rule: Rule, w: Walks) -> 
 {
     let x = w.x;
     let y = w.y;
-    let mut i = x.passed;
     let mut j = y.passed;
     let mut skipped = x.skipped;
     let mut agreed = w.agreed;
-    let end = i + smaller(a.len() - i, b.len() - j);
-    while i < end {
+    let end = x.passed + (a.len() - x.passed).min(b.len() - y.passed);
+    for i in x.passed..end {
         let place = place_at(a, rule.backward, i);
         let other = place_at(b, rule.backward, j);
         if place != other {
@@ -250,10 +199,9 @@ fn both(t: &[u32], a: &[u32], b: &[u32], level: usize, rule: Rule, w: Walks) -> 
         let count = table_layout::count_at(t, place, level);
         agreed += count;
         skipped = skipped_after(skipped, count);
-        i += 1;
         j += 1;
     }
-    between(i, j, skipped, agreed)
+    between(end, j, skipped, agreed)
 }
 
 // Two walks, behind the elements that both go on with if they stand level.
@@ -263,11 +211,11 @@ fn onward(t: &[u32], a: &[u32], b: &[u32], level: usize, rule: Rule, w: Walks) -
     requires walking { Walking t.now a.now b.now level (rule_as rule) w }
     ensures { Onward t.now a.now b.now level (rule_as rule) w result }
 {
-    let even = level_with(w.x.left, w.y.left, w.x.skipped, w.y.skipped);
-    if even {
-        return both(t, a, b, level, rule, w);
+    if level_with(w.x.left, w.y.left, w.x.skipped, w.y.skipped) {
+        both(t, a, b, level, rule, w)
+    } else {
+        w
     }
-    w
 }
 
 // How the entries of a level compare that two strings' elements have: the first difference decides.
@@ -280,65 +228,34 @@ pub fn compare_level(t: &[u32], a: &[u32], b: &[u32], level: usize, rule: Rule) 
     let mut y = start();
     let mut agreed: usize = 0;
     loop {
-        let w = onward(
-            t,
-            a,
-            b,
-            level,
-            rule,
-            Walks {
-                x: x,
-                y: y,
-                agreed: agreed,
-            },
-        );
+        let w = onward(t, a, b, level, rule, Walks { x, y, agreed });
         agreed = w.agreed;
-        let p = next(t, a, level, rule, w.x);
-        let q = next(t, b, level, rule, w.y);
-        match p {
-            Ahead::End => match q {
-                Ahead::End => {
-                    return Seen {
-                        sign: Sign::Equal,
-                        agreed: agreed,
-                    };
+        match (next(t, a, level, rule, w.x), next(t, b, level, rule, w.y)) {
+            (None, None) => {
+                return Seen {
+                    sign: Ordering::Equal,
+                    agreed,
+                };
+            }
+            (None, Some(_)) => {
+                return Seen {
+                    sign: Ordering::Less,
+                    agreed,
+                };
+            }
+            (Some(_), None) => {
+                return Seen {
+                    sign: Ordering::Greater,
+                    agreed,
+                };
+            }
+            (Some((e, after)), Some((f, behind))) => match order_of(e, f) {
+                Ordering::Equal => {
+                    x = after;
+                    y = behind;
+                    agreed += 1;
                 }
-                Ahead::One(_, _) => {
-                    return Seen {
-                        sign: Sign::Less,
-                        agreed: agreed,
-                    };
-                }
-            },
-            Ahead::One(e, after) => match q {
-                Ahead::End => {
-                    return Seen {
-                        sign: Sign::Greater,
-                        agreed: agreed,
-                    };
-                }
-                Ahead::One(f, behind) => {
-                    let s = order_of(e, f);
-                    match s {
-                        Sign::Less => {
-                            return Seen {
-                                sign: Sign::Less,
-                                agreed: agreed,
-                            };
-                        }
-                        Sign::Greater => {
-                            return Seen {
-                                sign: Sign::Greater,
-                                agreed: agreed,
-                            };
-                        }
-                        Sign::Equal => {
-                            x = after;
-                            y = behind;
-                            agreed += 1;
-                        }
-                    }
-                }
+                sign => return Seen { sign, agreed },
             },
         }
     }

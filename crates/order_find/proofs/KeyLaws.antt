@@ -1,6 +1,6 @@
 -- Keys: the comparison of an item's four numbers with a key, the key of a string's beginning, and how much an item shares with a string.
 use mathlib.Core.Path.{◌≡◌, sym, ◌∙◌}
-use mathlib.Core.Bool.{true, false, and-false, or-false}
+use mathlib.Core.Bool.{and-false, or-false}
 use mathlib.Core.List.{List, [], ◌∷◌}
 use Prim.Native.Nat.{ℕ, ◌+◌, ◌≤◌, ◌<◌}
 use native.Mathlib.Omega.{arith}
@@ -8,51 +8,45 @@ use native.Mathlib.Nat.{min-le_left}
 use lib.ListN.{length, get_or, take, drop, length-take, get_or-eq_default}
 use lib.Seq.{get_or-take, get_or-drop}
 use lib.Dec.{ltb, eqb}
-use borrow.Author.Count.{below_more}
+use borrow.Author.Tests.{ne_eqb}
 use Rattle.base_lists.proofs.Places.{get_d_default}
 use Rattle.rules.specs.Table.{pad, before}
-use Rattle.rules.proofs.SortLaws.{before-less}
 use Rattle.order_find.specs.declared.Key.{Key}
 use Rattle.order_find.specs.Search.{numbers_of, key_in, Shares}
-use Rattle.order_find.proofs.BeginningLaws.{before-greater, before-tail}
+use Rattle.order_find.proofs.BeginningLaws.{before-tail}
 
 -- ## before_key
 
+before_differs : (x y : ℕ) (xs ys : List ℕ) → (x ≡ y → ⊥) → ltb x y ≡ before (x ∷ xs) (y ∷ ys)
+unfolding before
+before_differs x y xs ys h = rw (ne_eqb x y h, or-false (ltb x y))
+
 module _ (t : List ℕ) (at : ℕ) (key : Key) where
-  pub first-less : get_or t at 0 < key.a → true ≡ before (key_in t at) (numbers_of key)
-  first-less h = sym (before-less (get_or t at 0) key.a _ _ h)
+  pub first-decides : (get_or t at 0 ≡ key.a → ⊥) → ltb (get_or t at 0) key.a ≡ before (key_in t at) (numbers_of key)
+  first-decides h = before_differs (get_or t at 0) key.a _ _ h
 
-  pub first-greater : key.a < get_or t at 0 → false ≡ before (key_in t at) (numbers_of key)
-  first-greater h = sym (before-greater (get_or t at 0) key.a _ _ h)
-
-  module _ (la : key.a ≤ get_or t at 0) (ga : get_or t at 0 ≤ key.a) where
+  module _ (la : get_or t at 0 ≡ key.a) where
     first : before (key_in t at) (numbers_of key)
         ≡ before (get_or t (at + 1) 0 ∷ get_or t (at + 2) 0 ∷ get_or t (at + 3) 0 ∷ []) (key.b ∷ key.c ∷ key.d ∷ [])
-    first = before-tail (get_or t at 0) key.a _ _ (omega arith)
+    first = before-tail (get_or t at 0) key.a _ _ la
 
-    pub second-less : get_or t (at + 1) 0 < key.b → true ≡ before (key_in t at) (numbers_of key)
-    second-less h = sym (first ∙ before-less (get_or t (at + 1) 0) key.b _ _ h)
+    pub second-decides : (get_or t (at + 1) 0 ≡ key.b → ⊥) → ltb (get_or t (at + 1) 0) key.b ≡ before (key_in t at) (numbers_of key)
+    second-decides h = before_differs (get_or t (at + 1) 0) key.b _ _ h ∙ sym first
 
-    pub second-greater : key.b < get_or t (at + 1) 0 → false ≡ before (key_in t at) (numbers_of key)
-    second-greater h = sym (first ∙ before-greater (get_or t (at + 1) 0) key.b _ _ h)
-
-    module _ (lb : key.b ≤ get_or t (at + 1) 0) (gb : get_or t (at + 1) 0 ≤ key.b) where
+    module _ (lb : get_or t (at + 1) 0 ≡ key.b) where
       second : before (key_in t at) (numbers_of key) ≡ before (get_or t (at + 2) 0 ∷ get_or t (at + 3) 0 ∷ []) (key.c ∷ key.d ∷ [])
-      second = first ∙ before-tail (get_or t (at + 1) 0) key.b _ _ (omega arith)
+      second = first ∙ before-tail (get_or t (at + 1) 0) key.b _ _ lb
 
-      pub third-less : get_or t (at + 2) 0 < key.c → true ≡ before (key_in t at) (numbers_of key)
-      third-less h = sym (second ∙ before-less (get_or t (at + 2) 0) key.c _ _ h)
+      pub third-decides : (get_or t (at + 2) 0 ≡ key.c → ⊥) → ltb (get_or t (at + 2) 0) key.c ≡ before (key_in t at) (numbers_of key)
+      third-decides h = before_differs (get_or t (at + 2) 0) key.c _ _ h ∙ sym second
 
-      pub third-greater : key.c < get_or t (at + 2) 0 → false ≡ before (key_in t at) (numbers_of key)
-      third-greater h = sym (second ∙ before-greater (get_or t (at + 2) 0) key.c _ _ h)
-
-      pub fourth-decides : key.c ≤ get_or t (at + 2) 0 → get_or t (at + 2) 0 ≤ key.c → ltb (get_or t (at + 3) 0) key.d ≡ before (key_in t at) (numbers_of key)
+      pub fourth-decides : get_or t (at + 2) 0 ≡ key.c → ltb (get_or t (at + 3) 0) key.d ≡ before (key_in t at) (numbers_of key)
       unfolding before
-      fourth-decides lc gc =
+      fourth-decides lc =
           let x : ℕ = get_or t (at + 3) 0 in
           sym
           (second
-          ∙ before-tail (get_or t (at + 2) 0) key.c (x ∷ []) (key.d ∷ []) (omega arith)
+          ∙ before-tail (get_or t (at + 2) 0) key.c (x ∷ []) (key.d ∷ []) lc
           ∙ rw (and-false (eqb x key.d), or-false (ltb x key.d)))
 
 -- ## number, key_at
@@ -70,19 +64,12 @@ number_past s at size i h =
 -- ## shared
 
 -- The first n numbers are the same.
-pub record Sharing (t : List ℕ) (a : ℕ) (s : List ℕ) (b size n : ℕ) : Type 0 where
-  pub within : n ≤ size
-  pub same : (i : ℕ) → i < n → get_or t (a + i) 0 ≡ get_or s (b + i) 0
+abbrev pub Sharing : List ℕ → ℕ → List ℕ → ℕ → ℕ → Type 0
+Sharing t a s b n = (i : ℕ) → i < n → get_or t (a + i) 0 ≡ get_or s (b + i) 0
 
-pub sharing-none : (t : List ℕ) (a : ℕ) (s : List ℕ) (b size : ℕ) → Sharing t a s b size 0
-sharing-none t a s b size = record { within = omega arith; same = λ i l. absurd (omega arith) }
+module _ {t : List ℕ} {a : ℕ} {s : List ℕ} {b : ℕ} where
+  pub shares-some : {size n : ℕ} → Sharing t a s b n → n < size → (get_or t (a + n) 0 ≡ get_or s (b + n) 0 → ⊥) → Shares t a s b size n
+  shares-some v h f = record { within = omega arith; same = v; stop = λ l. f }
 
-module _ {t : List ℕ} {a : ℕ} {s : List ℕ} {b size n : ℕ} (v : Sharing t a s b size n) where
-  pub sharing-more : n < size → get_or t (a + n) 0 ≡ get_or s (b + n) 0 → Sharing t a s b size (n + 1)
-  sharing-more h e = record { within = omega arith; same = below_more (λ (i : ℕ). get_or t (a + i) 0 ≡ get_or s (b + i) 0) n v.same e }
-
-  pub shares-some : (get_or t (a + n) 0 ≡ get_or s (b + n) 0 → ⊥) → Shares t a s b size n
-  shares-some f = record { within = v.within; same = v.same; stop = λ h. f }
-
-  pub shares-all : size ≤ n → Shares t a s b size n
-  shares-all h = record { within = v.within; same = v.same; stop = λ l. absurd (omega arith) }
+  pub shares-all : {size n : ℕ} → Sharing t a s b n → size ≤ n → Shares t a s b size size
+  shares-all v h = record { within = omega arith; same = λ i l. v i (omega arith); stop = λ l. absurd (omega arith) }

@@ -24,7 +24,7 @@ use Rattle.table_layout.specs.declared.Listed.{Listed}
 use Rattle.table_layout.specs.declared.Shape.{Shape}
 use Rattle.table_layout.specs.Parts.{Shaped, Indexed, start_for, listed_chars, Lists}
 use Rattle.table_layout.proofs.IndexLaws.{indexed-good, listed-place}
-use Rattle.order_find.specs.Answer.{Quick}
+use Rattle.order_find.specs.Answer.{Alone}
 use Rattle.order_find.specs.Search.{listed_key}
 use Rattle.order_find.proofs.BeginningLaws.{character-small, pad-over}
 use Rattle.order_find.proofs.ListedLaws.{listed-rising, item-listed, item-good, listed-characters, bucket-before, start-inside, bucket-next}
@@ -115,7 +115,7 @@ module _ {t : List ℕ} {chars items : ℕ} (w : Indexed t chars items) (c : ℕ
       omega (arith, w.items-are)
 
   pub quick-found : {i : Listed} → is_character c ≡ true → Lists t k i → get_or t i.from 0 ≡ c → get_or t (i.from + 1) 0 ≡ pad
-      → Quick (meaning_in t).items c i.place
+      → Alone (meaning_in t).items c i.place
   quick-found {i} h l first second =
       let m = meaning_in t in
       let g = indexed-good w in
@@ -126,12 +126,9 @@ module _ {t : List ℕ} {chars items : ℕ} (w : Indexed t chars items) (c : ℕ
       let alone = alone-is (listed_chars m.items k) c (listed-characters m g k inside) h c₀ c₁ in
       let high = within-high 1 (length m.items) (get_or (listing m.items) k 0) (listed-place m g k inside) in
       record {
-        is = λ some rest. rw l.is (quick-step m g c k (rw be at ke) inside alone rest);
+        is = λ rest. rw l.is (quick-step m g c k (rw be at ke) inside alone rest);
         inside = omega (arith, l.is);
       }
-
-pub quick-none : (items : List Item) (c : ℕ) → Quick items c 0
-quick-none items c = record { is = λ some. absurd (omega arith); inside = omega arith }
 
 -- ## Where it stands in a string
 
@@ -139,6 +136,5 @@ module _ (s : List ℕ) (at : ℕ) (h : at < length s) where
   pub quick-character : every is_character s ≡ true → is_character (get_or s at 0) ≡ true
   quick-character g = every-at is_character s at 0 g h
 
-  pub quick-stands : {is : List Item} {place : ℕ} → Quick is (get_or s at 0) place → 0 < place
-      → record { place = place; size = 1 } ≡ step_of is (drop at s)
-  quick-stands {is} q k = sym (q.is k (drop (suc at) s)) ∙ ap (step_of is) (sym (drop-cons s at 0 h))
+  pub quick-stands : {is : List Item} {place : ℕ} → Alone is (get_or s at 0) place → record { place = place; size = 1 } ≡ step_of is (drop at s)
+  quick-stands {is} q = sym (q.is (drop (suc at) s)) ∙ ap (step_of is) (sym (drop-cons s at 0 h))

@@ -34,7 +34,7 @@ struct Key {
     pub d: u32,
 }
 
-// What one search comes to.
+// What one search comes to. The names say what is found; as `Result<Found, usize>` the bound, which only narrows the search, would be an error.
 #[derive(Clone, Copy)]
 enum Near {
     // the element
@@ -49,25 +49,16 @@ fn before_key(t: &[u32], at: usize, key: Key) -> bool
     ensures { result ≡ before (key_in t.now at) (numbers_of key) }
 {
     let a = t[at];
-    if a < key.a {
-        return true;
-    }
-    if key.a < a {
-        return false;
+    if a != key.a {
+        return a < key.a;
     }
     let b = t[at + 1];
-    if b < key.b {
-        return true;
-    }
-    if key.b < b {
-        return false;
+    if b != key.b {
+        return b < key.b;
     }
     let c = t[at + 2];
-    if c < key.c {
-        return true;
-    }
-    if key.c < c {
-        return false;
+    if c != key.c {
+        return c < key.c;
     }
     t[at + 3] < key.d
 }
@@ -82,11 +73,11 @@ fn first_from(t: &[u32], chars: usize, items: usize, key: Key) -> usize
     let next = bucket + 1;
     let mut lo = start_in(t, chars, items, bucket);
     let mut hi = start_in(t, chars, items, next);
+    // an item is told by the table's index, and there is no slice of items: nothing for `partition_point` to go over
     while lo < hi {
         let mid = lo + (hi - lo) / 2;
         let item = item_at(t, chars, items, mid);
-        let less = before_key(t, item.from, key);
-        if less {
+        if before_key(t, item.from, key) {
             lo = mid + 1;
         } else {
             hi = mid;
@@ -100,10 +91,7 @@ fn number(s: &[u32], at: usize, size: usize, i: usize) -> u32
     requires { at + size ≤ length s.now }
     ensures { result ≡ get_or (take size (drop at s.now)) i pad }
 {
-    if i < size {
-        return s[at + i];
-    }
-    0x110000
+    if i < size { s[at + i] } else { 0x110000 }
 }
 
 // The key of `size` characters from a place on.
@@ -124,15 +112,12 @@ fn shared(t: &[u32], from: usize, s: &[u32], at: usize, size: usize) -> usize
     requires { (from + 4 ≤ length t.now) × (at + size ≤ length s.now) × (size ≤ 4) }
     ensures { Shares t.now from s.now at size result }
 {
-    let mut n: usize = 0;
-    while n < size {
-        if t[from + n] == s[at + n] {
-            n += 1;
-        } else {
+    for n in 0..size {
+        if t[from + n] != s[at + n] {
             return n;
         }
     }
-    n
+    size
 }
 
 // One search, for `size` characters from a place on, where no item that stands there has more.
@@ -148,13 +133,7 @@ fn look(t: &[u32], chars: usize, items: usize, s: &[u32], at: usize, size: usize
     if n == 0 {
         return Near::Within(0);
     }
-    if n == size {
-        return Near::Element(Found {
-            place: item.place,
-            size: n,
-        });
-    }
-    if t[item.from + n] == 0x110000 {
+    if n == size || t[item.from + n] == 0x110000 {
         return Near::Element(Found {
             place: item.place,
             size: n,
@@ -168,11 +147,7 @@ fn ahead(s: &[u32], at: usize) -> usize
     requires { at < length s.now }
     ensures { Window s.now at result }
 {
-    let left = s.len() - at;
-    if 4 < left {
-        return 4;
-    }
-    left
+    (s.len() - at).min(4)
 }
 
 // The element that begins at a place of a string of characters, searched for.
@@ -186,12 +161,9 @@ pub fn search(t: &[u32], s: &[u32], at: usize) -> Found
     let n = items(t);
     let mut size = ahead(s, at);
     while 0 < size {
-        let near = look(t, chars, n, s, at, size);
-        match near {
+        match look(t, chars, n, s, at, size) {
             Near::Element(found) => return found,
-            Near::Within(m) => {
-                size = m;
-            }
+            Near::Within(m) => size = m,
         }
     }
     let last = item_at(t, chars, n, n - 1);
@@ -201,8 +173,8 @@ pub fn search(t: &[u32], s: &[u32], at: usize) -> Found
     }
 }
 
-// The place of the item that a character is whatever follows it, or 0 where that is not known, in a table of so many items whose characters begin at a place.
-fn quick_in(t: &[u32], chars: usize, items: usize, c: u32) -> usize
+// The place of the item that a character is whatever follows it, where that is known, in a table of so many items whose characters begin at a place.
+fn quick_in(t: &[u32], chars: usize, items: usize, c: u32) -> Option<usize>
     requires indexed { Indexed t.now chars items }
     requires c_value { is_character c ≡ true }
     ensures { Quick (meaning_in t.now).items c result }
@@ -210,23 +182,20 @@ fn quick_in(t: &[u32], chars: usize, items: usize, c: u32) -> usize
     let k = start_in(t, chars, items, bucket_in(t, c));
     let item = item_at(t, chars, items, k);
     let from = item.from;
-    if t[from] == c {
-        if t[from + 1] == 0x110000 {
-            return item.place;
-        }
+    if t[from] == c && t[from + 1] == 0x110000 {
+        Some(item.place)
+    } else {
+        None
     }
-    0
 }
 
 // The same, where the caller does not have the table's shape.
-pub fn quick(t: &[u32], c: u32) -> usize
+pub fn quick(t: &[u32], c: u32) -> Option<usize>
     requires t_value { accepted t.now ≡ true }
     requires c_value { is_character c ≡ true }
     ensures { Quick (meaning_in t.now).items c result }
 {
-    let chars = characters(t);
-    let n = items(t);
-    quick_in(t, chars, n, c)
+    quick_in(t, characters(t), items(t), c)
 }
 
 // The element that begins at a place of a string of characters, in a table of this shape.
@@ -236,14 +205,10 @@ pub fn longest_in(t: &[u32], shape: Shape, s: &[u32], at: usize) -> Found
     requires s_value { every is_character s.now ≡ true }
     ensures { found_as result ≡ step_of (meaning_in t.now).items (drop at s.now) }
 {
-    let place = quick_in(t, shape.chars, shape.items, s[at]);
-    if 0 < place {
-        return Found {
-            place: place,
-            size: 1,
-        };
+    match quick_in(t, shape.chars, shape.items, s[at]) {
+        Some(place) => Found { place, size: 1 },
+        None => search(t, s, at),
     }
-    search(t, s, at)
 }
 
 // The same, where the caller does not have the table's shape.
@@ -253,6 +218,5 @@ pub fn longest(t: &[u32], s: &[u32], at: usize) -> Found
     requires s_value { every is_character s.now ≡ true }
     ensures { found_as result ≡ step_of (meaning_in t.now).items (drop at s.now) }
 {
-    let shape = table_layout::shape_of(t);
-    longest_in(t, shape, s, at)
+    longest_in(t, table_layout::shape_of(t), s, at)
 }

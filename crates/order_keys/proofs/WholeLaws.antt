@@ -1,4 +1,5 @@
 -- The whole key: its levels and then its characters, how long it is, and what the operation answers in each case.
+use Rattle.std.specs.Prelude.{Err, Ok}
 use mathlib.Core.Path.{◌≡◌, refl, sym, ap, ◌∙◌}
 use mathlib.Core.Bool.{Bool, true, false}
 use mathlib.Core.List.{List, [], ◌∷◌, ◌++◌}
@@ -13,7 +14,6 @@ use Rattle.rules.specs.Order.{good_string, elements, levels_of, levels_from, cod
 use Rattle.rules.specs.Calls.{over, written_as, key_for, key_call}
 use Rattle.table_layout.proofs.PartLaws.{table-good}
 use Rattle.base_units.specs.declared.Refusal.TheVariants.{NotAccepted, BadString, NoRoom}
-use Rattle.order_keys.specs.declared.Keyed.TheVariants.{Written, Refused}
 use Rattle.order_keys.specs.Answers.{keyed_as}
 use Rattle.order_keys.specs.Writing.{Keyable, Blank, levels_bytes, Puts}
 use Rattle.order_keys.proofs.PutLaws.{puts_then}
@@ -46,16 +46,16 @@ pub keyable : (t s : List ℕ) {a b : Bool} → a ≡ accepted t → a ≡ true 
 keyable t s e h f k = record { checked = sym e ∙ h; good = sym f ∙ k }
 
 module _ (t s room : List ℕ) {a : Bool} (e : a ≡ accepted t) where
-  pub key-unaccepted : a ≡ false → keyed_as (Refused NotAccepted) room ≡ key_call t s room
+  pub key-unaccepted : a ≡ false → keyed_as (Err NotAccepted) room ≡ key_call t s room
   unfolding key_call key_for written_as
   key-unaccepted h = rw (← e, h)
 
-  pub key-bad : {g : Bool} → a ≡ true → g ≡ good_string s → g ≡ false → keyed_as (Refused BadString) room ≡ key_call t s room
+  pub key-bad : {g : Bool} → a ≡ true → g ≡ good_string s → g ≡ false → keyed_as (Err BadString) room ≡ key_call t s room
   unfolding key_call key_for written_as
   key-bad h f k = rw (← e, h, ← f, k)
 
 module _ {t s : List ℕ} (v : Keyable t s) (room : List ℕ) {n : ℕ} (e : n ≡ length (key_of (meaning_in t) s)) where
-  pub key-unroomed : length room < n → keyed_as (Refused NoRoom) room ≡ key_call t s room
+  pub key-unroomed : length room < n → keyed_as (Err NoRoom) room ≡ key_call t s room
   unfolding key_call key_for written_as
   key-unroomed h =
       let l : length room < length (key_of (meaning_in t) s) = omega (arith, e) in
@@ -65,7 +65,7 @@ module _ {t s : List ℕ} (v : Keyable t s) (room : List ℕ) {n : ℕ} (e : n �
     pub key-room : length (key_of (meaning_in t) s) ≤ length room
     key-room = omega (arith, e)
 
-    pub key-written : {after : List ℕ} {size : ℕ} → Puts room 0 (key_of (meaning_in t) s) after size → keyed_as (Written size) after ≡ key_call t s room
+    pub key-written : {after : List ℕ} {size : ℕ} → Puts room 0 (key_of (meaning_in t) s) after size → keyed_as (Ok size) after ≡ key_call t s room
     unfolding key_call key_for written_as
     key-written {after} {size} p =
         let k : List ℕ = key_of (meaning_in t) s in

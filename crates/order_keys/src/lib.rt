@@ -17,13 +17,6 @@ ghost use Rattle.order_keys.specs.Writing.{Keyable, AtLevel, weights_from, Cuts,
 use base_units::{CodePoint, Rank, Refusal};
 use table_layout::{Rule, Run, Shape};
 
-// How many bytes were written, or why none was.
-#[derive(Clone, Copy)]
-pub enum Keyed {
-    Written(usize),
-    Refused(Refusal),
-}
-
 // An element of the string: where its weights at a level stand in the table, and how many characters it takes.
 #[derive(Clone, Copy)]
 struct Piece {
@@ -61,9 +54,10 @@ fn put_entry(room: &mut [u8], at: usize, position: bool, count: u32, rank: Rank)
     let weight = rank.0;
     if position {
         let next = put_two(room, at, count + 1);
-        return put_two(room, next, weight);
+        put_two(room, next, weight)
+    } else {
+        put_two(room, at, weight)
     }
-    put_two(room, at, weight)
 }
 
 // The weights that stand in a table from one place up to another, as an element's second and later ones; the place behind them.
@@ -78,12 +72,10 @@ fn put_later(
     requires { LaterFit t.now from end room.old at position }
     ensures { Puts room.old at (later_bytes position (run t.now from end)) room.new result }
 {
-    let mut i = from;
     let mut next = at;
-    while i < end {
+    for i in from..end {
         let rank = table_layout::weight(t, i);
         next = put_entry(room, next, position, 0, rank);
-        i += 1;
     }
     next
 }
@@ -105,19 +97,17 @@ fn put_element(
     let first = table_layout::weight(t, from);
     let next = put_entry(room, at, position, skipped, first);
     if many == 1 {
-        return next;
+        next
+    } else {
+        put_later(t, from + 1, from + many, position, room, next)
     }
-    put_later(t, from + 1, from + many, position, room, next)
 }
 
 // How many bytes an entry takes.
 fn entry_width(position: bool) -> usize
     ensures { result ≡ entry_width position }
 {
-    if position {
-        return 4;
-    }
-    2
+    if position { 4 } else { 2 }
 }
 
 // How many bytes a level takes that has so many entries: with the 00 00 behind them.
@@ -182,14 +172,13 @@ fn write_forward(
     let mut next = at;
     while i < s.len() {
         let piece = next_piece(t, shape, s, level, i);
+        i += piece.size;
         let run = piece.weights;
         if run.count == 0 {
             skipped += 1;
-            i += piece.size;
         } else {
             next = put_element(t, run, position, skipped, room, next);
             skipped = 0;
-            i += piece.size;
         }
     }
     put_two(room, next, 0)
@@ -217,15 +206,14 @@ fn write_backward(
     let mut i: usize = 0;
     while i < s.len() {
         let piece = next_piece(t, shape, s, level, i);
+        i += piece.size;
         let run = piece.weights;
         if run.count == 0 {
             behind += 1;
-            i += piece.size;
         } else {
             from = put_before(t, last, position, behind, room, from);
             last = run;
             behind = 0;
-            i += piece.size;
         }
     }
     put_before(t, last, position, behind, room, from)
@@ -250,9 +238,10 @@ fn write_level(
     if rule.backward {
         let end = at + level_width(position, entries);
         write_backward(t, s, level, position, room, end);
-        return end;
+        end
+    } else {
+        write_forward(t, s, level, position, room, at)
     }
-    write_forward(t, s, level, position, room, at)
 }
 
 // The bytes of all levels, written to the front of the room; the place behind them.
@@ -262,13 +251,10 @@ fn write_levels(t: &[u32], s: &[u32], counts: &[usize], room: &mut [u8]) -> usiz
     requires s_in_bounds { length (levels_bytes t.now s.now 0) ≤ length room.old }
     ensures { Puts room.old 0 (levels_bytes t.now s.now 0) room.new result }
 {
-    let many = table_layout::levels(t);
-    let mut level: usize = 0;
     let mut next: usize = 0;
-    while level < many {
+    for level in 0..table_layout::levels(t) {
         let rule = table_layout::rule_of(t, level);
         next = write_level(t, s, level, rule, counts[level], room, next);
-        level += 1;
     }
     next
 }
@@ -279,12 +265,9 @@ fn write_codes(s: &[u32], room: &mut [u8], at: usize) -> usize
     requires s_in_bounds { at + length (codes_key s.now) ≤ length room.old }
     ensures { Puts room.old at (codes_key s.now) room.new result }
 {
-    let mut i = 0;
     let mut next = at;
-    while i < s.len() {
-        let c = CodePoint(s[i]);
-        next = put_three(room, next, c);
-        i += 1;
+    for c in s {
+        next = put_three(room, next, CodePoint(*c));
     }
     next
 }
@@ -296,11 +279,9 @@ fn add_counts(t: &[u32], shape: Shape, place: usize, counts: &mut [usize])
     requires countable { Countable t.now counts.old }
     ensures { Added t.now place counts.old counts.new }
 {
-    let mut level: usize = 0;
-    while level < shape.levels {
+    for level in 0..shape.levels {
         let run = table_layout::weights_in(t, shape, place, level);
         counts[level] += run.count;
-        level += 1;
     }
 }
 
@@ -325,13 +306,10 @@ fn key_width(t: &[u32], s: &[u32], counts: &[usize]) -> usize
     requires counted { Counted t.now s.now counts.now }
     ensures { result ≡ length (key_of (meaning_in t.now) s.now) }
 {
-    let many = table_layout::levels(t);
     let mut wide = 3 * s.len();
-    let mut level: usize = 0;
-    while level < many {
+    for level in 0..table_layout::levels(t) {
         let rule = table_layout::rule_of(t, level);
         wide += level_width(rule.position, counts[level]);
-        level += 1;
     }
     wide
 }
@@ -348,7 +326,7 @@ fn write_key(t: &[u32], s: &[u32], counts: &[usize], room: &mut [u8]) -> usize
 }
 
 // The key of a good string under an accepted table: counted first, and written where the room has place for it.
-fn key_checked(t: &[u32], s: &[u32], room: &mut [u8]) -> Keyed
+fn key_checked(t: &[u32], s: &[u32], room: &mut [u8]) -> Result<usize, Refusal>
     requires { Keyable t.now s.now }
     ensures { keyed_as result room.new ≡ key_call t.now s.now room.old }
 {
@@ -356,24 +334,21 @@ fn key_checked(t: &[u32], s: &[u32], room: &mut [u8]) -> Keyed
     count_entries(t, s, &mut counts);
     let width = key_width(t, s, &counts);
     if room.len() < width {
-        return Keyed::Refused(Refusal::NoRoom);
+        return Err(Refusal::NoRoom);
     }
-    let n = write_key(t, s, &counts, room);
-    Keyed::Written(n)
+    Ok(write_key(t, s, &counts, room))
 }
 
 // The key of a string under a table, written to the front of the room lent: how many bytes it takes, or why there is none; then
 // the room is as it was. It has no `requires`.
-pub fn key(t: &[u32], s: &[u32], room: &mut [u8]) -> Keyed
+pub fn key(t: &[u32], s: &[u32], room: &mut [u8]) -> Result<usize, Refusal>
     ensures { keyed_as result room.new ≡ key_call t.now s.now room.old }
 {
-    let ok = table_check::accepts(t);
-    if ok {
-        let good = base_units::good_string(s);
-        if good {
-            return key_checked(t, s, room);
-        }
-        return Keyed::Refused(Refusal::BadString);
+    if !table_check::accepts(t) {
+        return Err(Refusal::NotAccepted);
     }
-    Keyed::Refused(Refusal::NotAccepted)
+    if !base_units::good_string(s) {
+        return Err(Refusal::BadString);
+    }
+    key_checked(t, s, room)
 }

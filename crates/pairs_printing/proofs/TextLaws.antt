@@ -1,29 +1,21 @@
--- A text, byte after byte, as put_text writes it.
-use mathlib.Core.Path.{◌≡◌}
-use mathlib.Core.List.{List, [], ◌∷◌, ◌++◌}
-use Prim.Native.Nat.{ℕ, ◌+◌, ◌≤◌, ◌<◌}
-use native.Mathlib.Numerals.{add-one}
-use lib.ListN.{length, get_or, drop, drop_of_length-le}
-use lib.Seq.{drop-cons}
+-- A text, as put_text copies it.
+use mathlib.Core.Path.{◌≡◌, refl, sym, ◌∙◌}
+use mathlib.Core.List.{List, ◌++◌, append_assoc}
+use Prim.Native.Nat.{ℕ, ◌+◌, ◌-◌, ◌≤◌}
+use native.Mathlib.Omega.{arith}
+use lib.ListN.{length, take, drop, length-drop}
+use lib.Seq.{length-take-le, sets-eq, drop-drop}
+use borrow.Rule.Slice.PartMut.{put_mid}
 use Rattle.order_keys.specs.Writing.{Puts}
-use Rattle.order_keys.proofs.PutLaws.{Putting, putting-none, putting-room, putting-more, putting-all}
 
-text-cons : (text : List ℕ) (i : ℕ) → i < length text → drop i text ≡ (get_or text i 0 ∷ []) ++ drop (i + 1) text
-text-cons text i h = rw (add-one i, drop-cons text i 0 h)
+pub text-length : (room : List ℕ) (at : ℕ) (text : List ℕ) → at + length text ≤ length room → length (take (at + length text - at) (drop at room)) ≡ length text
+text-length room at text h =
+    let n : at + length text - at ≡ length text = omega arith in
+    rw n (length-take-le (length text) (drop at room) (simp length-drop (omega arith)))
 
--- the bytes from i on are still to be written
-pub record Texts (text room : List ℕ) (at : ℕ) (now : List ℕ) (i next : ℕ) : Type 0 where
-  pub putting : Putting room at text now next (drop i text)
-
-pub texts-none : (text room : List ℕ) (at : ℕ) → Texts text room at room 0 at
-texts-none text room at = record { putting = putting-none room at text }
-
-module _ {text room now : List ℕ} {at i next : ℕ} (v : Texts text room at now i next) where
-  pub byte_fits : at + length text ≤ length room → i < length text → next + 1 ≤ length now
-  byte_fits l h = putting-room v.putting (get_or text i 0 ∷ []) (drop (i + 1) text) (text-cons text i h) l
-
-  pub texts-more : {after : List ℕ} {behind : ℕ} → i < length text → Puts now next (get_or text i 0 ∷ []) after behind → Texts text room at after (i + 1) behind
-  texts-more h p = record { putting = putting-more v.putting (get_or text i 0 ∷ []) (drop (i + 1) text) (text-cons text i h) p }
-
-  pub texts-all : length text ≤ i → Puts room at text now next
-  texts-all h = putting-all v.putting (drop_of_length-le text h)
+pub text-put : (room : List ℕ) (at : ℕ) (text : List ℕ) {front : List ℕ} → at + length text ≤ length room → front ≡ text
+    → Puts room at text (put_mid at (at + length text - at) room front) (at + length text)
+text-put room at text h e =
+    let n : at + length text - at ≡ length text = omega arith in
+    let behind : drop (length text) (drop at room) ≡ drop (at + length text) room = drop-drop (length text) at room in
+    record { is = rw (e, n, behind) (sym (append_assoc (take at room) text (drop (at + length text) room)) ∙ sym (sets-eq text room at h)); to = refl }

@@ -9,8 +9,8 @@ ghost use Rattle.order_compare.specs.Answers.{answer_as};
 ghost use Rattle.order_keys.specs.Writing.{Puts};
 ghost use Rattle.pairs_printing.specs.Printed.{Prints};
 
-use base_units::Sign;
 use order_compare::Answer;
+use std::cmp::Ordering;
 
 // A byte.
 fn put_one(out: &mut [u8], at: usize, b: u8) -> usize
@@ -26,12 +26,8 @@ pub fn put_text(out: &mut [u8], at: usize, text: &[u8]) -> usize
     requires { at + length text.now ≤ length out.old }
     ensures { Puts out.old at text.now out.new result }
 {
-    let mut i = 0;
-    let mut next = at;
-    while i < text.len() {
-        next = put_one(out, next, text[i]);
-        i += 1;
-    }
+    let next = at + text.len();
+    out[at..next].copy_from_slice(text);
     next
 }
 
@@ -64,27 +60,27 @@ fn put_field(out: &mut [u8], at: usize, n: u64) -> usize
     requires { at + 21 ≤ length out.old }
     ensures { Prints 21 out.old at (32 ∷ decimal n) out.new result }
 {
-    let next = put_one(out, at, 32);
+    let next = put_one(out, at, b' ');
     put_number(out, next, n)
 }
 
 // A sign as it is printed.
-fn sign_byte(s: Sign) -> u8
+fn sign_byte(s: Ordering) -> u8
     ensures { result ≡ sign_byte (sign_of s) }
 {
     match s {
-        Sign::Less => 60,
-        Sign::Equal => 61,
-        Sign::Greater => 62,
+        Ordering::Less => b'<',
+        Ordering::Equal => b'=',
+        Ordering::Greater => b'>',
     }
 }
 
 // A blank and a sign.
-fn put_sign(out: &mut [u8], at: usize, s: Sign) -> usize
+fn put_sign(out: &mut [u8], at: usize, s: Ordering) -> usize
     requires { at + 2 ≤ length out.old }
     ensures { Puts out.old at (32 ∷ sign_byte (sign_of s) ∷ []) out.new result }
 {
-    let next = put_one(out, at, 32);
+    let next = put_one(out, at, b' ');
     put_one(out, next, sign_byte(s))
 }
 
@@ -93,12 +89,11 @@ pub fn put_compared(out: &mut [u8], at: usize, n: u64, a: Answer) -> usize
     requires { at + 80 ≤ length out.old }
     ensures { Prints 80 out.old at (compared_line n (answer_as a)) out.new result }
 {
-    let sign = a.sign;
     let numbered = put_number(out, at, n);
-    let signed = put_sign(out, numbered, sign);
+    let signed = put_sign(out, numbered, a.sign);
     let levelled = put_field(out, signed, a.level as u64);
     let counted = put_field(out, levelled, a.agreed as u64);
-    put_one(out, counted, 10)
+    put_one(out, counted, b'\n')
 }
 
 // The line of the n-th pair, of which a text is refused.
@@ -109,7 +104,7 @@ pub fn put_refused(out: &mut [u8], at: usize, n: u64, r: u32) -> usize
     let numbered = put_number(out, at, n);
     let worded = put_text(out, numbered, b" refused ");
     let told = put_number(out, worded, r as u64);
-    put_one(out, told, 10)
+    put_one(out, told, b'\n')
 }
 
 // The line of a refused file: its name, the refusal's number and line.
@@ -120,5 +115,5 @@ pub fn put_file(out: &mut [u8], at: usize, file: &[u8], r: u32, line: usize) -> 
     let named = put_text(out, at, file);
     let told = put_field(out, named, r as u64);
     let placed = put_field(out, told, line as u64);
-    put_one(out, placed, 10)
+    put_one(out, placed, b'\n')
 }

@@ -4,7 +4,7 @@ use mathlib.Core.List.{List, [], ◌∷◌, ◌++◌}
 use Prim.Native.Nat.{ℕ, zero, suc, ◌+◌, ◌-◌, ◌≤◌, ◌<◌}
 use native.Mathlib.Numerals.{add-one}
 use native.Mathlib.Omega.{arith}
-use lib.ListN.{length, get_or, take, drop, set, length-set, drop_of_length-le}
+use lib.ListN.{length, length-drop, get_or, take, drop, set, length-set, drop_of_length-le}
 use lib.Seq.{drop-cons, take-nil, length-sets}
 use lib.Dec.{eqb}
 use borrow.Author.Tests.{eqb-true, eq-eqb, ne_eqb}
@@ -109,3 +109,8 @@ module _ {piece : List ℕ} {from : ℕ} {current₀ : List ℕ} {len : ℕ} {cu
   pub taken-all : length piece ≤ i → TakesRun piece from current₀ len current (record { at = i; len = n })
   unfolding plain
   taken-all h = taken (ap plain (drop_of_length-le piece h))
+
+  pub taken-end : from ≤ length piece → length piece ≤ i → TakesRun piece from current₀ len current (record { at = length piece; len = n })
+  taken-end k h =
+      let e : i ≡ length piece = omega (arith, v.to, plain-short (drop from piece), length-drop from piece) in
+      rw e at (taken-all h)

@@ -1,22 +1,21 @@
 -- What a decoded text is on the paper.
-use Rattle.std.specs.Prelude.{◌≡◌, List, ℕ, ◌≤◌, length, take}
-use Rattle.rules.specs.Text.{Result, granted, refused}
+use Rattle.std.specs.Prelude.{◌≡◌, List, ℕ, ◌≤◌, length, take, Err, Ok, Result}
+use Rattle.rules.specs.Text.{Result as Judged, granted, refused}
 use Rattle.rules.specs.Pairs.{text_of}
 use Rattle.base_units.specs.Numbers.{number_of}
-use Rattle.charmap_coding.specs.declared.Coded.{Coded}
-use Rattle.charmap_coding.specs.declared.Coded.TheVariants.{Written, Refused}
+use Rattle.base_units.specs.declared.Refusal.{Refusal}
 
 -- an answer, with the string in front of the room
-abbrev pub text_as : Coded → List ℕ → Result (List ℕ)
-text_as (Written n) room = granted (take n room)
-text_as (Refused r) room = refused (number_of r) 0
+abbrev pub text_as : Result ℕ Refusal → List ℕ → Judged (List ℕ)
+text_as (Ok n) room = granted (take n room)
+text_as (Err r) room = refused (number_of r) 0
 
 -- how many characters it has
-abbrev pub size_as : Coded → ℕ
-size_as (Written n) = n
-size_as (Refused r) = 0
+abbrev pub size_as : Result ℕ Refusal → ℕ
+size_as (Ok n) = n
+size_as (Err r) = 0
 
 -- The answer is the paper's text, and stands in the room.
-pub record TextIs (area bs room : List ℕ) (s : Coded) : Type 0 where
+pub record TextIs (area bs room : List ℕ) (s : Result ℕ Refusal) : Type 0 where
   pub is : text_as s room ≡ text_of area bs
   pub inside : size_as s ≤ length room

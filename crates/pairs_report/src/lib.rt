@@ -11,8 +11,7 @@ ghost use Rattle.pairs_printing.specs.Printed.{Prints};
 ghost use Rattle.pairs_report.specs.Texts.{TextIs};
 ghost use Rattle.pairs_report.specs.Feeding.{ended_line, left, KeepsByte, TakesRun, Ready, FeedsRun, FeedsAll};
 
-use charmap_coding::Coded;
-use order_compare::Comparison;
+use base_units::Refusal;
 use pairs_printing::{put_compared, put_refused, put_text};
 
 // How far a piece is taken, and how many bytes are kept of the text that is open.
@@ -39,16 +38,15 @@ fn pair_strings(t: &[u32], a: &[u32], b: &[u32], n: u64, out: &mut [u8], at: usi
     requires a_value { (good_string a.now ≡ true) × (good_string b.now ≡ true) }
     ensures { Prints 80 out.old at (compared_line n (compare_of (meaning_in t.now) a.now b.now)) out.new result }
 {
-    let c = order_compare::compare(t, a, b);
-    match c {
-        Comparison::Decided(answer) => return put_compared(out, at, n, answer),
+    match order_compare::compare(t, a, b) {
+        Ok(answer) => put_compared(out, at, n, answer),
         // never: the table is accepted, and both strings are good
-        Comparison::Refused(_) => return at,
+        Err(_) => at,
     }
 }
 
 // A text, decoded into the front of a room for the longest.
-fn decode_text(area: &[u32], bytes: &[u8], room: &mut [u32]) -> Coded
+fn decode_text(area: &[u32], bytes: &[u8], room: &mut [u32]) -> Result<usize, Refusal>
     requires { length room.old ≡ 4096 }
     ensures { TextIs area.now bytes.now room.new result }
 {
@@ -70,10 +68,9 @@ fn pair_second(
     requires x_value { (good_string x.now ≡ true) × (length room.old ≡ 4096) }
     ensures { Prints 80 out.old at (pair_line (meaning_in t.now) n (granted x.now) (text_of area.now b.now)) out.new result }
 {
-    let d = decode_text(area, b, room);
-    match d {
-        Coded::Refused(r) => return put_refused(out, at, n, base_units::number_of(r)),
-        Coded::Written(k) => return pair_strings(t, x, &room[..k], n, out, at),
+    match decode_text(area, b, room) {
+        Err(r) => put_refused(out, at, n, base_units::number_of(r)),
+        Ok(k) => pair_strings(t, x, &room[..k], n, out, at),
     }
 }
 
@@ -93,10 +90,9 @@ fn pair_first(
     requires first_len { (length first.old ≡ 4096) × (length second.old ≡ 4096) }
     ensures { Prints 80 out.old at (pair_line (meaning_in t.now) n (text_of area.now a.now) (text_of area.now b.now)) out.new result }
 {
-    let d = decode_text(area, a, first);
-    match d {
-        Coded::Refused(r) => return put_refused(out, at, n, base_units::number_of(r)),
-        Coded::Written(k) => return pair_second(t, area, &first[..k], b, second, n, out, at),
+    match decode_text(area, a, first) {
+        Err(r) => put_refused(out, at, n, base_units::number_of(r)),
+        Ok(k) => pair_second(t, area, &first[..k], b, second, n, out, at),
     }
 }
 
@@ -127,17 +123,18 @@ fn take_run(piece: &[u8], from: usize, current: &mut [u8], len: usize) -> Run
     requires { (from ≤ length piece.now) × (len ≤ length current.old) }
     ensures { TakesRun piece.now from current.old len current.new result }
 {
-    let mut i = from;
     let mut n = len;
-    while i < piece.len() {
+    for i in from..piece.len() {
         let b = piece[i];
-        if b == 10 {
+        if b == b'\n' {
             return Run { at: i, len: n };
         }
         n = keep_byte(current, n, b);
-        i += 1;
     }
-    Run { at: i, len: n }
+    Run {
+        at: piece.len(),
+        len: n,
+    }
 }
 
 // What is printed when a text ends, of which so many bytes are kept: with the one before it, if any, it is a pair.
@@ -184,18 +181,18 @@ fn feed_run(
         let last = put_text(before, 0, &current[..len]);
         return Fed {
             at: at + 1,
-            used: used,
+            used,
             texts: f.texts + 1,
-            last: last,
+            last,
             len: 0,
         };
     }
     Fed {
-        at: at,
+        at,
         used: f.used,
         texts: f.texts,
         last: f.last,
-        len: len,
+        len,
     }
 }
 

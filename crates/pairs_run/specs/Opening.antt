@@ -1,43 +1,40 @@
 -- What the answers of the two files are on the paper, and what is printed of them.
-use Rattle.std.specs.Prelude.{◌≡◌, Bool, true, false, List, [], ◌++◌, ℕ, ◌≤◌, length, take}
-use Rattle.rules.specs.Text.{Result, granted, refused}
+use Rattle.std.specs.Prelude.{◌≡◌, Bool, true, false, List, [], ◌++◌, ℕ, ◌≤◌, length, take, Err, Ok, Result}
+use Rattle.rules.specs.Text.{Result as Judged, granted, refused}
 use Rattle.rules.specs.Meaning.{Meaning}
 use Rattle.rules.specs.Table.{accepted, meaning_in}
 use Rattle.rules.specs.Pairs.{locale_file, charmap_file, pairs_with, pairs_of}
 use Rattle.base_units.specs.Numbers.{number_of}
-use Rattle.charmap_read.specs.declared.Mapped.{Mapped}
-use Rattle.charmap_read.specs.declared.Mapped.TheVariants as mapped
-use Rattle.locale_compile.specs.declared.Compiled.{Compiled}
-use Rattle.locale_compile.specs.declared.Compiled.TheVariants as compiled
 use Rattle.pairs_report.specs.Feeding.{report_from}
 use Rattle.pairs_run.specs.declared.Opened.{Opened}
 use Rattle.pairs_run.specs.declared.Opened.TheVariants as opened
+use Rattle.base_units.specs.declared.Refusal.{Refusal}
 
 -- ## The locale
 
 -- an answer, with the table's area
-abbrev pub locale_as : Compiled → List ℕ → Result Meaning
-locale_as (compiled.Done n) table = granted (meaning_in table)
-locale_as (compiled.Refused r l) table = refused (number_of r) l
+abbrev pub locale_as : Result ℕ (Refusal × ℕ) → List ℕ → Judged Meaning
+locale_as (Ok n) table = granted (meaning_in table)
+locale_as (Err (r, l)) table = refused (number_of r) l
 
 -- there is a table
-abbrev pub is_done : Compiled → Bool
-is_done (compiled.Done n) = true
-is_done (compiled.Refused r l) = false
+abbrev pub is_done : Result ℕ (Refusal × ℕ) → Bool
+is_done (Ok n) = true
+is_done (Err (r, l)) = false
 
 -- The answer is the paper's, and a table that is made is accepted.
-pub record LocaleIs (src table : List ℕ) (s : Compiled) : Type 0 where
+pub record LocaleIs (src table : List ℕ) (s : Result ℕ (Refusal × ℕ)) : Type 0 where
   pub is : locale_as s table ≡ locale_file src
   pub good : is_done s ≡ true → accepted table ≡ true
 
 -- ## The charmap
 
 -- an answer, with the area
-abbrev pub charmap_as : Mapped → List ℕ → Result (List ℕ)
-charmap_as mapped.Done area = granted area
-charmap_as (mapped.Refused r l) area = refused (number_of r) l
+abbrev pub charmap_as : Result Unit (Refusal × ℕ) → List ℕ → Judged (List ℕ)
+charmap_as (Ok tt) area = granted area
+charmap_as (Err (r, l)) area = refused (number_of r) l
 
-pub record CharmapIs (src area : List ℕ) (s : Mapped) : Type 0 where
+pub record CharmapIs (src area : List ℕ) (s : Result Unit (Refusal × ℕ)) : Type 0 where
   pub is : charmap_as s area ≡ charmap_file src
 
 -- ## What is printed

@@ -11,8 +11,6 @@ ghost use Rattle.pairs_run.specs.Pieces.{Rooms, Consumed, Ended};
 
 use base_reading::{read_full, read_some};
 use base_units::Refusal;
-use charmap_read::Mapped;
-use locale_compile::Compiled;
 use pairs_printing::{put_file, put_text};
 use pairs_report::{Fed, feed, finish};
 use std::io::{ErrorKind, Read};
@@ -27,24 +25,24 @@ pub enum Opened {
 }
 
 // The locale's table, in an area of 8,192 numbers.
-fn read_locale(src: &[u8], table: &mut [u32], work: &mut [u32]) -> Compiled
+fn read_locale(src: &[u8], table: &mut [u32], work: &mut [u32]) -> Result<usize, (Refusal, usize)>
     requires { (length table.old ≡ 8192) × (length work.old ≡ 8256) }
     ensures { LocaleIs src.now table.new result }
 {
     if 8192 < src.len() {
-        return Compiled::Refused(Refusal::TooLong, 0);
+        return Err((Refusal::TooLong, 0));
     }
     let n = src.len() + 64;
     locale_compile::compile(src, table, &mut work[..n])
 }
 
 // The charmap's 512 numbers.
-fn read_charmap(src: &[u8], area: &mut [u32]) -> Mapped
+fn read_charmap(src: &[u8], area: &mut [u32]) -> Result<(), (Refusal, usize)>
     requires { length area.old ≡ 512 }
     ensures { CharmapIs src.now area.new result }
 {
     if 8192 < src.len() {
-        return Mapped::Refused(Refusal::TooLong, 0);
+        return Err((Refusal::TooLong, 0));
     }
     charmap_read::read(src, area)
 }
@@ -54,15 +52,14 @@ fn open_charmap(src: &[u8], area: &mut [u32], out: &mut [u8]) -> Opened
     requires { (length area.old ≡ 512) × (100 ≤ length out.old) }
     ensures { CharmapOpens src.now area.new out.new result }
 {
-    let m = read_charmap(src, area);
-    match m {
-        Mapped::Refused(r, line) => {
+    match read_charmap(src, area) {
+        Err((r, line)) => {
             let n = put_file(out, 0, b"charmap", base_units::number_of(r), line);
-            return Opened::Closed(n);
+            Opened::Closed(n)
         }
-        Mapped::Done => {
+        Ok(()) => {
             let n = put_text(out, 0, b"pair sign level agreed\n");
-            return Opened::Reading(n);
+            Opened::Reading(n)
         }
     }
 }
@@ -80,13 +77,12 @@ fn open_files(
     requires area_len { (length area.old ≡ 512) × (100 ≤ length out.old) }
     ensures { FilesOpen locale.now charmap.now table.new area.new out.new result }
 {
-    let c = read_locale(locale, table, work);
-    match c {
-        Compiled::Refused(r, line) => {
+    match read_locale(locale, table, work) {
+        Err((r, line)) => {
             let n = put_file(out, 0, b"locale", base_units::number_of(r), line);
-            return Opened::Closed(n);
+            Opened::Closed(n)
         }
-        Compiled::Done(_) => return open_charmap(charmap, area, out),
+        Ok(_) => open_charmap(charmap, area, out),
     }
 }
 

@@ -6,7 +6,7 @@ use Rattle.rules.specs.Text.{within, every}
 use Rattle.rules.specs.Table.{mask}
 use Rattle.rules.proofs.TextLaws.{every-head, every-tail}
 use Rattle.table_layout.specs.Parts.{weights_part}
-use Rattle.table_check.specs.Checks.{head_passes}
+use Rattle.table_check.specs.Checks.{head_passes, Headed}
 
 -- ## head_passes
 
@@ -14,58 +14,38 @@ pub head-short : (t : List ℕ) → length t < 16 → false ≡ head_passes t
 unfolding head_passes
 head-short t h = rw (lt-leb 16 (length t) h)
 
-module _ (t : List ℕ) (long : 16 ≤ length t) where
-  pub head-no-level : get_or t 0 0 ≡ 0 → false ≡ head_passes t
+module _ (t : List ℕ) (long : 16 ≤ length t) {l : Bool} (levels : l ≡ within 1 8 (get_or t 0 0)) where
+  pub head-levels : l ≡ false → false ≡ head_passes t
   unfolding head_passes
-  head-no-level e = rw (le-leb 16 (length t) long, e)
+  head-levels e = rw (le-leb 16 (length t) long, ← levels, e)
 
-  pub head-many-levels : 8 < get_or t 0 0 → false ≡ head_passes t
-  unfolding head_passes
-  head-many-levels h = rw (le-leb 16 (length t) long, le-leb 1 (get_or t 0 0) (omega arith), lt-leb (get_or t 0 0) 8 h)
-
-  module _ (some : get_or t 0 0 ≡ 0 → ⊥) (few : get_or t 0 0 ≤ 8) where
-    -- 1 to 8 levels pass
-    levels-pass : within 1 8 (get_or t 0 0) ≡ true
-    levels-pass = rw (le-leb 1 (get_or t 0 0) (omega arith), le-leb (get_or t 0 0) 8 few)
-
-    pub head-no-item : get_or t 1 0 ≡ 0 → false ≡ head_passes t
+  module _ (good-levels : l ≡ true) {n : Bool} (items : n ≡ within 1 32768 (get_or t 1 0)) where
+    pub head-items : n ≡ false → false ≡ head_passes t
     unfolding head_passes
-    head-no-item e = rw (le-leb 16 (length t) long, levels-pass, e)
+    head-items e = rw (le-leb 16 (length t) long, ← levels, good-levels, ← items, e)
 
-    pub head-many-items : 32768 < get_or t 1 0 → false ≡ head_passes t
-    unfolding head_passes
-    head-many-items h = rw (le-leb 16 (length t) long, levels-pass, le-leb 1 (get_or t 1 0) (omega arith), lt-leb (get_or t 1 0) 32768 h)
-
-    module _ (some' : get_or t 1 0 ≡ 0 → ⊥) (few' : get_or t 1 0 ≤ 32768) {m : ℕ} (is : m ≡ mask (get_or t 1 0)) where
-      items-pass : within 1 32768 (get_or t 1 0) ≡ true
-      items-pass = rw (le-leb 1 (get_or t 1 0) (omega arith), le-leb (get_or t 1 0) 32768 few')
-
+    module _ (good-items : n ≡ true) {m : ℕ} (is : m ≡ mask (get_or t 1 0)) where
       pub head-mask : (get_or t 3 0 ≡ m → ⊥) → false ≡ head_passes t
       unfolding head_passes
-      head-mask e = rw (le-leb 16 (length t) long, levels-pass, items-pass, ← is, ne_eqb (get_or t 3 0) m e)
+      head-mask e = rw (le-leb 16 (length t) long, ← levels, good-levels, ← items, good-items, ← is, ne_eqb (get_or t 3 0) m e)
 
       module _ (masked : get_or t 3 0 ≡ m) {r : Bool} (zeros : r ≡ every (within 0 0) (take 12 (drop 4 t))) where
-        pub head-spare : r ≡ false → false ≡ head_passes t
+        pub head-spare : r ≡ false → r ≡ head_passes t
         unfolding head_passes
-        head-spare e = rw (le-leb 16 (length t) long, levels-pass, items-pass, ← is, eq-eqb (get_or t 3 0) m masked, ← zeros, e)
+        head-spare e = e ∙ rw (le-leb 16 (length t) long, ← levels, good-levels, ← items, good-items, ← is, eq-eqb (get_or t 3 0) m masked, ← zeros, e)
 
         pub head-room : {end : ℕ} → r ≡ true → end ≡ weights_part (get_or t 0 0) (get_or t 1 0) → leb (end + get_or t 2 0) (length t) ≡ head_passes t
         unfolding head_passes
-        head-room e f = rw (le-leb 16 (length t) long, levels-pass, items-pass, ← is, eq-eqb (get_or t 3 0) m masked, ← zeros, e, f)
+        head-room e f =
+            rw (le-leb 16 (length t) long, ← levels, good-levels, ← items, good-items, ← is, eq-eqb (get_or t 3 0) m masked, ← zeros, e, f)
+
+-- a number in a range that a test found it in
+pub in-range : (low high x : ℕ) {r : Bool} → r ≡ within low high x → r ≡ true → (low ≤ x) × (x ≤ high)
+in-range low high x p e =
+    let h : within low high x ≡ true = sym p ∙ e in
+    (leb-true low x (and_left (leb low x) (leb x high) h), leb-true x high (and_right (leb low x) (leb x high) h))
 
 -- ## A header that passes
-
--- its numbers are in their ranges, and the area holds what they count
-pub record Headed (t : List ℕ) : Type 0 where
-  pub long : 16 ≤ length t
-  pub some-levels : 1 ≤ get_or t 0 0
-  pub few-levels : get_or t 0 0 ≤ 8
-  pub some-items : 1 ≤ get_or t 1 0
-  pub few-items : get_or t 1 0 ≤ 32768
-  pub masked : get_or t 3 0 ≡ mask (get_or t 1 0)
-  pub spare : every (within 0 0) (take 12 (drop 4 t)) ≡ true
-  pub before-ends : get_or t 15 0 ≡ 0
-  pub room : weights_part (get_or t 0 0) (get_or t 1 0) + get_or t 2 0 ≤ length t
 
 zero-at : (xs : List ℕ) (k : ℕ) → every (within 0 0) xs ≡ true → get_or xs k 0 ≡ 0
 zero-at [] k h = refl
@@ -94,6 +74,7 @@ head-parts t p e =
     let of-spare : zeros ≡ true = and_right (long && levels && items && masks) zeros five in
     let of-items : items ≡ true = and_right (long && levels) items three in
     record {
+      passes = sym p ∙ e;
       long = leb-true 16 (length t) (and_left long levels two);
       some-levels = leb-true 1 l (and_left (leb 1 l) (leb l 8) of-levels);
       few-levels = leb-true l 8 (and_right (leb 1 l) (leb l 8) of-levels);

@@ -1,4 +1,3 @@
-pub mod FaultLaws
 pub mod WithinLaws
 pub mod EndLaws
 pub mod CharLaws

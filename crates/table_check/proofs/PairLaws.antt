@@ -56,13 +56,14 @@ starts-last ss k b (suc n) =
 -- ## pairs_are
 
 module _ (t : List ℕ) (from b end k : ℕ) (even : b % 2 ≡ 0) (to : b ≤ end) (room : from + (end + 1) / 2 ≤ length t) (small : k < 65536) {r : Bool}
-    (same : r ≡ every (within (k + 65536 * k) (k + 65536 * k)) (take ((end - b) / 2) (drop (from + b / 2) t))) where
+    (same : r ≡ every (within (k + 65536 * k) (k + 65536 * k)) (take (from + end / 2 - (from + b / 2)) (drop (from + b / 2) t))) where
   all-pairs : r ≡ start_all (drop from t) k b (2 * ((end - b) / 2))
   all-pairs =
       let both : ℕ = k + 65536 * k in
       let m : ℕ = (end - b) / 2 in
       let back : 2 * (b / 2) ≡ b = omega arith in
-      same
+      let many : from + end / 2 - (from + b / 2) ≡ m = omega arith in
+      rw many at same
       ∙ ap (λ (l : List ℕ). every (within both both) (take m l)) (sym (drop-drop (b / 2) from t))
       ∙ sym (pairs (drop from t) k (b / 2) m small (simp length-drop (omega arith)))
       ∙ ap (λ (x : ℕ). start_all (drop from t) k x (2 * m)) back
@@ -80,14 +81,15 @@ module _ (t : List ℕ) (from b end k : ℕ) (even : b % 2 ≡ 0) (to : b ≤ en
       let n : end - b ≡ 2 * ((end - b) / 2) = omega arith in
       ap (start_all (drop from t) k b) n ∙ sym all-pairs
 
-  pub pairs-no : r ≡ false → false ≡ start_all (drop from t) k b (end - b)
+  pub pairs-no : r ≡ false → r ≡ start_all (drop from t) k b (end - b)
   pairs-no e =
+      e ∙
       by (eqb (end % 2) 0)
       (λ z. sym (none_left (eqb-true (end % 2) 0 z) ∙ e))
       (λ z. sym (one_left (eqb-false (end % 2) 0 z) ∙ rw e))
 
-  pub pairs-all : r ≡ true → end % 2 ≡ 0 → true ≡ start_all (drop from t) k b (end - b)
-  pairs-all e z = sym (none_left z ∙ e)
+  pub pairs-all : r ≡ true → end % 2 ≡ 0 → eqb (end % 2) 0 ≡ start_all (drop from t) k b (end - b)
+  pairs-all e z = eq-eqb (end % 2) 0 z ∙ sym (none_left z ∙ e)
 
   pub pairs-last : r ≡ true → (end % 2 ≡ 0 → ⊥) → {s : ℕ} → s ≡ start_at (drop from t) (end - 1) → eqb s k ≡ start_all (drop from t) k b (end - b)
   pairs-last e z is = sym (one_left z ∙ rw (e, ← is))
@@ -102,7 +104,7 @@ module _ (ss : List ℕ) (b end k : ℕ) (some : b < end) {s : ℕ} (start : s �
       let j : b + 1 ≡ suc b = omega arith in
       rw (n, j, start)
 
-  pub starts-no : (s ≡ k → ⊥) → false ≡ start_all ss k b (end - b)
+  pub starts-no : (s ≡ k → ⊥) → eqb s k ≡ start_all ss k b (end - b)
   starts-no e = sym (first-start ∙ rw (ne_eqb s k e))
 
   pub starts_more : s ≡ k → {r : Bool} → r ≡ start_all ss k (b + 1) (end - (b + 1)) → r ≡ start_all ss k b (end - b)

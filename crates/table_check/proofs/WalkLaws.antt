@@ -1,22 +1,25 @@
 -- The walk along the listing: starts_are, told_after and the loop of listing_passes.
-use Rattle.std.proofs.Common.{◌≡◌, ℕ, zero, suc, pred, ◌+◌, ◌-◌, ◌*◌, ◌<◌, ◌≤◌, Bool, true, false, ◌&&◌, eqb, List, [], ◌∷◌, map, length, get_or, take, drop, sym, refl, ap, ◌∙◌, arith, drop-cons, drop-drop, le-ltb, lt-ltb, eq-eqb, ne_eqb, eqb-true, le-leb}
+use Rattle.std.proofs.Common.{◌≡◌, ℕ, zero, suc, pred, ◌+◌, ◌-◌, ◌*◌, ◌<◌, ◌≤◌, Bool, true, false, ◌&&◌, Option, Some, None, eqb, List, [], ◌∷◌, map, length, get_or, take, drop, sym, refl, ap, ◌∙◌, arith, drop-cons, drop-drop, length-drop, length-take-le, get_or-take, get_or-drop, le-ltb, lt-ltb, eq-eqb, ne_eqb, eqb-true, le-leb}
+use Rattle.std.specs.Bool.{then_some}
+use Rattle.std.specs.Ordering.{nat_cmp, is_lt, is_some_and}
+use Rattle.std.specs.Cmp.Lexicographic.{slice_partial_cmp}
 use mathlib.Core.Bool.{and-true, and-false}
 use borrow.Author.Tests.{eqb-false, lt-leb}
-use Rattle.base_lists.proofs.Bools.{by, cond-true, cond-false}
+use Rattle.base_lists.proofs.Bools.{by}
 use Rattle.base_lists.proofs.Runs.{run, run-whole, run_none, run-cons}
 use Rattle.rules.specs.Text.{within, every}
+use Rattle.rules.proofs.TextLaws.{within_low, within-high}
 use Rattle.rules.specs.Table.{pad, mask, before}
-use Rattle.table_layout.specs.Starts.{bucket_for, four_at, bucket_in, bucket_from, Place, start_at, start_all, told}
+use Rattle.table_layout.specs.Starts.{bucket_for, four_at, four_from, bucket_in, bucket_from, Place, start_at, start_all, told}
 use Rattle.table_layout.proofs.BucketLaws.{for-few}
 use Rattle.table_check.specs.Checks.{rises_in, listing_in}
-use Rattle.table_check.specs.Walk.{follows, rises_on, walks, told_with, goes_on, Next}
+use Rattle.table_check.proofs.BeforeLaws.{less-before}
+use Rattle.table_check.specs.Walk.{follows, rises_on, walks, told_with, goes_on, told_next}
 
 -- ## Buckets
 
-four-drop : (t : List ℕ) (chars p : ℕ) → four_at (drop chars t) p ≡ take 4 (drop (chars + 4 * (p - 1)) t)
-four-drop t chars p =
-    let e : pred p ≡ p - 1 = omega arith in
-    rw e (ap (take 4) (drop-drop (4 * (p - 1)) chars t))
+four-drop : (t : List ℕ) (chars p : ℕ) → four_at (drop chars t) p ≡ take 4 (drop (four_from chars p) t)
+four-drop t chars p = ap (take 4) (drop-drop (4 * pred p) chars t)
 
 -- the bucket as it is read
 bucket-first : (t : List ℕ) (n chars p : ℕ) → 1 ≤ p → p ≤ n → chars + 6 * n ≤ length t → bucket_from t chars n p ≡ bucket_in n (drop chars t) p
@@ -60,8 +63,8 @@ module _ (n : ℕ) (cs : List ℕ) (last p : ℕ) where
         rw (ne_eqb last 0 z, le-ltb (bucket_in n cs last) (bucket_in n cs p) (omega arith), eq-eqb (bucket_in n cs last) (bucket_in n cs p) e)
 
   -- where a start is told, an item stands before
-  pub told-some : {told : ℕ} → told ≡ told_with n cs last → {q : ℕ} → (told ≡ q → ⊥) → q ≤ told → 1 ≤ last
-  told-some e o h = by (eqb last 0) (λ t. absurd (omega (arith, o, first-told (eqb-true last 0 t)))) (λ t. omega (arith, eqb-false last 0 t))
+  pub told-some : {told : ℕ} → told ≡ told_with n cs last → {q : ℕ} → q < told → 1 ≤ last
+  told-some e h = by (eqb last 0) (λ t. absurd (omega (arith, first-told (eqb-true last 0 t)))) (λ t. omega (arith, eqb-false last 0 t))
 
   -- the place after `last`, of a bucket that is not told yet
   behind : told_with n cs last ≤ bucket_in n cs p → follows n cs last p ≡ true
@@ -81,59 +84,51 @@ module _ (t : List ℕ) (n chars : ℕ) (ss : List ℕ) (k last p told q : ℕ) 
   suc-p : suc (bucket_in n (drop chars t) p) ≡ q + 1
   suc-p = omega (arith, at)
 
-  stays : goes_on n (drop chars t) ss k last p ≡ false → Next n (drop chars t) ss k last p 0
-  stays e = record { is = rw e; few = omega arith }
+  abbrev next : Option ℕ
+  next = told_next n (drop chars t) ss k last p
+
+  answer : {r : Bool} {m : ℕ} → goes_on n (drop chars t) ss k last p ≡ r → (r ≡ true → m ≡ q + 1) → then_some r m ≡ next
+  unfolding told_next
+  answer {r} {m} e f =
+      rw (e, with-p)
+      (by r
+      (λ y. rw (y, f y))
+      (λ y. rw y))
 
   module _ {r : Bool} (right : r ≡ start_all ss k told (q + 1 - told)) (later : told ≤ q) where
     goes : goes_on n (drop chars t) ss k last p ≡ r
     unfolding goes_on
     goes = rw (behind n (drop chars t) last p (omega (arith, tell, at)), suc-p, ← tell) (sym right)
 
-    on : r ≡ true → Next n (drop chars t) ss k last p (q + 1)
-    on e = record { is = rw (goes, e, with-p); few = omega (arith, few) }
-
-    off : r ≡ false → Next n (drop chars t) ss k last p 0
-    off e = stays (goes ∙ e)
-
   -- of a bucket further behind
-  module _ {r : Bool} (right : r ≡ start_all ss k told (q + 1 - told)) (later : told < q) where
-    pub told-later : r ≡ true → Next n (drop chars t) ss k last p (q + 1)
-    told-later e = on right (omega arith) e
-
-    pub told-wrong : r ≡ false → Next n (drop chars t) ss k last p 0
-    told-wrong e = off right (omega arith) e
+  pub told-later : {r : Bool} → r ≡ start_all ss k told (q + 1 - told) → told < q → then_some r (q + 1) ≡ next
+  told-later right later = answer (goes right (omega arith)) (λ e. refl)
 
   -- of the bucket behind the last one's: one start is told
-  module _ (next : told ≡ q) {s : ℕ} (start : s ≡ start_at ss q) where
-    one-start : eqb s k ≡ start_all ss k told (q + 1 - told)
-    unfolding start_all
-    one-start =
-        let z : q + 1 - told ≡ 1 = omega arith in
-        rw (z, next, start) (sym (and-true (eqb (start_at ss q) k)))
-
-    pub told-next : s ≡ k → Next n (drop chars t) ss k last p (q + 1)
-    told-next e = on one-start (omega arith) (eq-eqb s k e)
-
-    pub told-off : (s ≡ k → ⊥) → Next n (drop chars t) ss k last p 0
-    told-off e = off one-start (omega arith) (ne_eqb s k e)
+  pub told-here : told ≡ q → {s : ℕ} → s ≡ start_at ss q → then_some (eqb s k) (q + 1) ≡ next
+  unfolding start_all
+  told-here here {s} start =
+      let z : q + 1 - told ≡ 1 = omega arith in
+      let one : eqb s k ≡ start_all ss k told (q + 1 - told) = rw (z, here, start) (sym (and-true (eqb (start_at ss q) k))) in
+      answer (goes one (omega arith)) (λ e. refl)
 
   -- of the last one's bucket, or one before it
-  module _ (other : told ≡ q → ⊥) (not-later : q ≤ told) where
+  module _ (not-later : q < told) where
     some : last ≡ 0 → ⊥
-    some e = omega (arith, told-some n (drop chars t) last p tell other not-later)
+    some e = omega (arith, told-some n (drop chars t) last p tell not-later)
 
     last-told : told ≡ suc (bucket_in n (drop chars t) last)
     last-told = tell ∙ some-told n (drop chars t) last p some
 
-    pub told-earlier : q + 1 < told → Next n (drop chars t) ss k last p 0
-    unfolding goes_on
-    told-earlier l = stays (rw (earlier-follows n (drop chars t) last p some (omega (arith, last-told, at))))
+    pub told-earlier : q + 1 < told → None ≡ next
+    unfolding goes_on told_next
+    told-earlier l = rw (earlier-follows n (drop chars t) last p some (omega (arith, last-told, at)))
 
-    module _ (close : told ≤ q + 1) {r : Bool} (four : r ≡ before (take 4 (drop (chars + 4 * (last - 1)) t)) (take 4 (drop (chars + 4 * (p - 1)) t))) where
-      goes_same : goes_on n (drop chars t) ss k last p ≡ r
+    module _ (close : told ≤ q + 1) {xs ys : List ℕ} (first : xs ≡ take 4 (drop (four_from chars last) t)) (second : ys ≡ take 4 (drop (four_from chars p) t)) where
+      goes_same : goes_on n (drop chars t) ss k last p ≡ before xs ys
       unfolding goes_on start_all
       goes_same =
-          let z : q + 1 - told ≡ 0 = omega (arith, other) in
+          let z : q + 1 - told ≡ 0 = omega arith in
           rw (
             same-follows n (drop chars t) last p some (omega (arith, last-told, at)),
             suc-p,
@@ -141,15 +136,13 @@ module _ (t : List ℕ) (n chars : ℕ) (ss : List ℕ) (k last p told q : ℕ) 
             z,
             four-drop t chars last,
             four-drop t chars p,
-            ← four,
+            ← first,
+            ← second,
           )
-          (and-true r)
+          (and-true (before xs ys))
 
-      pub told_same : r ≡ true → Next n (drop chars t) ss k last p told
-      told_same e = record { is = rw (goes_same, e, with-p) (omega arith); few = omega (arith, few) }
-
-      pub told-before : r ≡ false → Next n (drop chars t) ss k last p 0
-      told-before e = stays (goes_same ∙ e)
+      pub told_same : length xs ≡ length ys → {r : Bool} → r ≡ is_some_and is_lt (slice_partial_cmp (λ x y. Some (nat_cmp x y)) xs ys) → then_some r told ≡ next
+      told_same l e = answer (goes_same ∙ sym (e ∙ less-before xs ys l)) (λ y. omega arith)
 
 -- ## The starts behind the part are not read: the contract of listing_passes is the test of `checks`
 
@@ -181,6 +174,19 @@ listing-take n cs ps ss h = rw (told-take n cs ss (2 * n) 0 0 ps h (omega arith)
 
 -- ## listing_passes
 
+-- place k of the n that stand from f on
+pub place-at : (t : List ℕ) (f n k : ℕ) → f + n ≤ length t → k < length (take (f + n - f) (drop f t))
+    → (k < n) × (get_or (take (f + n - f) (drop f t)) k 0 ≡ get_or t (f + k) 0)
+place-at t f n k room h =
+    let e : f + n - f ≡ n = omega arith in
+    let l : k < n = rw (e, length-take-le n (drop f t) (simp length-drop (omega arith))) at h in
+    (l, rw (e, get_or-take n (drop f t) k 0 l, get_or-drop f t k 0))
+
+pub place-end : (t : List ℕ) (f n k : ℕ) → f + n ≤ length t → length (take (f + n - f) (drop f t)) ≤ k → n ≤ k
+place-end t f n k room h =
+    let e : f + n - f ≡ n = omega arith in
+    rw (e, length-take-le n (drop f t) (simp length-drop (omega arith))) at h
+
 walks-whole : (n : ℕ) (cs ps ss : List ℕ) → listing_in n cs ps ss ≡ walks n cs ss 0 0 0 ps
 unfolding listing_in walks rises_on follows rises_in
 walks-whole n cs [] ss = refl
@@ -198,18 +204,20 @@ shuffled true true r true t = refl
 shuffled true true true false t = refl
 shuffled true true false false t = refl
 
-module _ {n : ℕ} {cs ss : List ℕ} {k last p q : ℕ} (goes : Next n cs ss k last p q) where
-  next-no : (p ≡ 0 → ⊥) → q ≡ 0 → goes_on n cs ss k last p ≡ false
-  next-no z e =
+module _ (n : ℕ) (cs ss : List ℕ) (k last p : ℕ) where
+  next-no : None ≡ told_next n cs ss k last p → goes_on n cs ss k last p ≡ false
+  unfolding told_next
+  next-no e =
       by (goes_on n cs ss k last p)
-      (λ y. absurd (omega (arith, goes.is ∙ cond-true (told_with n cs p) 0 y, some-told n cs p p z)))
+      (λ y. let f : None ≡ Some (told_with n cs p) = rw y at e in cc)
       (λ y. y)
 
-  next-yes : (q ≡ 0 → ⊥) → (goes_on n cs ss k last p ≡ true) × (q ≡ told_with n cs p)
-  next-yes e =
+  next-yes : {q : ℕ} → Some q ≡ told_next n cs ss k last p → (goes_on n cs ss k last p ≡ true) × (q ≡ told_with n cs p)
+  unfolding told_next
+  next-yes {q} e =
       by (goes_on n cs ss k last p)
-      (λ y. (y, goes.is ∙ cond-true (told_with n cs p) 0 y))
-      (λ y. absurd (e (goes.is ∙ cond-false (told_with n cs p) 0 y)))
+      (λ y. let f : Some q ≡ Some (told_with n cs p) = rw y at e in (y, cc))
+      (λ y. let f : Some q ≡ None = rw y at e in cc)
 
 -- p, and the places after it
 walks-first : (n : ℕ) (cs ss : List ℕ) (last k p : ℕ) (ps : List ℕ) → (p ≡ 0 → ⊥) → p ≤ n
@@ -245,35 +253,39 @@ module _ {t : List ℕ} {n chars k last b : ℕ} (v : Walking t n chars k last b
   Whole = listing_in n (drop chars t) (take n (drop (chars + 4 * n) t)) (drop (chars + 5 * n) t)
 
   module _ (h : k < n) (room : chars + 6 * n ≤ length t) {p : ℕ} (is : p ≡ get_or t (chars + 4 * n + k) 0) where
-    next : run t (chars + 4 * n + k) (chars + 4 * n + n) ≡ p ∷ run t (chars + 4 * n + (k + 1)) (chars + 4 * n + n)
-    next =
+    listed : run t (chars + 4 * n + k) (chars + 4 * n + n) ≡ p ∷ run t (chars + 4 * n + (k + 1)) (chars + 4 * n + n)
+    listed =
         let e : chars + 4 * n + (k + 1) ≡ chars + 4 * n + k + 1 = omega arith in
         rw (e, is) (run-cons t (chars + 4 * n + k) (chars + 4 * n + n) (omega arith) (omega arith))
 
-    pub walking-zero : p ≡ 0 → false ≡ Whole
+    pub walking-off : within 1 n p ≡ false → false ≡ Whole
     unfolding walks every
-    walking-zero z = sym (v.same ∙ rw (next, lt-leb 1 p (omega arith)))
+    walking-off e = sym (v.same ∙ rw (listed, e))
 
-    module _ (z : p ≡ 0 → ⊥) where
-      pub walking_many : n < p → false ≡ Whole
-      unfolding walks every
-      walking_many l = sym (v.same ∙ rw (next, le-leb 1 p (omega arith), lt-leb p n l))
+    module _ (ranged : within 1 n p ≡ true) where
+      not-none : p ≡ 0 → ⊥
+      not-none z = let h = within_low 1 n p ranged in omega arith
 
-      module _ (l : p ≤ n) {q : ℕ} (goes : Next n (drop chars t) (drop (chars + 5 * n) t) k last p q) where
-        all : Whole
-            ≡ (goes_on n (drop chars t) (drop (chars + 5 * n) t) k last p
-            && walks n (drop chars t) (drop (chars + 5 * n) t) p (k + 1) (told_with n (drop chars t) p) (run t (chars + 4 * n + (k + 1)) (chars + 4 * n + n)))
-        all =
-            v.same
-            ∙ rw (next, v.told_in) (walks-first n (drop chars t) (drop (chars + 5 * n) t) last k p (run t (chars + 4 * n + (k + 1)) (chars + 4 * n + n)) z l)
+      few : p ≤ n
+      few = within-high 1 n p ranged
 
-        pub walking-no : q ≡ 0 → false ≡ Whole
-        walking-no e = sym (all ∙ rw (next-no goes z e))
+      abbrev after : Option ℕ
+      after = told_next n (drop chars t) (drop (chars + 5 * n) t) k last p
 
-        pub walking-more : (q ≡ 0 → ⊥) → Walking t n chars (k + 1) p q
-        walking-more e =
-            let y = next-yes goes e in
-            record { to = omega arith; last-in = l; told_in = y.1; same = all ∙ rw (y.0, y.1) }
+      all : Whole
+          ≡ (goes_on n (drop chars t) (drop (chars + 5 * n) t) k last p
+          && walks n (drop chars t) (drop (chars + 5 * n) t) p (k + 1) (told_with n (drop chars t) p) (run t (chars + 4 * n + (k + 1)) (chars + 4 * n + n)))
+      all =
+          v.same
+          ∙ rw (listed, v.told_in) (walks-first n (drop chars t) (drop (chars + 5 * n) t) last k p (run t (chars + 4 * n + (k + 1)) (chars + 4 * n + n)) not-none few)
+
+      pub walking-no : None ≡ after → false ≡ Whole
+      walking-no e = sym (all ∙ rw (next-no n (drop chars t) (drop (chars + 5 * n) t) k last p e))
+
+      pub walking-more : {q : ℕ} → Some q ≡ after → Walking t n chars (k + 1) p q
+      walking-more e =
+          let y = next-yes n (drop chars t) (drop (chars + 5 * n) t) k last p e in
+          record { to = omega arith; last-in = few; told_in = y.1; same = all ∙ rw (y.0, y.1) }
 
   module _ (h : n ≤ k) where
     pub walking-all : eqb b (2 * n) ≡ Whole

@@ -1,33 +1,22 @@
 -- The loop of all_within: what it knows when its test is reached, and what a turn or the end makes of that.
-use Rattle.std.proofs.Common.{◌≡◌, ℕ, ◌+◌, ◌<◌, ◌≤◌, ◌&&◌, eqb, List, length, get_or, take, drop, sym, ◌∙◌, arith}
+use Rattle.std.proofs.Common.{◌≡◌, ℕ, suc, ◌+◌, ◌<◌, ◌≤◌, Bool, true, ◌&&◌, List, length, get_or, drop, refl, sym, ◌∙◌, add-one, drop-cons, drop_of_length-le}
 use mathlib.Core.Bool.{and-true, and_assoc}
-use lib.Bits.{bit_or}
-use Rattle.rules.specs.Text.{within, every}
-use Rattle.base_lists.proofs.Runs.{run, run-whole, run_none, run-cons}
-use Rattle.table_check.specs.Checks.{fault}
-use Rattle.table_check.proofs.FaultLaws.{fault-more}
+use Rattle.rules.specs.Text.{every}
 
--- there are no faults exactly if the numbers before i passed
-pub record Within (t : List ℕ) (from n low high end i faults : ℕ) : Type 0 where
-  pub to : i ≤ end
-  pub room : end ≤ length t
-  pub same : every (within low high) (take n (drop from t)) ≡ (eqb faults 0 && every (within low high) (run t i end))
+-- so far all is good exactly if the first i passed
+pub record Passing (p : ℕ → Bool) (xs : List ℕ) (i : ℕ) (good : Bool) : Type 0 where
+  pub same : every p xs ≡ (good && every p (drop i xs))
 
-pub within_none : (t : List ℕ) (from n low high : ℕ) → from + n ≤ length t → Within t from n low high (from + n) from 0
-within_none t from n low high h = record { to = omega arith; room = h; same = rw (run-whole t from n) }
+pub passing-none : (p : ℕ → Bool) (xs : List ℕ) → Passing p xs 0 true
+passing-none p xs = record { same = refl }
 
-module _ {t : List ℕ} {from n low high end i faults : ℕ} (v : Within t from n low high end i faults) where
-  pub within_more : i < end → {r : ℕ} → r ≡ fault (within low high (get_or t i 0)) → Within t from n low high end (i + 1) (bit_or faults r)
+module _ {p : ℕ → Bool} {xs : List ℕ} {i : ℕ} {good : Bool} (v : Passing p xs i good) where
+  pub passing-more : i < length xs → {g : Bool} → g ≡ p (get_or xs i 0) → Passing p xs (i + 1) (good && g)
   unfolding every
-  within_more h e = record {
-    to = omega arith;
-    room = v.room;
-    same =
-        v.same
-        ∙ rw (run-cons t i end h v.room, e, fault-more faults (within low high (get_or t i 0)))
-        (sym (and_assoc (eqb faults 0) (within low high (get_or t i 0)) (every (within low high) (run t (i + 1) end))));
+  passing-more h e = record {
+    same = v.same ∙ rw (add-one, e, drop-cons xs i 0 h) (sym (and_assoc good (p (get_or xs i 0)) (every p (drop (suc i) xs))));
   }
 
-  pub within_all : end ≤ i → eqb faults 0 ≡ every (within low high) (take n (drop from t))
+  pub passing-all : length xs ≤ i → good ≡ every p xs
   unfolding every
-  within_all h = sym (v.same ∙ rw (run_none t i end h) (and-true (eqb faults 0)))
+  passing-all h = sym (v.same ∙ rw (drop_of_length-le xs h) (and-true good))

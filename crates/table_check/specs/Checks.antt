@@ -1,17 +1,11 @@
 -- The check of a table as straight passes over its parts, in the shape of the code. That it decides acceptance as the paper defines it is
 -- the law `accepted-checks` (proofs/CheckLaws); no public contract cites this file.
-use Rattle.std.specs.Prelude.{◌≡◌, ℕ, zero, suc, ◌+◌, ◌-◌, ◌*◌, ◌%◌, ◌<◌, Bool, true, ◌&&◌, List, [], ◌∷◌, map, length, take, drop, ◌==◌, nat_le, slice_index, slice_index_or, if◌then◌else◌}
+use Rattle.std.specs.Prelude.{◌≡◌, ℕ, zero, suc, ◌+◌, ◌-◌, ◌*◌, ◌%◌, ◌<◌, ◌≤◌, Bool, true, ◌&&◌, List, [], ◌∷◌, map, length, take, drop, ◌==◌, nat_le, slice_index, slice_index_or, if◌then◌else◌}
 use Rattle.rules.specs.Text.{within, every}
 use Rattle.rules.specs.Names.{is_character}
 use Rattle.rules.specs.Table.{pad, before, mask}
 use Rattle.table_layout.specs.Parts.{chars_part, listing_part, starts_part, rules_part, weights_part}
 use Rattle.table_layout.specs.Starts.{bucket_in, key_in, told}
-
--- ## Faults
-
--- what a test that fails adds to the faults of a pass
-abbrev pub fault : Bool → ℕ
-fault p = if p then 0 else 1
 
 -- ## The header
 
@@ -25,17 +19,25 @@ head_passes t =
     && every (within 0 0) (take 12 (drop 4 t))
     && nat_le (weights_part (slice_index t 0) (slice_index t 1) + slice_index t 2) (length t)
 
+-- A header that passes: its numbers are in their ranges, and the area holds what they count.
+pub record Headed (t : List ℕ) : Type 0 where
+  pub passes : head_passes t ≡ true
+  pub long : 16 ≤ length t
+  pub some-levels : 1 ≤ slice_index t 0
+  pub few-levels : slice_index t 0 ≤ 8
+  pub some-items : 1 ≤ slice_index t 1
+  pub few-items : slice_index t 1 ≤ 32768
+  pub masked : slice_index t 3 ≡ mask (slice_index t 1)
+  pub spare : every (within 0 0) (take 12 (drop 4 t)) ≡ true
+  pub before-ends : slice_index t 15 ≡ 0
+  pub room : weights_part (slice_index t 0) (slice_index t 1) + slice_index t 2 ≤ length t
+
 -- ## Ends
 
 -- each is the one before and at most 8 more, the first after `at`; the last is w
 unfoldable pub ends_pass : ℕ → ℕ → List ℕ → Bool
 ends_pass w at [] = at == w
 ends_pass w at (e ∷ es) = within at (at + 8) e && ends_pass w e es
-
--- Whether an end is the one before it or at most 8 more, told by their difference of 32 bits. Where that cannot wrap, it is what passes.
-pub record Apart (before e r : ℕ) : Type 0 where
-  pub is : r ≡ fault (nat_le ((e + (4294967296 - before)) % 4294967296) 8)
-  pub near : before + 8 < 4294967296 → r ≡ fault (within before (before + 8) e)
 
 -- ## Characters
 

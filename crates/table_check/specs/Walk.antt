@@ -1,5 +1,5 @@
 -- The walk along the listing, item by item: which places may come next, and how many starts are told then.
-use Rattle.std.specs.Prelude.{◌≡◌, ℕ, suc, ◌-◌, ◌*◌, ◌≤◌, Bool, true, ◌&&◌, ◌||◌, List, [], ◌∷◌, map, ◌==◌, if◌then◌else◌}
+use Rattle.std.specs.Prelude.{ℕ, suc, ◌-◌, ◌*◌, Bool, Option, Some, None, true, ◌&&◌, ◌||◌, List, [], ◌∷◌, map, ◌==◌, if◌then◌else◌}
 use Rattle.rules.specs.Text.{within, every}
 use Rattle.rules.specs.Table.{before}
 use Rattle.table_layout.specs.Starts.{bucket_in, key_in, start_all, told}
@@ -26,7 +26,6 @@ told_with n cs last = if last == 0 then 0 else suc (bucket_in n cs last)
 unfoldable pub goes_on : ℕ → List ℕ → List ℕ → ℕ → ℕ → ℕ → Bool
 goes_on n cs ss k last p = follows n cs last p && start_all ss k (told_with n cs last) (suc (bucket_in n cs p) - told_with n cs last)
 
--- How many starts are told after the item at p; 0 if it does not go on.
-pub record Next (n : ℕ) (cs ss : List ℕ) (k last p r : ℕ) : Type 0 where
-  pub is : r ≡ (if goes_on n cs ss k last p then told_with n cs p else 0)
-  pub few : r ≤ 2 * n
+-- how many starts are told after the item at p; none if it does not go on
+unfoldable pub told_next : ℕ → List ℕ → List ℕ → ℕ → ℕ → ℕ → Option ℕ
+told_next n cs ss k last p = if goes_on n cs ss k last p then Some (told_with n cs p) else None

@@ -1,4 +1,5 @@
 -- What the mark of an order line names: UNDEFINED, a character, a symbol or an element; so whether it gives an item, and of which characters.
+use Rattle.std.specs.Prelude.{Some}
 use mathlib.Core.Path.{◌≡◌, sym, ap, ◌∙◌, subst}
 use mathlib.Core.Bool.{true, false, not}
 use mathlib.Core.List.{List, [], ◌∷◌}
@@ -18,7 +19,6 @@ use Rattle.work_rows.specs.Cells.{cell}
 use Rattle.work_subjects.specs.Keys.{name_spot, quote_spot, chars_left, Key, item, chars, key_at}
 use Rattle.work_subjects.proofs.KeyLaws.{key_at-name, key_at-quotes}
 use Rattle.work_store.specs.Store.{Decl, first, is_place, Once, heads_of, Roomy, Holds, undefined_mark}
-use Rattle.work_store.specs.declared.Found.TheVariants.{At}
 use Rattle.work_store.proofs.ListLaws.{nodes-keyed, place-within}
 use Rattle.work_order.specs.Links.{chars_number}
 use Rattle.locale_sheet.specs.Known.{Says, subject_at, is_row, mark_of}
@@ -65,7 +65,7 @@ module _ (g : Signs) (src w : List ℕ) (n : ℕ) (ds : List Decl) (cs : List De
         same_chars a = cc
 
   module _ (p : is_place v ds ≡ true) where
-    there : first (item (subject_of m)) ds ≡ At v
+    there : first (item (subject_of m)) ds ≡ Some v
     there =
         sym (mark-name (length src) ds m) ∙ ap (mark_of (length src) ds) (sym (at_source g src v (place-within h v p)))
         ∙ subject-marked g src w n ds h o v r e
@@ -73,7 +73,7 @@ module _ (g : Signs) (src w : List ℕ) (n : ℕ) (ds : List Decl) (cs : List De
     below : leb (undefined_mark (length src)) v ≡ false
     below = lt-leb (undefined_mark (length src)) v (below-undefined (length src) v (place-within h v p))
 
-    of-named : char_shaped m ≡ false → first (item (named m)) ds ≡ At v → Names g src w cs v (named m)
+    of-named : char_shaped m ≡ false → first (item (named m)) ds ≡ Some v → Names g src w cs v (named m)
     unfolding is_symbol
     of-named t f =
         by (eqb (cell w v chars_number) 0)
@@ -90,9 +90,9 @@ module _ (g : Signs) (src w : List ℕ) (n : ℕ) (ds : List Decl) (cs : List De
     unfolding subject_of
     of-name =
         by (char_shaped m)
-        (λ t. let f : first (item (character (code_of m))) ds ≡ At v = rw t at there in
+        (λ t. let f : first (item (character (code_of m))) ds ≡ Some v = rw t at there in
         rw t (single below (place-within h v p) t (known-character w (code_of m) v ds cs s f)))
-        (λ t. let f : first (item (named m)) ds ≡ At v = rw t at there in rw t (of-named t f))
+        (λ t. let f : first (item (named m)) ds ≡ Some v = rw t at there in rw t (of-named t f))
 
   pub mark-names : Names g src w cs v (subject_at g src v)
   mark-names =

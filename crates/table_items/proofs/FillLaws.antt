@@ -220,9 +220,9 @@ first-mark w v left [] k c l = absurd (omega (arith, c))
 first-mark w v left (u ∷ us) (goes r n) c l = record { rest = us; is = refl; row = r; linked = n }
 
 module _ {g : Signs} {src w : List ℕ} {levels : ℕ} {area₀ : List ℕ} {slots from base v₀ : ℕ} {area : List ℕ} {v left slot place next : ℕ}
-    (h : Writing g src w levels area₀ slots from base v₀ area v left slot place next) (l : 0 < left) where
+    (h : Writing g src w levels area₀ slots from base v₀ area v left slot place next) {more : ℕ} (l : suc more ≡ left) where
   ahead : First w v h.marks
-  ahead = first-mark w v left h.marks h.linked h.count l
+  ahead = first-mark w v left h.marks h.linked h.count (omega arith)
 
   both : LineReady g src w levels v × All (LineReady g src w levels) ahead.rest
   both = subst (All (LineReady g src w levels)) ahead.is h.ready
@@ -289,7 +289,7 @@ module _ {g : Signs} {src w : List ℕ} {levels : ℕ} {area₀ : List ℕ} {slo
           ∙ length-sets area place cs
           ∙ h.long
 
-      with_item : Writing g src w levels area₀ slots from base v₀ after x (left - 1) (slot + levels) (place + 4) behind
+      with_item : Writing g src w levels area₀ slots from base v₀ after x more (slot + levels) (place + 4) behind
       unfolding item_of
       with_item = record {
         marks = ahead.rest;
@@ -318,7 +318,7 @@ module _ {g : Signs} {src w : List ℕ} {levels : ℕ} {area₀ : List ℕ} {slo
       }
 
       pub writing-item : {area' : List ℕ} {slot' place' next' : ℕ} → area' ≡ after → slot' ≡ slot + levels → place' ≡ place + 4 → next' ≡ behind
-          → Writing g src w levels area₀ slots from base v₀ area' x (left - 1) slot' place' next'
+          → Writing g src w levels area₀ slots from base v₀ area' x more slot' place' next'
       writing-item ea es ep en = rw (ea, es, ep, en) with_item
 
   -- it gives none
@@ -326,7 +326,7 @@ module _ {g : Signs} {src w : List ℕ} {levels : ℕ} {area₀ : List ℕ} {slo
     rest-items : (f : Subject → ℕ) → items_of g src w levels f h.marks ≡ items_of g src w levels f ahead.rest
     rest-items f = ap (items_of g src w levels f) ahead.is ∙ items-other g src w levels f v ahead.rest (sym j ∙ t)
 
-    without : Writing g src w levels area₀ slots from base v₀ area x (left - 1) slot place next
+    without : Writing g src w levels area₀ slots from base v₀ area x more slot place next
     without = record {
       marks = ahead.rest;
       linked = subst (λ (u : ℕ). Linked w u ahead.rest) (sym (d ∙ n)) ahead.linked;
@@ -343,7 +343,7 @@ module _ {g : Signs} {src w : List ℕ} {levels : ℕ} {area₀ : List ℕ} {slo
     }
 
     pub writing-other : {area' : List ℕ} {slot' place' next' : ℕ} → area' ≡ area → slot' ≡ slot → place' ≡ place → next' ≡ next
-        → Writing g src w levels area₀ slots from base v₀ area' x (left - 1) slot' place' next'
+        → Writing g src w levels area₀ slots from base v₀ area' x more slot' place' next'
     writing-other ea es ep en = rw (ea, es, ep, en) without
 
 -- no line is left

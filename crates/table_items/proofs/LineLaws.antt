@@ -4,7 +4,7 @@ use mathlib.Core.Bool.{Bool, true, false, not}
 use mathlib.Core.List.{List}
 use Prim.Native.Nat.{ℕ, ◌≤◌, ◌<◌}
 use native.Mathlib.Omega.{arith}
-use lib.Dec.{eqb}
+use lib.Dec.{eqb, leb}
 use borrow.Author.Tests.{le-leb, lt-leb, ne_eqb, eq-eqb, eqb-false, not-true}
 use Rattle.work_rows.specs.Cells.{cell}
 use Rattle.work_order.specs.Links.{chars_number}
@@ -13,18 +13,14 @@ use Rattle.table_records.specs.Writing.{HasChars}
 use Rattle.table_items.specs.Items.{is_item}
 
 module _ (len : ℕ) (w : List ℕ) (mark : ℕ) where
-  pub item-undefined : {m : ℕ} → m ≡ undefined_mark len → m ≤ mark → true ≡ is_item len w mark
+  pub item-undefined : {m : ℕ} → m ≡ undefined_mark len → m ≤ mark → leb m mark ≡ is_item len w mark
   unfolding is_item
-  item-undefined u h = sym (rw (le-leb (undefined_mark len) mark (rw u at h)))
+  item-undefined {m} u h = le-leb m mark h ∙ sym (rw (le-leb (undefined_mark len) mark (rw u at h)))
 
   module _ {m : ℕ} (u : m ≡ undefined_mark len) (h : mark < m) {x : ℕ} (i : x ≡ cell w mark chars_number) where
-    pub item-told : (x ≡ 0 → ⊥) → true ≡ is_item len w mark
+    pub item-told : not (eqb x 0) ≡ is_item len w mark
     unfolding is_item
-    item-told n = sym (rw (lt-leb (undefined_mark len) mark (rw u at h), ne_eqb (cell w mark chars_number) 0 (λ z. n (i ∙ z))))
-
-    pub item-symbol : x ≡ 0 → false ≡ is_item len w mark
-    unfolding is_item
-    item-symbol z = sym (rw (lt-leb (undefined_mark len) mark (rw u at h), eq-eqb (cell w mark chars_number) 0 (sym i ∙ z)))
+    item-told = sym (rw (lt-leb (undefined_mark len) mark (rw u at h), ← i))
 
 some-told : (x : ℕ) → not (eqb x 0) ≡ true → 1 ≤ x
 some-told x t = let z = eqb-false x 0 (not-true (eqb x 0) t) in omega (arith, z)

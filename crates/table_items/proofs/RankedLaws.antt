@@ -1,4 +1,5 @@
 -- The work area once every order line has its rank: it holds what it held, and the ranks in it are those of the paper.
+use Rattle.std.specs.Prelude.{None, Option, Some, ℕ}
 use mathlib.Core.Path.{◌≡◌, refl, sym, ap, ◌∙◌}
 use mathlib.Core.Bool.{true, not-not}
 use mathlib.Core.List.{List, [], ◌∷◌}
@@ -18,8 +19,6 @@ use Rattle.text_tokens.specs.Left.{tokens_left}
 use Rattle.work_rows.specs.Cells.{cell_at, cell}
 use Rattle.work_subjects.specs.Keys.{item, key_at}
 use Rattle.work_store.specs.Store.{Decl, first, Roomy, Holds, undefined_mark}
-use Rattle.work_store.specs.declared.Found.{Found}
-use Rattle.work_store.specs.declared.Found.TheVariants.{At, Nothing}
 use Rattle.work_order.specs.declared.Order.{Order}
 use Rattle.work_order.specs.Links.{line_number, place_number, rank_number, Lines, ranked}
 use Rattle.work_order.proofs.ListLaws.{all_map, lines_other}
@@ -50,10 +49,10 @@ lines-given w k (u ∷ us) o vs l =
 
 -- ## Ranks
 
-rank-found : (w : List ℕ) (f : Found) → rank_found w f ≡ rank_at w f
+rank-found : (w : List ℕ) (f : Option ℕ) → rank_found w f ≡ rank_at w f
 unfolding rank_found
-rank-found w (At v) = refl
-rank-found w Nothing = refl
+rank-found w (Some v) = refl
+rank-found w None = refl
 
 module _ (g : Signs) (src w : List ℕ) (o : Order) (rs : List Rule) (n : ℕ) (cs : List Declaration) (ls : List OrderLine) (k : Known g src w o rs n cs ls) where
   -- a mark in the list
@@ -88,12 +87,12 @@ module _ (g : Signs) (src w : List ℕ) (o : Order) (rs : List Rule) (n : ℕ) (
   -- that of a line's own subject
   pub rank-own : (v : ℕ) → IsMark v → cell given v rank_number ≡ rank_of ls (subject_at g src v)
   rank-own v a =
-      rank-given g src w o rs n cs ls k (subject_at g src v) (At v) (subject-marked g src w n k.ds k.holds k.holds.once v a.row a.even)
+      rank-given g src w o rs n cs ls k (subject_at g src v) (Some v) (subject-marked g src w n k.ds k.holds k.holds.once v a.row a.even)
 
   -- UNDEFINED has one where it has a line
   pub rank-undefined : eqb (rank_of ls undefined) 0 ≡ eqb (cell given (undefined_mark (length src)) place_number) 0
   rank-undefined =
-      rank-none g src w o rs n cs ls k undefined (At (undefined_mark (length src))) (mark-undefined (length src) k.ds)
+      rank-none g src w o rs n cs ls k undefined (Some (undefined_mark (length src))) (mark-undefined (length src) k.ds)
       ∙ not-not (eqb (cell w (undefined_mark (length src)) place_number) 0)
       ∙ ap (λ (x : ℕ). eqb x 0) (sym (ranked-other w 1 k.marks (undefined_mark (length src)) place_number (omega arith)))
 

@@ -3,7 +3,7 @@ use Rattle.std.specs.Prelude.{if◌then◌else◌}
 use mathlib.Core.Path.{◌≡◌, refl, sym, ap, ◌∙◌, subst}
 use mathlib.Core.Bool.{Bool, true, false, ◌&&◌, and_assoc}
 use mathlib.Core.List.{List, [], ◌∷◌}
-use Prim.Native.Nat.{ℕ, ◌+◌, ◌-◌, ◌*◌, ◌/◌, ◌≤◌, ◌<◌}
+use Prim.Native.Nat.{ℕ, suc, ◌+◌, ◌*◌, ◌/◌, ◌≤◌, ◌<◌}
 use native.Mathlib.Omega.{arith}
 use lib.ListN.{length}
 use Rattle.base_lists.proofs.Lists.{All, length-zero}
@@ -112,7 +112,7 @@ first-left g src w levels v [] k a h = absurd (omega (arith, h))
 first-left g src w levels v (u ∷ us) (goes x n) a h = record { rest = us; is = refl; row = x; linked = n; line = a.0; ready = a.1 }
 
 module _ (g : Signs) (src w : List ℕ) (levels first count v left items weights : ℕ) (whole : Bool) (line : ℕ)
-    (s : Summing g src w levels first count v left items weights whole line) (l : 0 < left) where
+    (s : Summing g src w levels first count v left items weights whole line) {after : ℕ} (l : suc after ≡ left) where
   here : FirstLeft g src w levels v s.marks
   here = first-left g src w levels v s.marks s.linked s.ready (omega (arith, s.many))
 
@@ -156,13 +156,13 @@ module _ (g : Signs) (src w : List ℕ) (levels first count v left items weights
           ∙ ap (λ (z : Bool). if z then r else lower (cell w v line_number) r) (weighed-is n ds h))
           ∙ least_more m.ranked line (cell w v line_number) r ∙ ap (λ (z : ℕ). lower z r) (sym u)
 
-      many-left : left - 1 ≡ length here.rest
+      many-left : after ≡ length here.rest
       many-left = omega (arith, s.many, ap length here.is)
 
       linked-left : Linked w y here.rest
       linked-left = subst (λ (z : ℕ). Linked w z here.rest) (sym (p ∙ q)) here.linked
 
-      pub summing-item : {k' c : ℕ} → t ≡ true → k' ≡ items + 1 → c ≡ weights + m.weights → Summing g src w levels first count y (left - 1) k' c b a
+      pub summing-item : {k' c : ℕ} → t ≡ true → k' ≡ items + 1 → c ≡ weights + m.weights → Summing g src w levels first count y after k' c b a
       summing-item o e f =
           let z : is_item (length src) w v ≡ true = sym j ∙ o in
           record {
@@ -194,7 +194,7 @@ module _ (g : Signs) (src w : List ℕ) (levels first count v left items weights
             few-weights = omega (arith, e, f, s.few-weights, k.few);
           }
 
-      pub summing-other : {k' c : ℕ} → t ≡ false → k' ≡ items → c ≡ weights → Summing g src w levels first count y (left - 1) k' c b a
+      pub summing-other : {k' c : ℕ} → t ≡ false → k' ≡ items → c ≡ weights → Summing g src w levels first count y after k' c b a
       summing-other o e f =
           let z : is_item (length src) w v ≡ false = sym j ∙ o in
           record {

@@ -1,6 +1,6 @@
 -- The items that the order lines give, by the marks of the lines (Rattle.work_order.specs.Links): which lines give one, and whether each of their
 -- weights has a rank.
-use Rattle.std.specs.Prelude.{◌≡◌, Bool, true, false, not, ◌||◌, List, [], ◌∷◌, ℕ, ◌*◌, ◌≤◌, length, eqb, leb, if◌then◌else◌}
+use Rattle.std.specs.Prelude.{◌≡◌, Bool, true, false, not, ◌||◌, List, [], ◌∷◌, ℕ, ◌*◌, ◌≤◌, length, eqb, leb, if◌then◌else◌, Err, Ok, Result}
 use Rattle.base_lists.proofs.Lists.{All}
 use Rattle.rules.specs.Text.{every, lower}
 use Rattle.rules.specs.Meaning.{Item, item, weight_count}
@@ -14,8 +14,6 @@ use Rattle.work_order.specs.Links.{chars_number, line_number, Lines}
 use Rattle.table_weights.specs.Ranks.{rank_in}
 use Rattle.table_weights.specs.Reading.{item_ranks, RowReady}
 use Rattle.table_records.specs.Writing.{item_chars, CharsReady}
-use Rattle.table_items.specs.declared.Sums.{Sums}
-use Rattle.table_items.specs.declared.Sums.TheVariants as sums
 
 -- ## Items, f giving the rank of a subject
 
@@ -79,6 +77,6 @@ pub record UnrankedAt (g : Signs) (src w : List ℕ) (o : Order) (levels line : 
   pub line-is : (vs : List ℕ) → Lines w o vs → (n : ℕ) (ds : List Decl) → Holds (key_at g src) (length src) w n ds
       → line ≡ unweighed g src w levels (rank_in w ds) vs
 
-abbrev pub SumsAre : Signs → List ℕ → List ℕ → Order → ℕ → Sums → Type 0
-SumsAre g src w o levels (sums.Whole items weights) = WholeSums g src w o levels items weights
-SumsAre g src w o levels (sums.Unranked line) = UnrankedAt g src w o levels line
+abbrev pub SumsAre : Signs → List ℕ → List ℕ → Order → ℕ → Result (ℕ × ℕ) ℕ → Type 0
+SumsAre g src w o levels (Ok (items, weights)) = WholeSums g src w o levels items weights
+SumsAre g src w o levels (Err line) = UnrankedAt g src w o levels line

@@ -3,8 +3,8 @@ use mathlib.Core.Path.{◌≡◌, refl, sym, ap, ◌∙◌}
 use mathlib.Core.List.{List}
 use Prim.Native.Nat.{ℕ, suc, pred, ◌+◌, ◌-◌, ◌*◌, ◌/◌, ◌%◌, ◌≤◌, ◌<◌}
 use native.Mathlib.Omega.{arith}
-use lib.ListN.{get_or, drop}
-use lib.Seq.{get_or-drop}
+use lib.ListN.{get_or, take, drop}
+use lib.Seq.{get_or-take, get_or-drop}
 use lib.Dec.{eqb}
 use lib.Bits.{bit_and, and_le_r}
 use borrow.Author.Tests.{lt-ltb, le-ltb, eq-eqb, ne_eqb}
@@ -12,7 +12,7 @@ use native.Mathlib.Numerals.{sub-one}
 use Rattle.base_lists.proofs.Bools.{cond_both}
 use Rattle.rules.specs.Table.{pad, doubled, mask}
 use Rattle.rules.proofs.BucketLaws.{mask-few}
-use Rattle.table_layout.specs.Starts.{bucket_for, bucket_from, start_at}
+use Rattle.table_layout.specs.Starts.{bucket_for, four_from, bucket_from, start_at}
 use Rattle.table_layout.proofs.StartLaws.{start-even, start-odd}
 
 -- ## mask_for
@@ -27,17 +27,18 @@ unfolding doubled
 grown-none items = record { is = refl; few = omega arith; some = omega arith }
 
 module _ {items p k : ℕ} (v : Grown items p k) where
-  pub grown-double : k < 15 → p < items → Grown items (2 * p) (k + 1)
-  unfolding doubled
-  grown-double h l =
-      let e : k + 1 ≡ suc k = omega arith in
-      record { is = rw (e, ← v.is, lt-ltb p items l); few = omega arith; some = omega (arith, v.some) }
+  module _ (h : k < 15) {q : ℕ} where
+    pub grown-double : p < items → q ≡ p * 2 → Grown items q (k + 1)
+    unfolding doubled
+    grown-double l t =
+        let e : k + 1 ≡ suc k = omega arith in
+        record { is = rw (e, ← v.is, lt-ltb p items l) (omega arith); few = omega arith; some = omega (arith, v.some) }
 
-  pub grown-same : k < 15 → items ≤ p → Grown items p (k + 1)
-  unfolding doubled
-  grown-same h l =
-      let e : k + 1 ≡ suc k = omega arith in
-      record { is = rw (e, ← v.is, le-ltb p items l); few = omega arith; some = v.some }
+    pub grown-same : items ≤ p → q ≡ p → Grown items q (k + 1)
+    unfolding doubled
+    grown-same l t =
+        let e : k + 1 ≡ suc k = omega arith in
+        record { is = rw (e, ← v.is, le-ltb p items l) t; few = omega arith; some = omega (arith, v.some) }
 
   pub grown-all : 15 ≤ k → p - 1 ≡ mask items
   unfolding mask
@@ -67,13 +68,18 @@ for-few n c h =
 
 -- ## bucket_at
 
-module _ (t : List ℕ) (chars n p : ℕ) {r : ℕ} (e : r ≡ bucket_for n (get_or t (chars + 4 * (p - 1)) 0)) where
+module _ (t : List ℕ) (chars n p : ℕ) {r : ℕ} {four : List ℕ} (is : four ≡ take 4 (drop (four_from chars p) t)) (e : r ≡ bucket_for n (get_or four 0 0)) where
+  first : get_or four 0 0 ≡ get_or t (four_from chars p) 0
+  first =
+      let z : four_from chars p + 0 ≡ four_from chars p = omega arith in
+      rw (is, get_or-take 4 (drop (four_from chars p) t) 0 0 (omega arith), get_or-drop (four_from chars p) t 0 0, z)
+
   pub from_is : r ≡ bucket_from t chars n p
   unfolding bucket_from
-  from_is = e ∙ ap (λ (k : ℕ). bucket_for n (get_or t (chars + 4 * k) 0)) (sub-one p)
+  from_is = e ∙ ap (bucket_for n) first
 
   pub from-few : 1 ≤ p → p ≤ n → r < 2 * n
-  from-few o u = omega (arith, e, for-few n (get_or t (chars + 4 * (p - 1)) 0) (omega arith))
+  from-few o u = omega (arith, e, for-few n (get_or four 0 0) (omega arith))
 
 -- ## start_of
 

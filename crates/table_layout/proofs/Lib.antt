@@ -5,3 +5,4 @@ pub mod KeyedLaws
 pub mod BucketLaws
 pub mod PartLaws
 pub mod IndexLaws
+pub mod CmpLaws

@@ -2,12 +2,13 @@
 use mathlib.Core.Path.{◌≡◌, refl, sym, ap, ◌∙◌}
 use mathlib.Core.Bool.{Bool, true, false}
 use mathlib.Core.List.{List, [], ◌∷◌, ◌++◌, map, flatten, append_assoc}
-use Prim.Native.Nat.{ℕ, zero, suc, pred, ◌+◌, ◌-◌, ◌*◌, ◌≤◌, ◌<◌}
+use Prim.Native.Nat.{ℕ, zero, suc, pred, ◌+◌, ◌-◌, ◌*◌, ◌%◌, ◌≤◌, ◌<◌}
 use native.Mathlib.Numerals.{sub-one}
 use native.Mathlib.Nat.{min-le_right, suc-mul, zero-mul, mul-le-mul_right}
 use native.Mathlib.Omega.{arith}
 use lib.ListN.{length, get_or, take, drop, length-map, length-take, length-drop, get_or-append}
 use lib.Seq.{drop-drop, drop_at, take-append_seam, drop-append-add, get_or-drop, get_or-append-add}
+use lib.Dec.{eqb, leb}
 use Rattle.rules.specs.Meaning.{Rule, Item, Meaning, good_item, weight_count, size_of, good}
 use Rattle.rules.specs.Table.{counts, sums, weight_lists, ends, char_numbers, mask, listing, starts, rule_number, rule_of_number, weight_numbers, stored_form, meaning_in, accepted}
 use Rattle.rules.specs.Order.{weights_at, no_item}
@@ -20,7 +21,7 @@ use Rattle.rules.proofs.StorableLaws.{AllStored, meaning-stored, rule-back, rule
 use Rattle.rules.proofs.SizeLaws.{lists_length, ends-length, stored-size}
 use Rattle.rules.proofs.TableLaws.{accepted-stored, lists-flat, parts-drop}
 use Rattle.table_layout.specs.declared.Shape.{Shape}
-use Rattle.table_layout.specs.Parts.{ends_at, rules_part, weights_part, rule_at, Within, Before, Shaped, Holds, Many}
+use Rattle.table_layout.specs.Parts.{ends_at, rules_part, weights_part, rule_as, rule_at, Within, Before, Shaped, Holds, Many}
 use Rattle.table_layout.proofs.LayoutLaws.{ends_at-is, ends_at-bound, ends_at-least, weights_part-bound}
 
 -- ## Running sums
@@ -187,19 +188,16 @@ module _ (t : List ℕ) (h : accepted t ≡ true) where
 
 -- ## A rule by its number
 
--- the number of each rule is its own
-pub rule-unique : (r s : Rule) → rule_number r ≡ rule_number s → r ≡ s
-unfolding rule_number rule_of_number
-rule-unique r s e =
-    sym (rule-back r.backward r.position) ∙ ap rule_of_number e ∙ rule-back s.backward s.position
-
--- a rule's number is below 4
-pub rule-small : (b p : Bool) → rule_number (record { backward = b; position = p }) < 4
+-- the number says which way, and whether positions count
+told : (b p : Bool) → rule_as (record { backward = eqb (rule_number (record { backward = b; position = p }) % 2) 1; position = leb 2 (rule_number (record { backward = b; position = p })) }) ≡ record { backward = b; position = p }
 unfolding rule_number
-rule-small true true = omega arith
-rule-small true false = omega arith
-rule-small false true = omega arith
-rule-small false false = omega arith
+told true true = refl
+told true false = refl
+told false true = refl
+told false false = refl
+
+pub rule-told : {n : ℕ} (r : Rule) → n ≡ rule_number r → rule_as (record { backward = eqb (n % 2) 1; position = leb 2 n }) ≡ r
+rule-told r e = rw e (told r.backward r.position)
 
 -- ## Where an item's weights at a level are found
 

@@ -1,10 +1,10 @@
 // The layout of a table (docs/TABLE.md): where each part stands, and the readers of an accepted table. Offsets and strides are known here alone.
 #![tactic(auto)]
 
-ghost use Rattle.std.specs.Prelude.{◌≡◌, true, [], ◌∷◌, ◌+◌, ◌*◌, ◌/◌, ◌≤◌, ◌<◌, length, get_or, drop};
+ghost use Rattle.std.specs.Prelude.{◌≡◌, true, [], ◌∷◌, ◌+◌, ◌*◌, ◌/◌, ◌≤◌, ◌<◌, length, get_or, take, drop};
 ghost use Rattle.rules.specs.Table.{mask, bucket, accepted, meaning_in};
 ghost use Rattle.rules.specs.Order.{weights_at};
-ghost use Rattle.table_layout.specs.Starts.{bucket_for, bucket_from, Place, start_at};
+ghost use Rattle.table_layout.specs.Starts.{bucket_for, four_from, bucket_from, Place, start_at};
 ghost use Rattle.table_layout.specs.Parts.{ends_at, rules_part, weights_part, Before, rule_as, rule_at, Within, Holds, Many, Shaped};
 ghost use Rattle.table_layout.specs.Parts.{chars_part, start_for, Indexed, Lists};
 
@@ -62,14 +62,10 @@ pub fn mask_for(items: u32) -> u32
     requires { items ≤ 32768 }
     ensures { result ≡ mask items }
 {
-    let mut p: u32 = 1;
-    let mut k: usize = 0;
-    while k < 15 {
+    let mut p = 1;
+    for _ in 0..15u32 {
         if p < items {
-            p = 2 * p;
-            k += 1;
-        } else {
-            k += 1;
+            p *= 2;
         }
     }
     p - 1
@@ -81,9 +77,19 @@ fn bucket_of(items: u32, buckets: u32, c: u32) -> u32
     ensures { result ≡ bucket_for items c }
 {
     if c == 0x110000 {
-        return 2 * items - 1;
+        2 * items - 1
+    } else {
+        c & buckets
     }
-    c & buckets
+}
+
+// The four numbers of the item at a place, from 1, where those of the first stand at `chars`.
+pub fn four_numbers(t: &[u32], chars: usize, place: usize) -> &[u32]
+    requires { (1 ≤ place) × (chars + 4 * place ≤ length t.now) }
+    ensures { result.now ≡ take 4 (drop (four_from chars place) t.now) }
+{
+    let from = chars + 4 * (place - 1);
+    &t[from..from + 4]
 }
 
 // The bucket of the item at a place, where the characters of the first stand at `chars`.
@@ -91,8 +97,7 @@ pub fn bucket_at(t: &[u32], chars: usize, items: u32, buckets: u32, p: u32) -> u
     requires { Place t.now chars items buckets p }
     ensures { (result ≡ bucket_from t.now chars items p) × (result < 2 * items) }
 {
-    let at = chars + 4 * (p as usize - 1);
-    bucket_of(items, buckets, t[at])
+    bucket_of(items, buckets, four_numbers(t, chars, p as usize)[0])
 }
 
 // The start of a bucket, where the starts stand from a place on; two stand in each number.
@@ -101,10 +106,7 @@ pub fn start_of(t: &[u32], from: usize, b: usize) -> u32
     ensures { result ≡ start_at (drop from t.now) b }
 {
     let n = t[from + b / 2];
-    if b % 2 == 0 {
-        return n % 65536;
-    }
-    n / 65536
+    if b % 2 == 0 { n % 65536 } else { n / 65536 }
 }
 
 // How many levels an accepted table has.
@@ -133,27 +135,9 @@ pub fn rule_of(t: &[u32], level: usize) -> Rule
     let m = items(t);
     let at = rules_part(l, m);
     let n = t[at + level];
-    if n == 0 {
-        return Rule {
-            backward: false,
-            position: false,
-        };
-    }
-    if n == 1 {
-        return Rule {
-            backward: true,
-            position: false,
-        };
-    }
-    if n == 2 {
-        return Rule {
-            backward: false,
-            position: true,
-        };
-    }
     Rule {
-        backward: true,
-        position: true,
+        backward: n % 2 == 1,
+        position: 2 <= n,
     }
 }
 
@@ -266,7 +250,7 @@ pub fn item_at(t: &[u32], chars: usize, items: usize, k: usize) -> Listed
 {
     let place = t[chars + 4 * items + k] as usize;
     Listed {
-        place: place,
+        place,
         from: chars + 4 * (place - 1),
     }
 }

@@ -1,4 +1,5 @@
 -- The characters of an item, and the whole item.
+use Rattle.std.specs.Prelude.{None, Option, Some}
 use mathlib.Core.Path.{◌≡◌, refl, sym, ap, ◌∙◌, subst}
 use mathlib.Core.List.{List, [], ◌∷◌, flatten}
 use Prim.Native.Nat.{ℕ, suc, ◌+◌, ◌-◌, ◌*◌, ◌/◌, ◌%◌, ◌≤◌, ◌<◌}
@@ -14,8 +15,6 @@ use Rattle.text_lines.specs.declared.Spot.{Spot}
 use Rattle.work_rows.specs.Cells.{cell}
 use Rattle.work_order.specs.Links.{chars_number, place_number, rank_number}
 use Rattle.base_units.specs.declared.CodePoint.{CodePoint}
-use Rattle.work_subjects.specs.declared.NextChar.{NextChar}
-use Rattle.work_subjects.specs.declared.NextChar.TheVariants.{Char, End}
 use Rattle.work_subjects.specs.Keys.{quote_spot, chars_left, key_at, CharNext, NextIs}
 use Rattle.work_store.specs.Store.{undefined_mark, Sound}
 use Rattle.table_weights.specs.Ranks.{rank_in}
@@ -25,13 +24,13 @@ use Rattle.table_records.specs.Writing.{CodeIs, item_chars, CharsReady, HasChars
 
 -- ## Four characters
 
-module _ (g : Signs) (src : List ℕ) (p : Spot) {s : NextChar} (v : NextIs g src p s) where
-  pub code-next : {c : CodePoint} {q : Spot} → s ≡ Char c q → CodeIs g src p (record { code = c; next = q })
+module _ (g : Signs) (src : List ℕ) (p : Spot) {s : Option (CodePoint × Spot)} (v : NextIs g src p s) where
+  pub code-next : {c : CodePoint} {q : Spot} → s ≡ Some (c, q) → CodeIs g src p (record { code = c; next = q })
   code-next {c} {q} e =
       let x : CharNext g src p c.0 q = subst (NextIs g src p) e v in
       record { code = sym (rw x.chars); rest = sym (rw x.chars); mode = x.mode; to = x.to }
 
-  pub code-end : p.at ≤ length src → p.mode ≡ quoted → s ≡ End → CodeIs g src p (record { code = record { 0 = 0x110000 }; next = p })
+  pub code-end : p.at ≤ length src → p.mode ≡ quoted → s ≡ None → CodeIs g src p (record { code = record { 0 = 0x110000 }; next = p })
   code-end h m e =
       let x : chars_left g src p ≡ [] = subst (NextIs g src p) e v in
       record { code = sym (rw x); rest = rw x; mode = m; to = h }

@@ -6,6 +6,7 @@ use native.Mathlib.Numerals.{add-one}
 use native.Mathlib.Omega.{arith}
 use lib.ListN.{length, set, length-set, length-map}
 use lib.Seq.{sets, length-sets}
+use Rattle.std.proofs.Common.{Fits, w32}
 use Rattle.base_lists.proofs.Lists.{sets-append, sets-swap}
 use Rattle.rules.specs.State.{Subject}
 use Rattle.rules.proofs.SizeLaws.{counts-length}
@@ -38,7 +39,7 @@ module _ (g : Signs) (src : List ℕ) {w : List ℕ} (own : ℕ) (x : Part) {are
     pub level-from : place ≤ at → place ≤ next
     level-from h = omega (arith, level-to)
 
-    pub level-small : {base : ℕ} → at + part_size g src x < base + 4294967296 → base ≤ place → next - place < 4294967296
+    pub level-small : {base : ℕ} → at + part_size g src x < base + 4294967296 → base ≤ place → Fits w32 (next - place)
     level-small h b = omega (arith, level-to)
 
   pub level-long : length after ≡ length area
@@ -129,13 +130,13 @@ module _ (g : Signs) (src w : List ℕ) (place levels own : ℕ) (area : List �
 
 module _ {g : Signs} {src w : List ℕ} {place levels own : ℕ} {area : List ℕ} {slots base at : ℕ} {now : List ℕ} {c : Cursor} {left slot next : ℕ}
     (v : Filling g src w place levels own area slots base at now c left slot next) where
-  module _ {t : Turn} (k : TurnIs g src c t) (l : 0 < left) where
+  module _ {t : Turn} (k : TurnIs g src c t) {rest : ℕ} (l : suc rest ≡ left) where
     level : (f : Subject → ℕ) → level_ranks f own left (weights_left g src c)
-        ≡ part_ranks g src own t.part f ∷ level_ranks f own (left - 1) (weights_left g src t.next)
-    level f = let e : left ≡ suc (left - 1) = omega arith in ap (λ (n : ℕ). level_ranks f own n (weights_left g src c)) e ∙ k.ranks f own (left - 1)
+        ≡ part_ranks g src own t.part f ∷ level_ranks f own rest (weights_left g src t.next)
+    level f = ap (λ (n : ℕ). level_ranks f own n (weights_left g src c)) (sym l) ∙ k.ranks f own rest
 
     count : (f : Subject → ℕ) → count_all (level_ranks f own left (weights_left g src c))
-        ≡ part_size g src t.part + count_all (level_ranks f own (left - 1) (weights_left g src t.next))
+        ≡ part_size g src t.part + count_all (level_ranks f own rest (weights_left g src t.next))
     unfolding count_all
     count f = ap count_all (level f) ∙ rw (part_ranks-length g src own t.part f)
 
@@ -154,14 +155,14 @@ module _ {g : Signs} {src w : List ℕ} {place levels own : ℕ} {area : List �
           let r : List ℕ = part_ranks g src own t.part (rank_in w s.ds) in
           ap length (i.is s.n s.ds s.holds) ∙ length-set (sets now next r) slot (next + length r - base) ∙ length-sets now next r
 
-      pub filling-more : Filling g src w place levels own area slots base at after t.next (left - 1) (slot + 1) behind
+      pub filling-more : Filling g src w place levels own area slots base at after t.next rest (slot + 1) behind
       filling-more = record {
         same = λ n ds o.
             let f : Subject → ℕ = rank_in w ds in
             let r : List ℕ = part_ranks g src own t.part f in
-            let rs : List (List ℕ) = level_ranks f own (left - 1) (weights_left g src t.next) in
+            let rs : List (List ℕ) = level_ranks f own rest (weights_left g src t.next) in
             let z : behind ≡ next + length r = i.to ∙ ap (λ (m : ℕ). next + m) (sym (part_ranks-length g src own t.part f)) in
-            let b : slot + suc (length rs) ≤ base = omega (arith, v.below, level_ranks-length f own (left - 1) (weights_left g src t.next)) in
+            let b : slot + suc (length rs) ≤ base = omega (arith, v.below, level_ranks-length f own rest (weights_left g src t.next)) in
             let now' : List ℕ = set (sets now next r) slot (next + length r - base) in
             ap (λ (a : List ℕ). sets (sets a (slot + 1) (sums (behind - base) (counts rs))) behind (flatten rs)) (i.is n ds o)
             ∙ ap (λ (m : ℕ). sets (sets now' (slot + 1) (sums (m - base) (counts rs))) m (flatten rs)) z

@@ -1,4 +1,5 @@
 -- The weights of one operand, written.
+use Rattle.std.specs.Prelude.{None, Option, Some}
 use mathlib.Core.Path.{◌≡◌, refl, ap, ◌∙◌, subst}
 use mathlib.Core.List.{List, [], ◌∷◌}
 use Prim.Native.Nat.{ℕ, ◌+◌, ◌≤◌, ◌<◌}
@@ -14,8 +15,6 @@ use Rattle.text_tokens.specs.Left.{names_in}
 use Rattle.base_units.specs.declared.Rank.{Rank}
 use Rattle.work_subjects.specs.Keys.{key_at, subject_left}
 use Rattle.work_store.specs.Store.{Decl, Holds}
-use Rattle.table_weights.specs.declared.NextRank.{NextRank}
-use Rattle.table_weights.specs.declared.NextRank.TheVariants.{One, End}
 use Rattle.table_weights.specs.declared.Part.{Part}
 use Rattle.table_weights.specs.declared.Part.TheVariants as part
 use Rattle.table_weights.specs.Ranks.{rank_in, RankIs}
@@ -45,9 +44,9 @@ quoting-none g src w p area at h r = record {
   to = h.to;
 }
 
-module _ (g : Signs) (src : List ℕ) {w : List ℕ} {p : Spot} {area : List ℕ} {at : ℕ} {now : List ℕ} {q : Spot} {next : ℕ} {s : NextRank}
+module _ (g : Signs) (src : List ℕ) {w : List ℕ} {p : Spot} {area : List ℕ} {at : ℕ} {now : List ℕ} {q : Spot} {next : ℕ} {s : Option (Rank × Spot)}
     (v : Quoting g src w p area at now q next) (k : NextIs g src w q s) where
-  module _ {r : Rank} {e : Spot} (f : s ≡ One r e) where
+  module _ {r : Rank} {e : Spot} (f : s ≡ Some (r, e)) where
     ahead : RankNext g src w q r.0 e
     ahead = subst (NextIs g src w q) f k
 
@@ -69,7 +68,7 @@ module _ (g : Signs) (src : List ℕ) {w : List ℕ} {p : Spot} {area : List ℕ
       to = ahead.to;
     }
 
-  pub quoting-all : s ≡ End → RanksPut g src w (quote_ranks g src p) area at now next
+  pub quoting-all : s ≡ None → RanksPut g src w (quote_ranks g src p) area at now next
   quoting-all f =
       let z : names_in (marks_left g src q) ≡ [] = subst (NextIs g src w q) f k in
       record { puts = λ n ds o. putting-all (v.putting n ds o) (quote_ranks-none g src q (rank_in w ds) z) }

@@ -10,15 +10,15 @@ ghost use Rattle.work_store.specs.Store.{Sound};
 ghost use Rattle.table_weights.specs.Reading.{quote_ranks, InQuotes, part_ranks, PartFits, Readable, RowReady};
 ghost use Rattle.table_records.specs.Writing.{Puts, RanksPut, quote_size, part_size, LevelPut, LineRoom, LinePut, CodeIs, item_chars, CharsReady, HasChars, ItemRoom, ItemPut};
 
-use base_units::{CodePoint, Rank, narrow, wide};
-use table_weights::{NextRank, Part, first_part, next_part, next_rank, rank_at};
+use base_units::{CodePoint, Rank};
+use table_weights::{Part, first_part, next_part, next_rank, rank_at};
 use text_lines::{QUOTED, Signs, Spot};
 use work_order::{CHARS_NUMBER, PLACE_NUMBER, RANK_NUMBER};
 use work_rows::told;
 use work_store::undefined_mark;
-use work_subjects::{NextChar, next_char};
+use work_subjects::next_char;
 
-// The next of an item's characters, 110000 hex where none is left, and the spot after it.
+// The next of an item's characters, 110000 hex where none is left, since that number stands in the table then, and the spot after it.
 #[derive(Clone, Copy)]
 struct Coded {
     code: CodePoint,
@@ -43,16 +43,11 @@ fn write_quotes(src: &[u8], g: Signs, work: &[u32], p: Spot, area: &mut [u32], a
 {
     let mut q = p;
     let mut next = at;
-    loop {
-        let s = next_rank(src, g, work, q);
-        match s {
-            NextRank::One(r, e) => {
-                next = put_rank(area, next, r);
-                q = e;
-            }
-            NextRank::End => return next,
-        }
+    while let Some((r, e)) = next_rank(src, g, work, q) {
+        next = put_rank(area, next, r);
+        q = e;
     }
+    next
 }
 
 // The weights of one operand; the place behind them.
@@ -71,13 +66,13 @@ fn write_part(
     ensures { RanksPut g src.now work.now (part_ranks g src.now own.0 part) area.old at area.new result }
 {
     match part {
-        Part::Own => return put_rank(area, at, own),
-        Part::None => return at,
+        Part::Own => put_rank(area, at, own),
+        Part::None => at,
         Part::One(p) => {
             let r = rank_at(src, g, work, p);
-            return put_rank(area, at, r);
+            put_rank(area, at, r)
         }
-        Part::Quotes(p) => return write_quotes(src, g, work, p, area, at),
+        Part::Quotes(p) => write_quotes(src, g, work, p, area, at),
     }
 }
 
@@ -100,7 +95,7 @@ fn write_level(
     ensures { LevelPut g src.now work.now own.0 part area.old slot base at area.new result }
 {
     let end = write_part(src, g, work, part, own, area, at);
-    area[slot] = narrow(end - base);
+    area[slot] = (end - base) as u32;
     end
 }
 
@@ -124,17 +119,11 @@ fn write_line(
     ensures { LinePut g src.now work.now place levels own.0 area.old slots base at area.new result }
 {
     let mut c = first_part(src, g, place);
-    let mut left = levels;
-    let mut slot = slots;
     let mut next = at;
-    while 0 < left {
+    for slot in slots..slots + levels {
         let t = next_part(src, g, c);
-        let part = t.part;
-        let after = t.next;
-        next = write_level(src, g, work, part, own, area, slot, base, next);
-        slot += 1;
-        left -= 1;
-        c = after;
+        next = write_level(src, g, work, t.part, own, area, slot, base, next);
+        c = t.next;
     }
     next
 }
@@ -144,20 +133,16 @@ fn next_code(src: &[u8], g: Signs, p: Spot) -> Coded
     requires { (p.at ≤ length src.now) × (p.mode ≡ quoted) }
     ensures { CodeIs g src.now p result }
 {
-    let s = next_char(src, g, p);
-    match s {
-        NextChar::Char(c, q) => {
-            return Coded { code: c, next: q };
-        }
-        NextChar::End => {
-            return Coded {
-                code: CodePoint(0x110000),
-                next: p,
-            };
-        }
+    match next_char(src, g, p) {
+        Some((code, next)) => Coded { code, next },
+        None => Coded {
+            code: CodePoint(0x110000),
+            next: p,
+        },
     }
 }
 
+// Four writes, and no copy_from_slice: the codes are of a type of their own, and would be unwrapped into an array first.
 fn put_four(area: &mut [u32], at: usize, a: CodePoint, b: CodePoint, c: CodePoint, d: CodePoint)
     requires { at + 4 ≤ length area.old }
     ensures { area.new ≡ sets area.old at (a.0 ∷ b.0 ∷ c.0 ∷ d.0 ∷ []) }
@@ -210,7 +195,7 @@ fn write_chars(src: &[u8], g: Signs, work: &[u32], mark: usize, area: &mut [u32]
         return;
     }
     let p = Spot {
-        at: wide(x) / 2,
+        at: x as usize / 2,
         mode: QUOTED,
         fresh: false,
     };
@@ -236,7 +221,7 @@ pub fn write_item(
     requires item_room { ItemRoom g src.now work.now mark levels area.old slots from base at }
     ensures { ItemPut g src.now work.now mark levels area.old slots from base at area.new result }
 {
-    let place = wide(told(work, mark, PLACE_NUMBER));
+    let place = told(work, mark, PLACE_NUMBER) as usize;
     let own = Rank(told(work, mark, RANK_NUMBER));
     write_chars(src, g, work, mark, area, from);
     write_line(src, g, work, place, levels, own, area, slots, base, at)

@@ -86,24 +86,24 @@ module _ (g : Signs) (src w : List ℕ) (place levels own : ℕ) (h : Readable g
 
 module _ {g : Signs} {src w : List ℕ} {place levels own : ℕ} {c : Cursor} {left weights : ℕ} {ranked : Bool}
     (v : Measuring g src w place levels own c left weights ranked) where
-  module _ {t : Turn} {m : Measured} (k : TurnIs g src c t) (i : Measures (key_at g src) (length src) w (part_ranks g src own t.part) m) (l : 0 < left) where
+  module _ {t : Turn} {m : Measured} (k : TurnIs g src c t) (i : Measures (key_at g src) (length src) w (part_ranks g src own t.part) m) {next : ℕ} (l : suc next ≡ left) where
     level : (f : Subject → ℕ) → level_ranks f own left (weights_left g src c)
-        ≡ part_ranks g src own t.part f ∷ level_ranks f own (left - 1) (weights_left g src t.next)
-    level f = let e : left ≡ suc (left - 1) = omega arith in ap (λ (n : ℕ). level_ranks f own n (weights_left g src c)) e ∙ k.ranks f own (left - 1)
+        ≡ part_ranks g src own t.part f ∷ level_ranks f own next (weights_left g src t.next)
+    level f = ap (λ (n : ℕ). level_ranks f own n (weights_left g src c)) (sym l) ∙ k.ranks f own next
 
     pub measuring-small : weights + m.weights ≤ 64
     measuring-small = omega (arith, v.few, i.few)
 
-    pub measuring-more : {known : Bool} → known ≡ (ranked && m.ranked) → Measuring g src w place levels own t.next (left - 1) (weights + m.weights) known
+    pub measuring-more : Measuring g src w place levels own t.next next (weights + m.weights) (ranked && m.ranked)
     unfolding count_all every
-    measuring-more {known} e = record {
+    measuring-more = record {
       count = λ n ds o.
           let f : Subject → ℕ = rank_in w ds in
           omega (arith, v.count n ds o, ap count_all (level f), i.weights n ds o);
       all = λ n ds o.
           let f : Subject → ℕ = rank_in w ds in
-          let rest : Bool = every (every (leb 1)) (level_ranks f own (left - 1) (weights_left g src t.next)) in
-          ap (λ (b : Bool). b && rest) e ∙ and_assoc ranked m.ranked rest
+          let rest : Bool = every (every (leb 1)) (level_ranks f own next (weights_left g src t.next)) in
+          and_assoc ranked m.ranked rest
           ∙ ap (λ (b : Bool). ranked && (b && rest)) (i.ranked n ds o) ∙ ap (λ (r : List (List ℕ)). ranked && every (every (leb 1)) r) (sym (level f))
           ∙ v.all n ds o;
       few = omega (arith, v.few, i.few);

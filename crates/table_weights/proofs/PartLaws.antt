@@ -42,9 +42,9 @@ module _ (t : Tok) where
   unfolding part_of
   part-name e = sym (rw e)
 
-  pub part-quotes : (t.kind ≡ 5 → ⊥) → t.kind ≡ 6 → part.Quotes t.inside ≡ part_of t
+  pub part-quotes : t.kind ≡ 6 → part.Quotes t.inside ≡ part_of t
   unfolding part_of
-  part-quotes n e = sym (rw (ne_eqb t.kind 5 n, eq-eqb t.kind 6 e))
+  part-quotes e = sym (rw e)
 
   pub part_none : (t.kind ≡ 5 → ⊥) → (t.kind ≡ 6 → ⊥) → part.None ≡ part_of t
   unfolding part_of

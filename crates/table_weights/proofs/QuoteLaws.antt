@@ -1,4 +1,5 @@
 -- The names in quotes, one after the other: the next one's rank, and the turns of the loops.
+use Rattle.std.specs.Prelude.{None, Option, Some}
 use mathlib.Core.Path.{◌≡◌, refl, sym, ap, ◌∙◌, subst}
 use mathlib.Core.Bool.{Bool, true, ◌&&◌}
 use mathlib.Core.List.{List, []}
@@ -15,14 +16,10 @@ use Rattle.text_lines.specs.declared.Signs.{Signs}
 use Rattle.text_lines.specs.declared.Spot.{Spot}
 use Rattle.text_lines.specs.Stream.{marks_left}
 use Rattle.text_tokens.specs.Left.{is_inside, names_in}
-use Rattle.text_names.specs.declared.Named.{Named}
-use Rattle.text_names.specs.declared.Named.TheVariants.{Name, Close}
 use Rattle.text_names.specs.Named.{NameAt, NamedIs}
 use Rattle.base_units.specs.declared.Rank.{Rank}
 use Rattle.work_subjects.specs.Keys.{key_at, subject_left, AfterName}
 use Rattle.work_store.specs.Store.{Decl, Holds}
-use Rattle.table_weights.specs.declared.NextRank.{NextRank}
-use Rattle.table_weights.specs.declared.NextRank.TheVariants.{One, End}
 use Rattle.table_weights.specs.Ranks.{rank_in, RankIs}
 use Rattle.table_weights.specs.Reading.{quote_ranks, RankNext, NextIs, InQuotes, Measures}
 
@@ -37,11 +34,11 @@ quote_ranks-none g src p f e = rw e
 
 -- ## The next name
 
-module _ (g : Signs) (src : List ℕ) (p : Spot) {n : Named} (v : NamedIs g src p n) where
-  pub rank-end : n ≡ Close → names_in (marks_left g src p) ≡ []
+module _ (g : Signs) (src : List ℕ) (p : Spot) {n : Option Spot} (v : NamedIs g src p n) where
+  pub rank-end : n ≡ None → names_in (marks_left g src p) ≡ []
   rank-end e = subst (NamedIs g src p) e v
 
-  module _ {q : Spot} (e : n ≡ Name q) where
+  module _ {q : Spot} (e : n ≡ Some q) where
     there : NameAt g src p q
     there = subst (NamedIs g src p) e v
 
@@ -80,9 +77,9 @@ pub record Counting (g : Signs) (src w : List ℕ) (p q : Spot) (weights : ℕ) 
 pub counting-none : (g : Signs) (src w : List ℕ) (p : Spot) → InQuotes g src p → Counting g src w p p 0 true
 counting-none g src w p h = record { many = omega arith; all = λ n ds o. refl; mode = h.mode; to = h.to }
 
-module _ (g : Signs) (src : List ℕ) {w : List ℕ} {p q : Spot} {weights : ℕ} {ranked : Bool} {s : NextRank}
+module _ (g : Signs) (src : List ℕ) {w : List ℕ} {p q : Spot} {weights : ℕ} {ranked : Bool} {s : Option (Rank × Spot)}
     (v : Counting g src w p q weights ranked) (k : NextIs g src w q s) where
-  module _ {r : Rank} {e : Spot} (f : s ≡ One r e) where
+  module _ {r : Rank} {e : Spot} (f : s ≡ Some (r, e)) where
     ahead : RankNext g src w q r.0 e
     ahead = subst (NextIs g src w q) f k
 
@@ -102,7 +99,7 @@ module _ (g : Signs) (src : List ℕ) {w : List ℕ} {p q : Spot} {weights : ℕ
       to = ahead.to;
     }
 
-  pub counting-all : InQuotes g src p → s ≡ End
+  pub counting-all : InQuotes g src p → s ≡ None
       → Measures (key_at g src) (length src) w (quote_ranks g src p) (record { weights = weights; ranked = ranked })
   unfolding every
   counting-all h f =

@@ -1,21 +1,19 @@
 -- The weights of an order line as ranks, taken from the work area once every order line has its rank in its row (Rattle.work_order.specs.Links).
-use Rattle.std.specs.Prelude.{◌≡◌, List, [], ◌∷◌, map, ℕ, zero, suc}
+use Rattle.std.specs.Prelude.{◌≡◌, List, [], ◌∷◌, map, ℕ, zero, suc, None, Option, Some}
 use Rattle.rules.specs.Tokens.{Token}
 use Rattle.rules.specs.State.{Subject}
 use Rattle.rules.specs.OrderLines.{subject_of}
 use Rattle.work_rows.specs.Cells.{cell}
 use Rattle.work_order.specs.Links.{rank_number}
 use Rattle.work_subjects.specs.Keys.{Key, item}
-use Rattle.work_store.specs.declared.Found.{Found}
-use Rattle.work_store.specs.declared.Found.TheVariants.{At, Nothing}
 use Rattle.work_store.specs.Store.{Decl, first, Holds}
 
 -- ## Ranks
 
 -- the rank in the row of what is found; 0 where nothing is
-unfoldable pub rank_found : List ℕ → Found → ℕ
-rank_found w (At v) = cell w v rank_number
-rank_found w Nothing = 0
+unfoldable pub rank_found : List ℕ → Option ℕ → ℕ
+rank_found w (Some v) = cell w v rank_number
+rank_found w None = 0
 
 -- the rank that the area w has for a subject, ds being declared
 unfoldable pub rank_in : List ℕ → List Decl → Subject → ℕ

@@ -1,5 +1,5 @@
 -- The weights of an order line as code reads them, one operand after the other.
-use Rattle.std.specs.Prelude.{◌≡◌, Bool, true, false, List, [], ◌∷◌, map, ℕ, suc, ◌+◌, ◌*◌, ◌≤◌, length, leb, eqb, if◌then◌else◌}
+use Rattle.std.specs.Prelude.{◌≡◌, Bool, true, false, List, [], ◌∷◌, map, ℕ, suc, ◌+◌, ◌*◌, ◌≤◌, length, leb, eqb, if◌then◌else◌, None, Option, Some}
 use Rattle.rules.specs.Text.{every}
 use Rattle.rules.specs.Lines.{in_plain, quoted}
 use Rattle.rules.specs.Tokens.{name, quote, Token, operands, tokens_refusal}
@@ -17,14 +17,13 @@ use Rattle.work_subjects.specs.Keys.{Key, subject_left, key_at}
 use Rattle.work_rows.specs.Cells.{cell}
 use Rattle.work_order.specs.Links.{place_number, rank_number}
 use Rattle.work_store.specs.Store.{Decl, heads_of, Holds}
-use Rattle.table_weights.specs.declared.NextRank.{NextRank}
-use Rattle.table_weights.specs.declared.NextRank.TheVariants as nextRank
 use Rattle.table_weights.specs.declared.Part.{Part}
 use Rattle.table_weights.specs.declared.Part.TheVariants as part
 use Rattle.table_weights.specs.declared.Cursor.{Cursor}
 use Rattle.table_weights.specs.declared.Turn.{Turn}
 use Rattle.table_weights.specs.declared.Measured.{Measured}
 use Rattle.table_weights.specs.Ranks.{rank_in, level_ranks}
+use Rattle.base_units.specs.declared.Rank.{Rank}
 
 -- ## Names in quotes
 
@@ -39,9 +38,9 @@ pub record RankNext (g : Signs) (src w : List ℕ) (p : Spot) (r : ℕ) (q : Spo
   pub mode : q.mode ≡ quoted
   pub to : q.at ≤ length src
 
-abbrev pub NextIs : Signs → List ℕ → List ℕ → Spot → NextRank → Type 0
-NextIs g src w p (nextRank.One r q) = RankNext g src w p r.0 q
-NextIs g src w p nextRank.End = names_in (marks_left g src p) ≡ []
+abbrev pub NextIs : Signs → List ℕ → List ℕ → Spot → Option (Rank × Spot) → Type 0
+NextIs g src w p (Some (r, q)) = RankNext g src w p r.0 q
+NextIs g src w p None = names_in (marks_left g src p) ≡ []
 
 -- A spot in quotes outside names, of which at most 8 are still to come.
 pub record InQuotes (g : Signs) (src : List ℕ) (p : Spot) : Type 0 where

@@ -1,7 +1,7 @@
 // The weights of an order line, read again from the source as ranks: how many there are, and whether each has one.
 #![tactic(auto)]
 
-ghost use Rattle.std.specs.Prelude.{◌≡◌, true, ◌&&◌, ◌≤◌, length};
+ghost use Rattle.std.specs.Prelude.{◌≡◌, true, ◌≤◌, length};
 ghost use Rattle.rules.specs.Lines.{quoted};
 ghost use Rattle.text_tokens.specs.Left.{is_inside};
 ghost use Rattle.work_subjects.specs.Keys.{subject_left, key_at};
@@ -9,23 +9,16 @@ ghost use Rattle.work_store.specs.Store.{Sound};
 ghost use Rattle.table_weights.specs.Ranks.{RankIs};
 ghost use Rattle.table_weights.specs.Reading.{NextIs, InQuotes, Measures, quote_ranks, part_of, part_ranks, PartFits, Ahead, TurnIs, Weighed, line_operands, Starts, Readable, MeasuresLine, RowReady, MeasuresItem};
 
-use base_units::{Rank, wide};
+use base_units::Rank;
 use locale_weights::{Weight, next_weight};
 use text_lines::{IN_PLAIN, Signs, Spot};
-use text_names::{Named, next_name};
+use text_names::next_name;
 use text_operands::{After, after_first};
 use text_tokens::{NAME, QUOTE, Tok};
 use work_order::{PLACE_NUMBER, RANK_NUMBER};
 use work_rows::told;
-use work_store::{Found, find};
+use work_store::find;
 use work_subjects::after_name;
-
-// The rank of the next name in quotes, with the spot after that.
-#[derive(Clone, Copy)]
-pub enum NextRank {
-    One(Rank, Spot),
-    End,
-}
 
 // What an operand gives at its level: the line itself, where it is empty; nothing; the name inside which the spot is; the names in quotes from
 // the spot on.
@@ -64,37 +57,24 @@ pub fn rank_at(src: &[u8], g: Signs, work: &[u32], p: Spot) -> Rank
     requires sound { Sound (key_at g src.now) (length src.now) work.now }
     ensures { RankIs (key_at g src.now) (length src.now) work.now (subject_left g src.now p) result.0 }
 {
-    let f = find(src, g, work, 2 * p.at);
-    match f {
-        Found::At(v) => return Rank(told(work, v, RANK_NUMBER)),
-        Found::Nothing => return Rank(0),
+    match find(src, g, work, 2 * p.at) {
+        Some(v) => Rank(told(work, v, RANK_NUMBER)),
+        None => Rank(0),
     }
 }
 
 // The rank of the next name in quotes, from a spot in them outside names.
-pub fn next_rank(src: &[u8], g: Signs, work: &[u32], p: Spot) -> NextRank
+pub fn next_rank(src: &[u8], g: Signs, work: &[u32], p: Spot) -> Option<(Rank, Spot)>
     requires at_in_bounds { (p.at ≤ length src.now) × (p.mode ≡ quoted) }
     requires sound { Sound (key_at g src.now) (length src.now) work.now }
     ensures { NextIs g src.now work.now p result }
 {
-    let n = next_name(src, g, p);
-    match n {
-        Named::Name(q) => {
-            let r = rank_at(src, g, work, q);
-            let e = after_name(src, g, q);
-            return NextRank::One(r, e);
-        }
-        Named::Close => return NextRank::End,
-    }
-}
-
-fn both(a: bool, b: bool) -> bool
-    ensures { result ≡ (a && b) }
-{
-    if a {
-        return b;
-    }
-    false
+    let Some(q) = next_name(src, g, p) else {
+        return None;
+    };
+    let r = rank_at(src, g, work, q);
+    let e = after_name(src, g, q);
+    Some((r, e))
 }
 
 // The weights that the names in quotes are.
@@ -106,37 +86,23 @@ fn measure_quotes(src: &[u8], g: Signs, work: &[u32], p: Spot) -> Measured
     let mut q = p;
     let mut weights: usize = 0;
     let mut ranked = true;
-    loop {
-        let s = next_rank(src, g, work, q);
-        match s {
-            NextRank::One(r, e) => {
-                let known = r.0 >= 1;
-                ranked = both(ranked, known);
-                weights += 1;
-                q = e;
-            }
-            NextRank::End => {
-                return Measured {
-                    weights: weights,
-                    ranked: ranked,
-                };
-            }
-        }
+    while let Some((r, e)) = next_rank(src, g, work, q) {
+        ranked &= r.0 >= 1;
+        weights += 1;
+        q = e;
     }
+    Measured { weights, ranked }
 }
 
 // What an operand gives that is one token.
 fn part_of(t: Tok) -> Part
     ensures { result ≡ part_of t }
 {
-    let inside = t.inside;
-    if t.kind == NAME {
-        return Part::One(inside);
+    match t.kind {
+        NAME => Part::One(t.inside),
+        QUOTE => Part::Quotes(t.inside),
+        _ => Part::None,
     }
-    if t.kind == QUOTE {
-        return Part::Quotes(inside);
-    }
-    Part::None
 }
 
 // The operand of the next level; where there is none any more, the line itself.
@@ -147,37 +113,25 @@ pub fn next_part(src: &[u8], g: Signs, c: Cursor) -> Turn
     if c.more {
         let w = next_weight(src, g, c.at);
         match w {
-            Weight::Empty(more, next) => {
-                return Turn {
-                    part: Part::Own, // an empty operand
-                    next: Cursor {
-                        more: more,
-                        at: next,
-                    },
-                };
-            }
-            Weight::One(_, t, more, next) => {
-                let part = part_of(t);
-                return Turn {
-                    part: part,
-                    next: Cursor {
-                        more: more,
-                        at: next,
-                    },
-                };
-            }
+            Weight::Empty(more, at) => Turn {
+                part: Part::Own, // an empty operand
+                next: Cursor { more, at },
+            },
+            Weight::One(_, t, more, at) => Turn {
+                part: part_of(t),
+                next: Cursor { more, at },
+            },
             // never: the operands of an accepted line are whole
-            Weight::Bad => {
-                return Turn {
-                    part: Part::None,
-                    next: c,
-                };
-            }
+            Weight::Bad => Turn {
+                part: Part::None,
+                next: c,
+            },
         }
-    }
-    Turn {
-        part: Part::Own,
-        next: c,
+    } else {
+        Turn {
+            part: Part::Own,
+            next: c,
+        }
     }
 }
 
@@ -194,16 +148,10 @@ pub fn first_part(src: &[u8], g: Signs, place: usize) -> Cursor
     };
     let a = after_first(src, g, p);
     match a {
-        After::None => {
-            return Cursor { more: false, at: p };
-        }
+        After::Operands(at) => Cursor { more: true, at },
+        After::None => Cursor { more: false, at: p },
         // never: the operands of an accepted line are whole
-        After::Broken => {
-            return Cursor { more: false, at: p };
-        }
-        After::Operands(x) => {
-            return Cursor { more: true, at: x };
-        }
+        After::Broken => Cursor { more: false, at: p },
     }
 }
 
@@ -214,26 +162,22 @@ fn measure_part(src: &[u8], g: Signs, work: &[u32], part: Part, own: Rank) -> Me
     ensures { Measures (key_at g src.now) (length src.now) work.now (part_ranks g src.now own.0 part) result }
 {
     match part {
-        Part::Own => {
-            return Measured {
-                weights: 1,
-                ranked: own.0 >= 1,
-            };
-        }
-        Part::None => {
-            return Measured {
-                weights: 0,
-                ranked: true,
-            };
-        }
+        Part::Own => Measured {
+            weights: 1,
+            ranked: own.0 >= 1,
+        },
+        Part::None => Measured {
+            weights: 0,
+            ranked: true,
+        },
         Part::One(p) => {
             let r = rank_at(src, g, work, p);
-            return Measured {
+            Measured {
                 weights: 1,
                 ranked: r.0 >= 1,
-            };
+            }
         }
-        Part::Quotes(p) => return measure_quotes(src, g, work, p),
+        Part::Quotes(p) => measure_quotes(src, g, work, p),
     }
 }
 
@@ -251,23 +195,16 @@ fn measure_line(
     ensures { MeasuresLine g src.now work.now place levels own.0 result }
 {
     let mut c = first_part(src, g, place);
-    let mut left = levels;
     let mut weights: usize = 0;
     let mut ranked = true;
-    while 0 < left {
+    for _ in 0..levels {
         let t = next_part(src, g, c);
-        let part = t.part;
-        let next = t.next;
-        let m = measure_part(src, g, work, part, own);
+        let m = measure_part(src, g, work, t.part, own);
         weights += m.weights;
-        ranked = both(ranked, m.ranked);
-        c = next;
-        left -= 1;
+        ranked &= m.ranked;
+        c = t.next;
     }
-    Measured {
-        weights: weights,
-        ranked: ranked,
-    }
+    Measured { weights, ranked }
 }
 
 // The weights of the order line of a mark, from the numbers of its row on.
@@ -276,7 +213,7 @@ pub fn measure_item(src: &[u8], g: Signs, work: &[u32], mark: usize, levels: usi
     requires sound { Sound (key_at g src.now) (length src.now) work.now }
     ensures { MeasuresItem g src.now work.now mark levels result }
 {
-    let place = wide(told(work, mark, PLACE_NUMBER));
+    let place = told(work, mark, PLACE_NUMBER) as usize;
     let own = Rank(told(work, mark, RANK_NUMBER));
     measure_line(src, g, work, place, levels, own)
 }

@@ -14,7 +14,6 @@ use locale_sheet::Sheet;
 use table_items::write_items;
 use table_layout::{ends_at, mask_for, rules_part, weights_part};
 use table_listing::list_items;
-use table_records::put_rank;
 use text_lines::{IN_PLAIN, Signs, Spot};
 
 // How many items there are, with UNDEFINED where it is supplied.
@@ -22,10 +21,7 @@ fn all_items(items: usize, supplied: bool) -> usize
     requires { items ≤ 32767 }
     ensures { result ≡ all_items supplied items }
 {
-    if supplied {
-        return items + 1;
-    }
-    items
+    if supplied { items + 1 } else { items }
 }
 
 // How many weights: the supplied UNDEFINED has one at each level.
@@ -33,10 +29,7 @@ fn all_weights(levels: usize, weights: usize, supplied: bool) -> usize
     requires { (levels ≤ 8) × (weights ≤ 2097088) }
     ensures { result ≡ all_weights supplied levels weights }
 {
-    if supplied {
-        return weights + levels;
-    }
-    weights
+    if supplied { weights + levels } else { weights }
 }
 
 // How many numbers a table takes, of so many levels, items and weights, and with UNDEFINED supplied or not.
@@ -54,26 +47,7 @@ fn fill(area: &mut [u32], at: usize, n: usize, x: u32)
     requires { at + n ≤ length area.old }
     ensures { area.new ≡ sets area.old at (replicate n x) }
 {
-    let mut i = at;
-    let mut left = n;
-    while 0 < left {
-        area[i] = x;
-        i += 1;
-        left -= 1;
-    }
-}
-
-// One weight, n times, from a place on.
-fn fill_rank(area: &mut [u32], at: usize, n: usize, r: Rank)
-    requires { at + n ≤ length area.old }
-    ensures { area.new ≡ sets area.old at (replicate n r.0) }
-{
-    let mut i = at;
-    let mut left = n;
-    while 0 < left {
-        i = put_rank(area, i, r);
-        left -= 1;
-    }
+    area[at..at + n].fill(x);
 }
 
 // n numbers from a place on, each one above the one before it, the first one above x.
@@ -81,14 +55,8 @@ fn count_up(area: &mut [u32], at: usize, n: usize, x: u32)
     requires { (at + n ≤ length area.old) × (x + n < 4294967296) }
     ensures { area.new ≡ sets area.old at (supplied_ends n x) }
 {
-    let mut i = at;
-    let mut left = n;
-    let mut last = x;
-    while 0 < left {
-        last += 1;
-        area[i] = last;
-        i += 1;
-        left -= 1;
+    for k in 0..n {
+        area[at + k] = x + k as u32 + 1;
     }
 }
 
@@ -120,7 +88,7 @@ fn write_supplied(
 {
     fill(area, from, 4, 0x110000);
     count_up(area, slots, levels, weights);
-    fill_rank(area, at, levels, rank);
+    fill(area, at, levels, rank.0);
 }
 
 // UNDEFINED supplied behind the items, in a table whose characters and weights start at these places: its rank is one above that of the last order

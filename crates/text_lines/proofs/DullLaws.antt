@@ -1,13 +1,13 @@
 -- Stretches of a line of which nothing is to be told: how loops find them, and why a line passes them.
 use mathlib.Core.Path.{◌≡◌, refl, sym, ◌∙◌}
-use mathlib.Core.Bool.{Bool, true, false, not, false≢true, and-false}
+use mathlib.Core.Bool.{Bool, true, false, and-false}
 use mathlib.Core.List.{List, [], ◌∷◌}
 use Prim.Native.Nat.{ℕ, zero, suc, ◌+◌, ◌-◌, ◌%◌, ◌≤◌, ◌<◌}
 use native.Mathlib.Nat.{add-zero}
 use native.Mathlib.Omega.{arith}
 use lib.ListN.{length, get_or}
 use lib.Dec.{eqb, ltb}
-use borrow.Author.Tests.{ne_eqb, le-leb, eqb-false, not-true, ltb-true, ltb-false}
+use borrow.Author.Tests.{ne_eqb, le-leb, ltb-true, ltb-false}
 use Rattle.base_lists.proofs.Bools.{by}
 use Rattle.rules.specs.Text.{every}
 use Rattle.rules.specs.Names.{is_blank}
@@ -17,7 +17,7 @@ use Rattle.rules.proofs.TextLaws.{every_append}
 use Rattle.text_lines.specs.declared.Signs.{Signs}
 use Rattle.text_lines.specs.declared.Spot.{Spot}
 use Rattle.text_lines.specs.Stream.{marks_left, Passes}
-use Rattle.text_lines.specs.Stretches.{NoFeed, FeedIs, Ordinary, Stretch, Block, Dull, DullTo}
+use Rattle.text_lines.specs.Stretches.{NoFeed, Ordinary, Stretch, Block, Dull, DullTo}
 use Rattle.text_lines.proofs.ByteLaws.{text-high}
 use Rattle.text_lines.proofs.LineLaws.{spot, item-hidden}
 use Rattle.text_lines.proofs.StandsLaws.{Stands, stands-item}
@@ -46,54 +46,40 @@ stretch-more {P} {src} {i} {j} v h p =
 
 -- ## LFs in a block
 
--- Of the first k bytes of a block n are counted: none of them is an LF if n is 0.
-pub record Counted (src : List ℕ) (at n k : ℕ) : Type 0 where
+-- Of a block's bytes before place j n are LFs: none of them is one if n is 0.
+pub record Counted (src : List ℕ) (at n j : ℕ) : Type 0 where
   pub block : at + 32 ≤ length src
-  pub few : n ≤ k
-  pub first : k ≤ 32
-  pub none : n ≡ 0 → Stretch NoFeed src at (at + k)
+  pub few : n + at ≤ j
+  pub first : j ≤ at + 32
+  pub none : n ≡ 0 → Stretch NoFeed src at j
 
-pub counted_none : (src : List ℕ) (at : ℕ) → at + 32 ≤ length src → Counted src at 0 0
-counted_none src at h =
-    record { block = h; few = omega arith; first = omega arith; none = λ e. rw (add-zero at) (stretch-none src at (omega arith)) }
+pub counted_none : (src : List ℕ) (at : ℕ) → at + 32 ≤ length src → Counted src at 0 at
+counted_none src at h = record { block = h; few = omega arith; first = omega arith; none = λ e. stretch-none src at (omega arith) }
 
-module _ {src : List ℕ} {at n k : ℕ} (v : Counted src at n k) where
-  pub counted-more : {x : ℕ} → k < 32 → FeedIs (get_or src (at + k) 0) x → Counted src at (n + x) (k + 1)
-  counted-more {x} h w =
-      record {
-        block = v.block;
-        few = let a = v.few in let b = w.few in omega arith;
-        first = omega arith;
-        none = λ e. let next : at + (k + 1) ≡ at + k + 1 = omega arith in
-            rw next (stretch-more (v.none (omega arith)) (let a = v.block in omega arith) (w.none (omega arith)));
-      }
+module _ {src : List ℕ} {at n j : ℕ} (v : Counted src at n j) where
+  module _ (h : j < at + 32) where
+    pub counted-feed : Counted src at (n + 1) (j + 1)
+    counted-feed = record { block = v.block; few = let a = v.few in omega arith; first = omega arith; none = λ e. absurd (omega arith) }
 
-  pub counted-all : 32 ≤ k → Block src at n
+    pub counted-other : (get_or src j 0 ≡ 10 → ⊥) → Counted src at n (j + 1)
+    counted-other f =
+        record {
+          block = v.block;
+          few = let a = v.few in omega arith;
+          first = omega arith;
+          none = λ e. stretch-more (v.none e) (let a = v.block in omega arith) (record { other = f });
+        }
+
+  pub counted-all : at + 32 ≤ j → Block src at n
   counted-all h e =
-      let k32 : k ≡ 32 = let a = v.first in omega arith in
-      rw k32 at (v.none e)
+      let z : j ≡ at + 32 = let a = v.first in omega arith in
+      rw z at (v.none e)
 
 -- a block more
 pub blocks_more : {src : List ℕ} {at i n : ℕ} → Stretch NoFeed src at i → Block src i n → n ≡ 0 → Stretch NoFeed src at (i + 32)
 blocks_more v w e = stretch-join v (w e)
 
--- a byte more
-pub feed-more : {src : List ℕ} {at i : ℕ} → Stretch NoFeed src at i → i < length src → (get_or src i 0 ≡ 10 → ⊥) → Stretch NoFeed src at (i + 1)
-feed-more v h f = stretch-more v h (record { other = f })
-
 -- ## Ordinary bytes
-
--- what a test that failed promises
-pub ordinary-not : {escape b : ℕ} → false ≡ true → Ordinary escape b
-ordinary-not h = absurd (false≢true h)
-
-pub ordinary-is : {escape b : ℕ} → 33 ≤ b → b ≤ 126 → (b ≡ 34 → ⊥) → (b ≡ 60 → ⊥) → (b ≡ 62 → ⊥) → not (eqb b escape) ≡ true → Ordinary escape b
-ordinary-is {escape} {b} l h q o k n =
-    record { low = l; high = h; no-quote = q; no-open = o; no-close = k; no-escape = eqb-false b escape (not-true (eqb b escape) n) }
-
-pub ordinary-more : {src : List ℕ} {escape at i : ℕ} {t : Bool} → Stretch (Ordinary escape) src at i → i < length src → (t ≡ true → Ordinary escape (get_or src i 0)) → t ≡ true
-    → Stretch (Ordinary escape) src at (i + 1)
-ordinary-more v h w t = stretch-more v h (w t)
 
 module _ {escape b : ℕ} (v : Ordinary escape b) where
   -- every mode stays
@@ -174,10 +160,6 @@ module _ {g : Signs} {src : List ℕ} where
           rw z (dull-then (go n (omega arith)) (step (i + n) (let a = v.to in omega arith) (v.each (i + n) (omega arith) (omega arith))))
 
 module _ {src : List ℕ} {at : ℕ} where
-  -- nothing is passed
-  pub dull-here : (escape mode : ℕ) (fresh : Bool) → at ≤ length src → DullTo escape src at mode fresh at
-  dull-here escape mode fresh h = record { dull = λ c. dull-none (spot at mode fresh) h }
-
   -- a comment up to its LF
   pub dull-comment : {mode r : ℕ} (escape : ℕ) (fresh : Bool) → mode ≡ 4 → Stretch NoFeed src at r → DullTo escape src at mode fresh r
   dull-comment escape fresh m v = rw m (record { dull = λ c. dull-stretch (comment-dull fresh) v })

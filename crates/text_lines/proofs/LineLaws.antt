@@ -393,13 +393,13 @@ module _ {g : Signs} {src : List ℕ} {p : Spot} (v : EscapeAt g src p) where
           }
 
       -- a pair in plain mode is dead
-      pub pair-dead : p.mode ≡ 0 → ItemIs g src p (Mark (512 + x) (spot (p.at + 2) 0 false))
+      pub pair-dead : p.mode ≡ 0 → ItemIs g src p (Mark (512 + x) (spot (p.at + 2) p.mode false))
       unfolding scan_escaped pair-run
       pair-dead m =
-          let q = spot (p.at + 2) 0 false in
+          let q = spot (p.at + 2) p.mode false in
           escaped-item (512 + x) q
-          (pair-run (512 + x) q refl (sym m) refl (omega arith) (λ done f z. rw (m, e) (simp (ne_eqb (get_or src (p.at + 1) 0) 10 n))))
-          (omega arith) (omega arith) (sym m) refl (omega arith) (omega arith) (λ z. omega arith)
+          (pair-run (512 + x) q refl refl refl (omega arith) (λ done f z. rw (m, e) (simp (ne_eqb (get_or src (p.at + 1) 0) 10 n))))
+          (omega arith) (omega arith) refl refl (omega arith) (omega arith) (λ z. omega arith)
 
       -- in a name or in quotes the byte is taken
       pub pair-in : (p.mode ≡ 0 → ⊥) → ItemIs g src p (Mark (256 + x) (spot (p.at + 2) p.mode false))

@@ -5,7 +5,7 @@ use lib.Dec.{ltb}
 use mathlib.Core.Bool.{Bool, true, false, ◌&&◌, and-true}
 use mathlib.Core.Path.{◌≡◌, refl, ◌∙◌, subst, ap}
 use mathlib.Core.List.{List, [], ◌∷◌, ◌++◌}
-use Prim.Native.Nat.{ℕ, ◌-◌, ◌≤◌, ◌<◌, ◌+◌, ◌^◌}
+use Prim.Native.Nat.{ℕ, ◌-◌, ◌≤◌, ◌<◌, ◌+◌}
 use native.Mathlib.Omega.{arith}
 use lib.ListN.{length}
 use Rattle.rules.specs.Lines.{in_comment}
@@ -84,19 +84,6 @@ module _ {g : Signs} {src : List ℕ} {p q : Spot} {i : Item} (v : Joined g src 
       let t : Passes g src [] 1 q r × Joins g src 1 q r = subst (ItemIs g src q) e s in
       record { same = v.same ∙ t.0.marks; feeds = v.feeds + 1; joins = joins-join v.joins t.1; to = t.0.to }
 
-  pub joined-less : {r : Spot} → i ≡ Join r → length src - r.at < length src - q.at
-  joined-less {r} e =
-      let t : Passes g src [] 1 q r × Joins g src 1 q r = subst (ItemIs g src q) e s in
-      omega (arith, t.0.on, t.0.to)
-
-  pub joined-hidden : {r : Spot} → i ≡ Hidden r → marks_left g src p ≡ []
-  joined-hidden {r} e =
-      let t : Passes g src [] 0 q r × (r.mode ≡ in_comment) × (marks_left g src q ≡ []) = subst (ItemIs g src q) e s in
-      v.same ∙ t.2
-
-  pub joined_end : {next feeds : ℕ} → i ≡ End next feeds → marks_left g src p ≡ []
-  joined_end {next} {feeds} e = let t : Ends g src q next feeds = subst (ItemIs g src q) e s in v.same ∙ t.none
-
 -- ## The line's end
 
 -- From p to q so many LFs are passed, and whether all was text.
@@ -106,9 +93,6 @@ pub record Reads (g : Signs) (src : List ℕ) (p q : Spot) (feeds : ℕ) (text :
   pub clean : every is_text (marks_left g src p) ≡ (text && every is_text (marks_left g src q))
   pub from : feeds + p.at ≤ q.at
   pub to : q.at ≤ length src
-
-pub reads_none : (g : Signs) (src : List ℕ) (p : Spot) → p.at ≤ length src → Reads g src p p 0 true
-reads_none g src p h = record { end = refl; fed = omega arith; clean = refl; from = omega arith; to = h }
 
 -- a stretch more, of which nothing is to be told
 reads-dull : {g : Signs} {src : List ℕ} {p o q : Spot} {feeds : ℕ} {text : Bool} → Reads g src p o feeds text → EverDull g.escape src o q → Reads g src p q feeds text
@@ -186,9 +170,6 @@ module _ {g : Signs} {src : List ℕ} {p o q : Spot} {feeds : ℕ} {text : Bool}
     reads-less-hidden {r} e =
         let w : Passes g src [] 0 q r × (r.mode ≡ in_comment) × (marks_left g src q ≡ []) = subst (ItemIs g src q) e s in
         omega (arith, on, w.0.on, w.0.to)
-
-    pub reads-fits : {next n : ℕ} → i ≡ End next n → length src < 2 ^ 64 → feeds + n < 2 ^ 64
-    reads-fits {next} {n} e h = let w : Ends g src q next n = subst (ItemIs g src q) e s in omega (arith, v.from, w.few, w.to)
 
     pub reads_end : {next n : ℕ} → i ≡ End next n → LineIs g src p (record { next = next; feeds = feeds + n; text = text })
     unfolding every

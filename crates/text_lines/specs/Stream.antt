@@ -1,6 +1,6 @@
 -- A line as code reads it: from a spot in the source on, one mark after the other, with nothing kept. What is still to come is the
 -- paper's own line (Rattle.rules.specs.Lines), begun in the middle.
-use Rattle.std.specs.Prelude.{◌≡◌, Bool, true, false, ◌&&◌, List, [], ◌∷◌, ◌++◌, ℕ, ◌+◌, ◌≤◌, ◌<◌, length, get_or, drop}
+use Rattle.std.specs.Prelude.{◌≡◌, Bool, true, false, ◌&&◌, List, [], ◌∷◌, ◌++◌, ℕ, ◌+◌, ◌≤◌, ◌<◌, length, get_or, drop, None, Option, Some}
 use Rattle.rules.specs.Text.{every, begins}
 use Rattle.rules.specs.Names.{is_blank}
 use Rattle.rules.specs.Tokens.{is_text, without_blanks}
@@ -11,8 +11,6 @@ use Rattle.text_lines.specs.declared.Spot.{Spot}
 use Rattle.text_lines.specs.declared.LineEnd.{LineEnd}
 use Rattle.text_lines.specs.declared.Item.{Item}
 use Rattle.text_lines.specs.declared.Item.TheVariants as item
-use Rattle.text_lines.specs.declared.Step.{Step}
-use Rattle.text_lines.specs.declared.Step.TheVariants as step
 
 -- ## What is still to come
 
@@ -161,9 +159,9 @@ pub record MarkIs (g : Signs) (src : List ℕ) (p : Spot) (m : ℕ) (q : Spot) :
   pub to : q.at ≤ length src
 
 -- the next mark, or that there is none
-abbrev pub StepIs : Signs → List ℕ → Spot → Step → Type 0
-StepIs g src p (step.Mark m q) = MarkIs g src p m q
-StepIs g src p step.End = marks_left g src p ≡ []
+abbrev pub StepIs : Signs → List ℕ → Spot → Option (ℕ × Spot) → Type 0
+StepIs g src p (Some (m, q)) = MarkIs g src p m q
+StepIs g src p None = marks_left g src p ≡ []
 
 -- ## The whole line
 

@@ -12,11 +12,6 @@ use Rattle.text_lines.specs.Stream.{line_left, marks_left, end_of}
 pub record NoFeed (b : ℕ) : Type 0 where
   pub other : b ≡ 10 → ⊥
 
--- At most 1, and 0 only for a byte that is no LF.
-pub record FeedIs (b r : ℕ) : Type 0 where
-  pub few : r ≤ 1
-  pub none : r ≡ 0 → NoFeed b
-
 -- Visible, and none of `"` (34), `<` (60), `>` (62) and the escape: such a byte leaves every mode as it is.
 pub record Ordinary (escape b : ℕ) : Type 0 where
   pub low : 33 ≤ b

@@ -6,7 +6,7 @@ ghost use Rattle.rules.specs.Names.{is_blank};
 ghost use Rattle.rules.specs.Tokens.{is_text};
 ghost use Rattle.rules.specs.Lines.{after};
 ghost use Rattle.text_lines.specs.Stream.{ItemIs, EscapeAt, StepIs, LineIs};
-ghost use Rattle.text_lines.specs.Stretches.{FeedIs, NoFeed, Ordinary, Stretch, Block, DullTo};
+ghost use Rattle.text_lines.specs.Stretches.{NoFeed, Ordinary, Stretch, Block, DullTo};
 
 // Plain: outside names, quotes and comments.
 pub const IN_PLAIN: u8 = 0;
@@ -50,13 +50,6 @@ pub enum Item {
     End(usize, usize),
 }
 
-// The next mark of a line, with the spot after it.
-#[derive(Clone, Copy)]
-pub enum Step {
-    Mark(u16, Spot),
-    End,
-}
-
 // Where a line ends, how many LFs it has, and whether it holds only text outside comments.
 #[derive(Clone, Copy)]
 pub struct LineEnd {
@@ -68,56 +61,30 @@ pub struct LineEnd {
 pub fn is_blank(b: u8) -> bool
     ensures { result ≡ is_blank b }
 {
-    b == 32 || b == 9
+    matches!(b, b' ' | b'\t')
 }
 
 // The mode after a byte that stands.
+#[tactic(auto, unfolding(rules::specs::Lines::after))]
 fn mode_after(mode: u8, b: u8) -> u8
     ensures { result ≡ after mode b }
 {
-    if mode == IN_PLAIN {
-        if b == 60 {
-            return 1;
-        }
-        if b == 34 {
-            return 2;
-        }
-        return 0;
+    match (mode, b) {
+        (IN_PLAIN, b'<') => IN_NAME,
+        (IN_PLAIN, b'"') => QUOTED,
+        (IN_NAME, b'>') => IN_PLAIN,
+        (QUOTED, b'<') => QUOTED_NAME,
+        (QUOTED, b'"') => IN_PLAIN,
+        (QUOTED_NAME, b'>') => QUOTED,
+        _ => mode,
     }
-    if mode == IN_NAME {
-        if b == 62 {
-            return 0;
-        }
-        return 1;
-    }
-    if mode == QUOTED {
-        if b == 60 {
-            return 3;
-        }
-        if b == 34 {
-            return 0;
-        }
-        return 2;
-    }
-    if mode == QUOTED_NAME {
-        if b == 62 {
-            return 2;
-        }
-        return 3;
-    }
-    mode
 }
 
 // Whether a byte opens a comment.
 fn opens(mode: u8, fresh: bool, b: u8, comment: u8) -> bool
     ensures { result ≡ (eqb mode 0 && fresh && eqb b comment) }
 {
-    if mode == IN_PLAIN {
-        if fresh {
-            return b == comment;
-        }
-    }
-    false
+    mode == IN_PLAIN && fresh && b == comment
 }
 
 // What a mark's byte is, outside comments: text, or a ground for refusal 2.
@@ -125,17 +92,7 @@ pub fn is_text(m: u16) -> bool
     ensures { result ≡ is_text m }
 {
     let b = m % 256;
-    if b < 32 {
-        return b == 9;
-    }
-    b <= 126
-}
-
-// A byte as a mark.
-pub fn wide(b: u8) -> u16
-    ensures { (result ≡ b) × (result < 256) }
-{
-    b as u16
+    (32..=126).contains(&b) || b == 9
 }
 
 // What an escape at a spot and the byte after it give.
@@ -143,44 +100,31 @@ fn escaped(src: &[u8], g: Signs, p: Spot) -> Item
     requires { EscapeAt g src.now p }
     ensures { ItemIs g src.now p result }
 {
-    let at = p.at;
-    let mode = p.mode;
-    let next = at + 1;
+    let next = p.at + 1;
     if next >= src.len() {
-        let e = wide(g.escape);
         return Item::Mark(
-            512 + e,
+            512 + u16::from(g.escape),
             Spot {
                 at: next,
-                mode: mode,
+                mode: p.mode,
                 fresh: false,
             },
         );
     }
     let b = src[next];
-    if b == 10 {
+    if b == b'\n' {
         return Item::Join(Spot {
-            at: at + 2,
-            mode: mode,
-            fresh: p.fresh,
+            at: p.at + 2,
+            mode: p.mode,
+            fresh: p.fresh, // as before the join
         });
     }
-    let m = wide(b);
-    if mode == IN_PLAIN {
-        return Item::Mark(
-            512 + m,
-            Spot {
-                at: at + 2,
-                mode: IN_PLAIN,
-                fresh: false,
-            },
-        );
-    }
+    let offset = if p.mode == IN_PLAIN { 512 } else { 256 };
     Item::Mark(
-        256 + m,
+        offset + u16::from(b),
         Spot {
-            at: at + 2,
-            mode: mode,
+            at: p.at + 2,
+            mode: p.mode,
             fresh: false,
         },
     )
@@ -191,72 +135,55 @@ fn next_item(src: &[u8], g: Signs, p: Spot) -> Item
     requires { p.at ≤ length src.now }
     ensures { ItemIs g src.now p result }
 {
-    let at = p.at;
-    let mode = p.mode;
-    let fresh = p.fresh;
-    if at >= src.len() {
-        return Item::End(at, 0);
+    if p.at >= src.len() {
+        return Item::End(p.at, 0);
     }
-    let b = src[at];
-    if b == 10 {
-        return Item::End(at + 1, 1);
+    let b = src[p.at];
+    let next = p.at + 1;
+    if b == b'\n' {
+        return Item::End(next, 1);
     }
-    if mode == IN_COMMENT {
+    if p.mode == IN_COMMENT {
         return Item::Hidden(Spot {
-            at: at + 1,
+            at: next,
             mode: IN_COMMENT,
-            fresh: fresh,
+            fresh: p.fresh,
         });
     }
-    let e = g.escape;
-    if b == e {
+    if b == g.escape {
         return escaped(src, g, p);
     }
-    let c = g.comment;
-    if opens(mode, fresh, b, c) {
+    if opens(p.mode, p.fresh, b, g.comment) {
         return Item::Hidden(Spot {
-            at: at + 1,
+            at: next,
             mode: IN_COMMENT,
-            fresh: fresh,
+            fresh: p.fresh,
         });
     }
     Item::Mark(
-        wide(b),
+        u16::from(b),
         Spot {
-            at: at + 1,
-            mode: mode_after(mode, b),
+            at: next,
+            mode: mode_after(p.mode, b),
             fresh: is_blank(b),
         },
     )
 }
 
 // The next mark of a line: joins are passed, and a comment ends the marks.
-pub fn next_mark(src: &[u8], g: Signs, p: Spot) -> Step
+pub fn next_mark(src: &[u8], g: Signs, p: Spot) -> Option<(u16, Spot)>
     requires { p.at ≤ length src.now }
     ensures { StepIs g src.now p result }
 {
     let mut q = p;
     loop {
-        let i = next_item(src, g, q);
-        match i {
-            Item::Mark(m, r) => return Step::Mark(m, r),
-            Item::Join(r) => {
-                q = r;
-            }
-            Item::Hidden(_) => return Step::End,
-            Item::End(_, _) => return Step::End,
+        match next_item(src, g, q) {
+            Item::Mark(m, r) => return Some((m, r)),
+            Item::Join(r) => q = r,
+            Item::Hidden(_) => return None,
+            Item::End(..) => return None,
         }
     }
-}
-
-// 1 for an LF, else 0: what a block has of them is a sum.
-fn feed(b: u8) -> u8
-    ensures { FeedIs b result }
-{
-    if b == 10 {
-        return 1;
-    }
-    0
 }
 
 // How many LFs stand in the 32 bytes from a place on. The loop has no other way out than its end, so that it can be made 16 bytes wide.
@@ -265,15 +192,15 @@ fn feeds_in(src: &[u8], at: usize) -> u8
     ensures { Block src.now at result }
 {
     let mut n: u8 = 0;
-    let mut k: usize = 0;
-    while k < 32 {
-        n += feed(src[at + k]);
-        k += 1;
+    for k in at..at + 32 {
+        if src[k] == b'\n' {
+            n += 1;
+        }
     }
     n
 }
 
-// How far blocks of 32 bytes with no LF go on from a place.
+// How far blocks of 32 bytes with no LF go on from a place. A `while`: `step_by(32)` over the places says no more, and leaves the bound of each to be proved.
 fn blocks_to(src: &[u8], at: usize) -> usize
     requires { at ≤ length src.now }
     ensures { Stretch NoFeed src.now at result }
@@ -293,36 +220,19 @@ fn feed_from(src: &[u8], at: usize) -> usize
     requires { at ≤ length src.now }
     ensures { Stretch NoFeed src.now at result }
 {
-    let mut i = blocks_to(src, at);
-    while i < src.len() {
-        if src[i] == 10 {
+    for i in blocks_to(src, at)..src.len() {
+        if src[i] == b'\n' {
             return i;
         }
-        i += 1;
     }
-    i
+    src.len()
 }
 
 // Whether a byte leaves every mode as it is, where no comment can open: visible, and none of `"`, `<`, `>` and the escape.
 fn is_ordinary(b: u8, escape: u8) -> bool
     ensures { result ≡ true → Ordinary escape b }
 {
-    if b < 33 {
-        return false;
-    }
-    if b > 126 {
-        return false;
-    }
-    if b == 34 {
-        return false;
-    }
-    if b == 60 {
-        return false;
-    }
-    if b == 62 {
-        return false;
-    }
-    b != escape
+    (33..=126).contains(&b) && !matches!(b, b'"' | b'<' | b'>') && b != escape
 }
 
 // How far ordinary bytes go on from a place.
@@ -330,15 +240,12 @@ fn ordinary_to(src: &[u8], escape: u8, at: usize) -> usize
     requires { at ≤ length src.now }
     ensures { Stretch (Ordinary escape) src.now at result }
 {
-    let mut i = at;
-    while i < src.len() {
-        if is_ordinary(src[i], escape) {
-            i += 1;
-        } else {
+    for i in at..src.len() {
+        if !is_ordinary(src[i], escape) {
             return i;
         }
     }
-    i
+    src.len()
 }
 
 // How far a line goes on, from a place on in a mode, with nothing to be told of it.
@@ -347,12 +254,12 @@ fn dull_to(src: &[u8], escape: u8, at: usize, mode: u8, fresh: bool) -> usize
     ensures { DullTo escape src.now at mode fresh result }
 {
     if mode == IN_COMMENT {
-        return feed_from(src, at);
+        feed_from(src, at)
+    } else if fresh {
+        at
+    } else {
+        ordinary_to(src, escape, at)
     }
-    if fresh {
-        return at;
-    }
-    ordinary_to(src, escape, at)
 }
 
 // The end of a line, from a spot on.
@@ -360,48 +267,34 @@ pub fn line_end(src: &[u8], g: Signs, p: Spot) -> LineEnd
     requires { p.at ≤ length src.now }
     ensures { LineIs g src.now p result }
 {
-    let mut at = p.at;
-    let mut mode = p.mode;
-    let mut fresh = p.fresh;
+    let mut q = p;
     let mut feeds: usize = 0;
     let mut text = true;
     loop {
-        let i = next_item(
+        let at = dull_to(src, g.escape, q.at, q.mode, q.fresh);
+        match next_item(
             src,
             g,
             Spot {
-                at: dull_to(src, g.escape, at, mode, fresh),
-                mode: mode,
-                fresh: fresh,
+                at,
+                mode: q.mode,
+                fresh: q.fresh,
             },
-        );
-        match i {
+        ) {
             Item::Mark(m, r) => {
-                if text {
-                    text = is_text(m);
-                }
-                at = r.at;
-                mode = r.mode;
-                fresh = r.fresh;
+                text = text && is_text(m);
+                q = r;
             }
             Item::Join(r) => {
                 feeds += 1;
-                at = r.at;
-                mode = r.mode;
-                fresh = r.fresh;
+                q = r;
             }
-            Item::Hidden(r) => {
-                at = r.at;
-                mode = r.mode;
-                fresh = r.fresh;
-            }
-            Item::End(next, n) => {
-                return LineEnd {
-                    next: next,
-                    feeds: feeds + n,
-                    text: text,
-                };
-            }
+            Item::Hidden(r) => q = r,
+            Item::End(next, n) => return LineEnd {
+                next,
+                feeds: feeds + n,
+                text,
+            },
         }
     }
 }

@@ -1,5 +1,6 @@
 -- The characters by their codes: hex digits, the turns of the loop over them, and names shaped as characters.
-use mathlib.Core.Path.{◌≡◌, refl, sym, ◌∙◌}
+use Rattle.std.specs.Prelude.{None, Option, Some}
+use mathlib.Core.Path.{◌≡◌, refl, sym, ◌∙◌, subst}
 use mathlib.Core.Bool.{true, false, and-false}
 use mathlib.Core.List.{List, [], ◌∷◌}
 use Prim.Native.Nat.{ℕ, suc, ◌+◌, ◌*◌, ◌%◌, ◌^◌, ◌≤◌, ◌<◌}
@@ -16,13 +17,9 @@ use Rattle.rules.specs.Text.{within, every}
 use Rattle.rules.specs.Names.{is_hex, digit, hex_value, char_shaped, code_of}
 use Rattle.text_lines.specs.declared.Signs.{Signs}
 use Rattle.text_lines.specs.declared.Spot.{Spot}
-use Rattle.text_tokens.specs.declared.NameStep.{NameStep}
-use Rattle.text_tokens.specs.declared.NameStep.TheVariants.{Byte, Close, Open}
-use Rattle.text_tokens.specs.Left.{NameByte, NameStepIs}
-use Rattle.text_names.specs.declared.Code.{Code}
-use Rattle.text_names.specs.declared.Code.TheVariants.{Char, Other}
-use Rattle.text_names.specs.Named.{name_left, hex_of, is_many, are_digits, MadeIs, DigitsAre, CodeIs}
-use Rattle.text_names.proofs.CompareLaws.{step-byte, step-close, step-open}
+use Rattle.text_tokens.specs.Left.{NameByte}
+use Rattle.text_names.specs.Named.{name_left, ByteIs, hex_of, is_many, are_digits, MadeIs, DigitsAre, CodeIs}
+use Rattle.base_units.specs.declared.CodePoint.{CodePoint}
 
 -- ## Hex digits
 
@@ -69,9 +66,6 @@ hex-no b h = by (is_hex b) (λ t. let z : 16 ≤ digit b = rw t at h in let s = 
 
 -- ## A run of digits
 
-pub made_none : (n x : ℕ) → (n ≡ 4 → ⊥) → (n ≡ 8 → ⊥) → is_many n ≡ false
-made_none n x h k = simp (ne_eqb n 4 h, ne_eqb n 8 k)
-
 -- From p to q so many digits are read, which make x.
 pub record Coding (g : Signs) (src : List ℕ) (p q : Spot) (n x : ℕ) : Type 0 where
   pub long : length (name_left g src p) ≡ n + length (name_left g src q)
@@ -96,35 +90,25 @@ pub coding-add : {g : Signs} {src : List ℕ} {p q : Spot} {n x d : ℕ} → Cod
 coding-add v h l = omega (arith, coding-fits v h)
 
 -- the digits end
-made-digits : {g : Signs} {src : List ℕ} {p q : Spot} {n x : ℕ} → Coding g src p q n x → name_left g src q ≡ [] → (r : Code) → MadeIs n x r → DigitsAre (name_left g src p) r
+made-digits : {g : Signs} {src : List ℕ} {p q : Spot} {n x : ℕ} → Coding g src p q n x → name_left g src q ≡ [] → (r : Option CodePoint) → MadeIs n x r → DigitsAre (name_left g src p) r
 unfolding every hex_value
-made-digits {g} {src} {p} {n = n} v e (Char c) m =
+made-digits {g} {src} {p} {n = n} v e (Some c) m =
     let l : length (name_left g src p) ≡ n = v.long ∙ rw e (omega arith) in
     record { shaped = rw (l, m.0, v.hex, e); value = m.1 ∙ sym (v.value ∙ rw e) }
-made-digits {g} {src} {p} {n = n} v e Other m =
+made-digits {g} {src} {p} {n = n} v e None m =
     let l : length (name_left g src p) ≡ n = v.long ∙ rw e (omega arith) in
     rw (l, m)
 
-module _ {g : Signs} {src : List ℕ} {p q : Spot} {n x : ℕ} {s : NameStep} (v : Coding g src p q n x) (w : NameStepIs g src q s) where
-  pub coding-close : {y : Spot} → s ≡ Close y → (r : Code) → MadeIs n x r → DigitsAre (name_left g src p) r
-  coding-close e r m = made-digits v (step-close g src q w e) r m
+module _ {g : Signs} {src : List ℕ} {p q : Spot} {n x : ℕ} {s : Option (ℕ × Spot)} (v : Coding g src p q n x) (w : ByteIs g src q s) where
+  pub coding-end : s ≡ None → (r : Option CodePoint) → MadeIs n x r → DigitsAre (name_left g src p) r
+  coding-end e r m = made-digits v (subst (ByteIs g src q) e w) r m
 
-  pub coding-open : s ≡ Open → (r : Code) → MadeIs n x r → DigitsAre (name_left g src p) r
-  coding-open e r m = made-digits v (step-open g src q w e) r m
-
-  module _ {b : ℕ} {y : Spot} (e : s ≡ Byte b y) where
+  module _ {b : ℕ} {y : Spot} (e : s ≡ Some (b, y)) where
     on : NameByte g src q b y
-    on = step-byte g src q w e
+    on = subst (ByteIs g src q) e w
 
     one_more : length (name_left g src q) ≡ suc (length (name_left g src y))
     one_more = rw on.bytes
-
-    pub coding-long : 8 ≤ n → are_digits (name_left g src p) ≡ false
-    coding-long h =
-        let a = v.long in
-        let o = one_more in
-        let k = length (name_left g src p) in
-        simp (ne_eqb k 4 (λ z. omega arith), ne_eqb k 8 (λ z. omega arith))
 
     module _ {d : ℕ} (i : d ≡ hex_of b) where
       pub coding-other : 16 ≤ d → are_digits (name_left g src p) ≡ false
@@ -154,24 +138,17 @@ shaped : (ds : List ℕ) → char_shaped (85 ∷ ds) ≡ are_digits ds
 unfolding char_shaped
 shaped ds = refl
 
-module _ (g : Signs) (src : List ℕ) (p : Spot) {s : NameStep} (w : NameStepIs g src p s) where
-  pub char-close : {y : Spot} → s ≡ Close y → char_shaped (name_left g src p) ≡ false
+module _ (g : Signs) (src : List ℕ) (p : Spot) where
+  pub char-end : name_left g src p ≡ [] → char_shaped (name_left g src p) ≡ false
   unfolding char_shaped
-  char-close e = rw (step-close g src p w e)
+  char-end e = rw e
 
-  pub char-open : s ≡ Open → char_shaped (name_left g src p) ≡ false
-  unfolding char_shaped
-  char-open e = rw (step-open g src p w e)
-
-  module _ {b : ℕ} {y : Spot} (e : s ≡ Byte b y) where
-    at : NameByte g src p b y
-    at = step-byte g src p w e
-
+  module _ {b : ℕ} {y : Spot} (at : NameByte g src p b y) where
     pub char-other : (b ≡ 85 → ⊥) → char_shaped (name_left g src p) ≡ false
     unfolding char_shaped
     char-other h = rw at.bytes (simp (ne_eqb b 85 h))
 
-    pub char-digits : b ≡ 85 → (r : Code) → DigitsAre (name_left g src y) r → CodeIs (name_left g src p) r
+    pub char-digits : b ≡ 85 → (r : Option CodePoint) → DigitsAre (name_left g src y) r → CodeIs (name_left g src p) r
     unfolding code_of
-    char-digits h (Char c) d = record { shaped = rw (at.bytes, h, shaped (name_left g src y)) d.shaped; code = rw at.bytes d.value }
-    char-digits h Other d = rw (at.bytes, h, shaped (name_left g src y)) d
+    char-digits h (Some c) d = record { shaped = rw (at.bytes, h, shaped (name_left g src y)) d.shaped; code = rw at.bytes d.value }
+    char-digits h None d = rw (at.bytes, h, shaped (name_left g src y)) d

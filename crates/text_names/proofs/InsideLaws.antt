@@ -1,12 +1,12 @@
 -- Inside a name, a byte that stands is the next one of it, and `>` ends it: so it goes from place to place.
 use mathlib.Core.Path.{◌≡◌, refl, sym, ◌∙◌}
-use mathlib.Core.Bool.{Bool, true, false, not, and-true, and-false}
+use mathlib.Core.Bool.{Bool, true, false, not}
 use mathlib.Core.List.{List, [], ◌∷◌}
 use Prim.Native.Nat.{ℕ, ◌+◌, ◌-◌, ◌%◌, ◌≤◌, ◌<◌}
 use native.Mathlib.Omega.{arith}
 use lib.ListN.{length, get_or}
 use lib.Dec.{eqb, leb, ltb}
-use borrow.Author.Tests.{eq-eqb, ne_eqb, eqb-true, eqb-false, not-true, leb-true, ltb-true, lt-ltb, le-ltb}
+use borrow.Author.Tests.{ne_eqb, eqb-true, eqb-false, not-true, leb-true, ltb-true}
 use Rattle.base_lists.proofs.Bools.{by, and_left, and_right}
 use Rattle.rules.specs.Names.{is_visible}
 use Rattle.rules.specs.Lines.{after}
@@ -31,12 +31,6 @@ inside mode h f k = by (eqb mode 1) (λ t. f (eqb-true mode 1 t)) (λ t. k (eqb-
 stays : (mode b : ℕ) → is_inside mode ≡ true → (b ≡ 62 → ⊥) → mode ≡ after mode b
 stays mode b h n = inside mode h (λ e. e ∙ after-name e n) (λ e. e ∙ after-inner e n)
 
-pub stands-escape : (e b : ℕ) → b ≡ e → false ≡ stands_in e b
-stands-escape e b h = sym (rw (eq-eqb b e h) (and-false (is_visible b)))
-
-pub stands-else : (e b : ℕ) {t : Bool} → (b ≡ e → ⊥) → t ≡ is_visible b → t ≡ stands_in e b
-stands-else e b h f = f ∙ sym (rw (ne_eqb b e h) (and-true (is_visible b)))
-
 stands-visible : (e b : ℕ) → stands_in e b ≡ true → is_visible b ≡ true
 stands-visible e b h = and_left (is_visible b) (not (eqb b e)) h
 
@@ -50,14 +44,6 @@ pub stands-no-escape : (e b : ℕ) → stands_in e b ≡ true → b ≡ e → �
 stands-no-escape e b h = eqb-false b e (not-true (eqb b e) (and_right (is_visible b) (not (eqb b e)) h))
 
 -- a place
-
-pub place-stands : (e : ℕ) (src : List ℕ) (at : ℕ) {t : Bool} → at < length src → t ≡ stands_in e (get_or src at 0) → t ≡ stands_at e src at
-unfolding stands_at
-place-stands e src at h f = f ∙ sym (rw (lt-ltb at (length src) h))
-
-pub place_none : (e : ℕ) (src : List ℕ) (at : ℕ) → length src ≤ at → false ≡ stands_at e src at
-unfolding stands_at
-place_none e src at h = sym (rw (le-ltb at (length src) h))
 
 module _ (e : ℕ) (src : List ℕ) (at : ℕ) (h : stands_at e src at ≡ true) where
   pub place-within : at < length src

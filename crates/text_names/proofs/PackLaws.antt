@@ -1,6 +1,7 @@
 -- A name in its numbers: what the numbers tell of the name, a byte more, and the turns of the loops.
+use Rattle.std.specs.Prelude.{None, Option, Some}
 use mathlib.Core.Path.{◌≡◌, refl, sym, ap, ◌∙◌, subst}
-use mathlib.Core.Bool.{Bool, true, false, ◌&&◌}
+use mathlib.Core.Bool.{Bool, true, false, ◌&&◌, not}
 use mathlib.Core.List.{List, [], ◌∷◌, ◌++◌, append_assoc, append-nil}
 use Prim.Native.Nat.{ℕ, ◌+◌, ◌-◌, ◌*◌, ◌/◌, ◌%◌, ◌^◌, ◌≤◌, ◌<◌}
 use native.Mathlib.Omega.{arith}
@@ -9,23 +10,20 @@ use lib.Seq.{ext_get_or, get_or_at, get_or-set_same, get_or-set_other}
 use lib.Dec.{leb, eqb, ltb}
 use mir.Syntax.{w32}
 use mir.Val.{Fits}
-use borrow.Author.Tests.{leb-true, leb-false, le-leb, eqb-true, eqb-false, ltb-true, ltb-false}
+use borrow.Author.Tests.{leb-true, leb-false, le-leb, eqb-true, eqb-false, ltb-true, ltb-false, not-true}
 use Rattle.base_lists.proofs.Bools.{by, clash, and_left, and_right, and_intro}
 use Rattle.rules.specs.Text.{every, ◌unless◌}
 use Rattle.rules.specs.Names.{is_visible, name_refusal}
 use Rattle.rules.proofs.TextLaws.{every_append, every-both, every-at, lower-none}
 use Rattle.text_lines.specs.declared.Signs.{Signs}
 use Rattle.text_lines.specs.declared.Spot.{Spot}
-use Rattle.text_tokens.specs.declared.NameStep.{NameStep}
-use Rattle.text_tokens.specs.declared.NameStep.TheVariants.{Byte, Close, Open}
 use Rattle.text_lines.proofs.LineLaws.{spot}
-use Rattle.text_tokens.specs.Left.{is_inside, NameByte, NameStepIs}
+use Rattle.text_tokens.specs.Left.{is_inside, NameByte}
 use Rattle.text_names.specs.declared.Pack.{Pack}
-use Rattle.text_names.specs.Named.{name_left, hash_from}
+use Rattle.text_names.specs.Named.{ByteIs, name_left, hash_from}
 use Rattle.text_names.specs.Shape.{stands_in, stands_at}
 use Rattle.text_names.specs.Packed.{quad, packed, is_plain, PackedIs, Counted, Begun, PutIs, PackedOn}
 use Rattle.text_names.proofs.InsideLaws.{place-within, place_is, byte_inside, close-inside}
-use Rattle.text_names.proofs.CompareLaws.{step-byte, step-close, step-open}
 
 -- by cases of a number below four
 fours : (P : ℕ → Type 0) → P 0 → P 1 → P 2 → P 3 → (k : ℕ) → k < 4 → P k
@@ -239,12 +237,6 @@ module _ (n : List ℕ) (b : ℕ) where
 
 -- ## What a byte adds
 
-pub placed_first : {x b k : ℕ} → x ≡ b → x < 256 → k ≡ 0 → (x ≡ b * 256 ^ k) × (b < 256)
-placed_first e l z = (rw z (omega arith), omega arith)
-
-pub placed_on : (w d : ℕ) → 256 ^ d ≡ w → {x b k : ℕ} → x ≡ b → x < 256 → k ≡ d → (x * w ≡ b * 256 ^ k) × (b < 256)
-placed_on w d f e l z = (rw (z, f, e), omega arith)
-
 -- above what stands before it in its number there is room for a byte
 quad-below : (n : List ℕ) → is_plain n ≡ true → (i k : ℕ) → k < 4 → length n ≡ 4 * i + k → quad n i < 256 ^ k
 unfolding quad
@@ -304,8 +296,8 @@ module _ (key : List ℕ) (m b : ℕ) where
   put-none : (done : List ℕ) → Counted done key m → is_plain (done ++ b ∷ []) ≡ false → Counted (done ++ b ∷ []) key 33
   put-none done v f = record { packs = record { plain = sym f; long = v.packs.long; numbers = λ z. clash z f }; many = λ z. absurd (omega arith) }
 
-  pub put-foul : {t : Bool} → t ≡ is_visible b → t ≡ false → PutIs key m b key 33
-  put-foul e f done v = put-none done v (by (is_plain (done ++ b ∷ [])) (λ z. clash (last-seen done b z) (sym e ∙ f)) (λ z. z))
+  pub put-foul : {t : Bool} → t ≡ is_visible b → not t ≡ true → PutIs key m b key 33
+  put-foul e f done v = put-none done v (by (is_plain (done ++ b ∷ [])) (λ z. clash (last-seen done b z) (sym e ∙ not-true _ f)) (λ z. z))
 
   pub put-long : 32 ≤ m → PutIs key m b key 33
   put-long h done v =
@@ -366,16 +358,13 @@ module _ {g : Signs} {src : List ℕ} {p q : Spot} {key now : List ℕ} {before 
   packing-end e =
       packing-rest (record { hash = rw e; small = v.small; packs = λ done k. rw (e, append-nil done) k.packs })
 
-  module _ {s : NameStep} (w : NameStepIs g src q s) where
-    pub packing-close : {r : Spot} → s ≡ Close r → PackedOn (name_left g src p) key before passed now (record { hash = h; plain = leb m 32 })
-    packing-close e = packing-end (step-close g src q w e)
+  module _ {s : Option (ℕ × Spot)} (w : ByteIs g src q s) where
+    pub packing-close : s ≡ None → PackedOn (name_left g src p) key before passed now (record { hash = h; plain = leb m 32 })
+    packing-close e = packing-end (subst (ByteIs g src q) e w)
 
-    pub packing-open : s ≡ Open → PackedOn (name_left g src p) key before passed now (record { hash = h; plain = leb m 32 })
-    packing-open e = packing-end (step-open g src q w e)
-
-    pub packing-more : {b i j : ℕ} {r : Spot} {after : List ℕ} → s ≡ Byte b r → PutIs now m b after j
+    pub packing-more : {b i j : ℕ} {r : Spot} {after : List ℕ} → s ≡ Some (b, r) → PutIs now m b after j
         → (i ≡ (h * 10368889 + b) % 16777216) × (i < 16777216) → Packing g src p r key after before i passed j
-    packing-more {b} {r = r} e f k = let y : NameByte g src q b r = step-byte g src q w e in packing-on y.bytes y.to f k
+    packing-more {b} {r = r} e f k = let y : NameByte g src q b r = subst (ByteIs g src q) e w in packing-on y.bytes y.to f k
 
 -- ## A whole name
 

@@ -1,13 +1,13 @@
 -- The shape of a name as six bytes tell it: the answers of the code that looks at them, and what they mean for the name.
 use mathlib.Core.Path.{◌≡◌, refl, sym, ◌∙◌}
-use mathlib.Core.Bool.{Bool, true, false, cond, ◌&&◌, ◌||◌, and-false, or-true}
+use mathlib.Core.Bool.{Bool, true, false, cond, ◌&&◌, ◌||◌, and-false, or-true, not}
 use mathlib.Core.List.{List, [], ◌∷◌}
 use Prim.Native.Nat.{ℕ, ◌+◌, ◌-◌, ◌*◌, ◌/◌, ◌≤◌, ◌<◌}
 use native.Mathlib.Omega.{arith}
 use lib.ListN.{length, get_or, drop, length-drop}
 use lib.Seq.{get_or-drop}
 use lib.Dec.{leb, eqb}
-use borrow.Author.Tests.{ne_eqb, eqb-true, eqb-false, le-leb, lt-leb, leb-true, not-true}
+use borrow.Author.Tests.{ne_eqb, eqb-true, eqb-false, le-leb, lt-leb, leb-true, not-true, not-false}
 use Rattle.base_lists.proofs.Bools.{by, clash, and_left, and_right, and_intro}
 use Rattle.rules.specs.Text.{within, every}
 use Rattle.rules.proofs.TextLaws.{every-at}
@@ -16,12 +16,11 @@ use Rattle.text_lines.specs.declared.Signs.{Signs}
 use Rattle.text_lines.specs.declared.Spot.{Spot}
 use Rattle.text_lines.proofs.LineLaws.{spot}
 use Rattle.text_tokens.specs.Left.{is_inside}
-use Rattle.text_names.specs.declared.Code.{Code}
-use Rattle.text_names.specs.declared.Code.TheVariants.{Char, Other}
-use Rattle.text_names.specs.Named.{name_left, hex_of, MadeIs, CharIs, CodeIs}
+use Rattle.text_names.specs.Named.{name_left, hex_of, CharIs}
 use Rattle.text_names.specs.Shape.{stands_in, is_apart, short_of, shape_of}
 use Rattle.text_names.proofs.CodeLaws.{hex-yes, digit-small}
 use Rattle.text_names.proofs.InsideLaws.{byte_inside, close-inside}
+use Rattle.base_units.specs.declared.CodePoint.{CodePoint}
 
 -- ## Four digits and `>`
 
@@ -59,24 +58,6 @@ module _ (a b c d e w x y z : ℕ) (p : w ≡ hex_of a) (q : x ≡ hex_of b) (r 
 -- ## The escape
 
 module _ (e : ℕ) where
-  pub apart_low : e < 48 → true ≡ is_apart e
-  apart_low h = sym (simp (lt-leb 48 e h, lt-leb 65 e (omega arith), ne_eqb e 62 (λ z. omega arith)))
-
-  pub apart-figure : 48 ≤ e → e < 58 → false ≡ is_apart e
-  apart-figure h k = sym (simp (le-leb 48 e h, le-leb e 57 (omega arith)))
-
-  pub apart-close : e ≡ 62 → false ≡ is_apart e
-  apart-close h = sym (rw h)
-
-  pub apart-sign : 58 ≤ e → (e ≡ 62 → ⊥) → e < 65 → true ≡ is_apart e
-  apart-sign h n k = sym (simp (le-leb 48 e (omega arith), lt-leb e 57 (omega arith), lt-leb 65 e k, ne_eqb e 62 n))
-
-  pub apart-letter : 65 ≤ e → e < 91 → false ≡ is_apart e
-  apart-letter h k = sym (rw (le-leb 65 e h, le-leb e 90 (omega arith), or-true (within 48 57 e)))
-
-  pub apart-high : 91 ≤ e → true ≡ is_apart e
-  apart-high h = sym (simp (lt-leb e 57 (omega arith), lt-leb e 90 (omega arith), ne_eqb e 62 (λ z. omega arith), and-false))
-
   -- a byte that such an escape cannot be stands
   stands-apart : is_apart e ≡ true → (b : ℕ) → is_visible b ≡ true → (within 48 57 b || within 65 90 b || eqb b 62) ≡ true → stands_in e b ≡ true
   stands-apart h b v k =
@@ -101,11 +82,11 @@ module _ (e : ℕ) where
 -- ## What is looked at
 
 module _ (e : ℕ) (src : List ℕ) (at : ℕ) {t : Bool} (a : t ≡ is_apart e) where
-  pub shape-escape : t ≡ false → 0 ≡ shape_of e (drop at src)
+  pub shape-escape : not t ≡ true → 0 ≡ shape_of e (drop at src)
   unfolding shape_of
-  shape-escape f = sym (rw (sym a ∙ f))
+  shape-escape f = sym (rw (sym a ∙ not-true t f))
 
-  module _ (f : t ≡ true) where
+  module _ (f : not t ≡ false) where
     pub shape-few : length src - at < 6 → 0 ≡ shape_of e (drop at src)
     unfolding shape_of
     shape-few h = sym (rw (length-drop at src, lt-leb 6 (length src - at) h, and-false (is_apart e)))
@@ -118,7 +99,7 @@ module _ (e : ℕ) (src : List ℕ) (at : ℕ) {t : Bool} (a : t ≡ is_apart e)
       looked =
           let z : at + 0 ≡ at = omega arith in
           rw (
-            sym a ∙ f,
+            sym a ∙ not-false t f,
             length-drop at src,
             le-leb 6 (length src - at) l,
             get_or-drop at src 0 0,
@@ -262,10 +243,8 @@ module _ (g : Signs) (src : List ℕ) (p : Spot) (i : is_inside p.mode ≡ true)
       (λ t. rw (close-inside g src p (omega arith) i s (eqb-true (get_or src at 0) 62 t)))
       (λ t. rw (byte_inside g src p (omega arith) i s (eqb-false (get_or src at 0) 62 t), ne_eqb (get_or src at 0) 85 n))
 
-  module _ {x : ℕ} (e : x ≡ shape_of g.escape (drop p.at src)) where
-    pub inside-other : x ≡ 1 → char_shaped (name_left g src p) ≡ false
-    inside-other h = shape-name (sym e ∙ h)
+  pub inside-other : 1 ≡ shape_of g.escape (drop p.at src) → char_shaped (name_left g src p) ≡ false
+  inside-other e = shape-name (sym e)
 
-    pub inside-char : (x ≡ 0 → ⊥) → (x ≡ 1 → ⊥) → (r : Code) → MadeIs 4 (x - 2) r → CodeIs (name_left g src p) r
-    inside-char h k (Char c) m = let y = m.1 in shape-char c.0 (sym e ∙ omega arith)
-    inside-char h k Other m = clash refl m
+  pub inside-code : (c : CodePoint) → c.0 + 2 ≡ shape_of g.escape (drop p.at src) → CharIs (name_left g src p) c.0
+  inside-code c e = shape-char c.0 (sym e)

@@ -1,16 +1,14 @@
 -- The names in quotes: the turns of the loop.
-use mathlib.Core.Path.{◌≡◌, refl, ◌∙◌, subst}
+use Rattle.std.specs.Prelude.{ℕ}
+use mathlib.Core.Path.{◌≡◌, ◌∙◌}
 use mathlib.Core.List.{List, []}
-use Prim.Native.Nat.{ℕ, ◌-◌, ◌≤◌, ◌<◌}
-use native.Mathlib.Omega.{arith}
+use Prim.Native.Nat.{ℕ, ◌≤◌}
 use lib.ListN.{length}
 use borrow.Author.Tests.{ne_eqb}
 use Rattle.rules.specs.Lines.{quoted, after}
 use Rattle.text_lines.specs.declared.Signs.{Signs}
 use Rattle.text_lines.specs.declared.Spot.{Spot}
-use Rattle.text_lines.specs.declared.Step.{Step}
-use Rattle.text_lines.specs.declared.Step.TheVariants as step
-use Rattle.text_lines.specs.Stream.{marks_left, MarkIs, StepIs}
+use Rattle.text_lines.specs.Stream.{marks_left, MarkIs}
 use Rattle.text_tokens.specs.Left.{names_from, names_in}
 use Rattle.text_tokens.proofs.TokenLaws.{names_in-close, names_in-name}
 use Rattle.text_names.specs.Named.{NameAt}
@@ -21,18 +19,12 @@ pub record Nameless (g : Signs) (src : List ℕ) (p q : Spot) : Type 0 where
   pub mode : p.mode ≡ quoted → q.mode ≡ quoted
   pub to : q.at ≤ length src
 
-pub nameless-none : (g : Signs) (src : List ℕ) (p : Spot) → p.at ≤ length src → Nameless g src p p
-nameless-none g src p h = record { rest = refl; mode = λ e. e; to = h }
-
-module _ {g : Signs} {src : List ℕ} {p q : Spot} {s : Step} (v : Nameless g src p q) (w : StepIs g src q s) where
-  pub nameless-end : s ≡ step.End → names_in (marks_left g src p) ≡ []
+module _ {g : Signs} {src : List ℕ} {p q : Spot} (v : Nameless g src p q) where
+  pub nameless-end : marks_left g src q ≡ [] → names_in (marks_left g src p) ≡ []
   unfolding names_from
-  nameless-end e = let n : marks_left g src q ≡ [] = subst (StepIs g src q) e w in v.rest ∙ rw n
+  nameless-end n = v.rest ∙ rw n
 
-  module _ {m : ℕ} {r : Spot} (e : s ≡ step.Mark m r) where
-    mark : MarkIs g src q m r
-    mark = subst (StepIs g src q) e w
-
+  module _ {m : ℕ} {r : Spot} (mark : MarkIs g src q m r) where
     pub nameless-close : m ≡ 34 → names_in (marks_left g src p) ≡ []
     nameless-close h = v.rest ∙ rw (mark.marks, names_in-close m (marks_left g src r) h)
 
@@ -53,6 +45,3 @@ module _ {g : Signs} {src : List ℕ} {p q : Spot} {s : Step} (v : Nameless g sr
           mode = λ z. mark.step.mode ∙ rw (v.mode z) (simp (ne_eqb m 34 h, ne_eqb m 60 k));
           to = mark.to;
         }
-
-    pub nameless-less : length src - r.at < length src - q.at
-    nameless-less = let x = mark.on in let y = mark.to in omega arith

@@ -1,20 +1,22 @@
 -- What is told of the name at a spot right after its `<`: its bytes are name_in of the marks still to come (Rattle.text_tokens.specs.Left).
-use Rattle.std.specs.Prelude.{◌≡◌, Bool, true, false, ◌&&◌, ◌||◌, List, [], ◌∷◌, ℕ, ◌+◌, ◌*◌, ◌%◌, ◌≤◌, length, eqb, if◌then◌else◌}
+use Rattle.std.specs.Prelude.{◌≡◌, Bool, true, false, ◌&&◌, ◌||◌, List, [], ◌∷◌, ℕ, ◌+◌, ◌*◌, ◌%◌, ◌≤◌, length, eqb, if◌then◌else◌, None, Option, Some}
 use Rattle.rules.specs.Text.{every}
 use Rattle.rules.specs.Names.{is_hex, digit, hex_value, char_shaped, code_of}
 use Rattle.rules.specs.Lines.{quoted, quoted_name}
 use Rattle.text_lines.specs.declared.Signs.{Signs}
 use Rattle.text_lines.specs.declared.Spot.{Spot}
 use Rattle.text_lines.specs.Stream.{marks_left}
-use Rattle.text_tokens.specs.Left.{name_in, after_name, names_in}
-use Rattle.text_names.specs.declared.Code.{Code}
-use Rattle.text_names.specs.declared.Code.TheVariants.{Char, Other}
-use Rattle.text_names.specs.declared.Named.{Named}
-use Rattle.text_names.specs.declared.Named.TheVariants.{Name, Close}
+use Rattle.text_tokens.specs.Left.{name_in, after_name, names_in, NameByte}
+use Rattle.base_units.specs.declared.CodePoint.{CodePoint}
 
 -- the bytes of the name at a spot
 abbrev pub name_left : Signs → List ℕ → Spot → List ℕ
 name_left g src p = name_in (marks_left g src p)
+
+-- the next byte of a name; or that none is left
+abbrev pub ByteIs : Signs → List ℕ → Spot → Option (ℕ × Spot) → Type 0
+ByteIs g src p (Some (b, q)) = NameByte g src p b q
+ByteIs g src p None = name_left g src p ≡ []
 
 -- ## Characters
 
@@ -31,27 +33,27 @@ abbrev pub are_digits : List ℕ → Bool
 are_digits ds = is_many (length ds) && every is_hex ds
 
 -- n digits that make x, as a code
-abbrev pub MadeIs : ℕ → ℕ → Code → Type 0
-MadeIs n x (Char c) = (is_many n ≡ true) × (c.0 ≡ x)
-MadeIs n x Other = is_many n ≡ false
+abbrev pub MadeIs : ℕ → ℕ → Option CodePoint → Type 0
+MadeIs n x (Some c) = (is_many n ≡ true) × (c.0 ≡ x)
+MadeIs n x None = is_many n ≡ false
 
 -- Digits that make a character, and their number.
 pub record Digits (ds : List ℕ) (c : ℕ) : Type 0 where
   pub shaped : are_digits ds ≡ true
   pub value : c ≡ hex_value 0 ds
 
-abbrev pub DigitsAre : List ℕ → Code → Type 0
-DigitsAre ds (Char c) = Digits ds c.0
-DigitsAre ds Other = are_digits ds ≡ false
+abbrev pub DigitsAre : List ℕ → Option CodePoint → Type 0
+DigitsAre ds (Some c) = Digits ds c.0
+DigitsAre ds None = are_digits ds ≡ false
 
 -- A name that is shaped as a character, and its code.
 pub record CharIs (n : List ℕ) (c : ℕ) : Type 0 where
   pub shaped : char_shaped n ≡ true
   pub code : c ≡ code_of n
 
-abbrev pub CodeIs : List ℕ → Code → Type 0
-CodeIs n (Char c) = CharIs n c.0
-CodeIs n Other = char_shaped n ≡ false
+abbrev pub CodeIs : List ℕ → Option CodePoint → Type 0
+CodeIs n (Some c) = CharIs n c.0
+CodeIs n None = char_shaped n ≡ false
 
 -- ## A number for each name, the same for the same name
 
@@ -72,6 +74,6 @@ pub record NameAt (g : Signs) (src : List ℕ) (p q : Spot) : Type 0 where
   pub mode : p.mode ≡ quoted → q.mode ≡ quoted_name
   pub to : q.at ≤ length src
 
-abbrev pub NamedIs : Signs → List ℕ → Spot → Named → Type 0
-NamedIs g src p (Name q) = NameAt g src p q
-NamedIs g src p Close = names_in (marks_left g src p) ≡ []
+abbrev pub NamedIs : Signs → List ℕ → Spot → Option Spot → Type 0
+NamedIs g src p (Some q) = NameAt g src p q
+NamedIs g src p None = names_in (marks_left g src p) ≡ []

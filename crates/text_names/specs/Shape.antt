@@ -2,6 +2,14 @@
 use Rattle.std.specs.Prelude.{Bool, not, ◌&&◌, ◌||◌, List, [], ◌∷◌, ℕ, ◌+◌, length, get_or, ltb, leb, eqb, if◌then◌else◌}
 use Rattle.rules.specs.Text.{within, every}
 use Rattle.rules.specs.Names.{is_visible, is_hex, hex_value}
+use Rattle.text_names.specs.declared.Shape.{Shape}
+use Rattle.text_names.specs.declared.Shape.TheVariants.{Unclear, Other, Code}
+
+-- a shape's number
+abbrev pub number_of_shape : Shape → ℕ
+number_of_shape Unclear = 0
+number_of_shape Other = 1
+number_of_shape (Code n) = n + 2
 
 -- a byte of a name that is meant as it stands: visible, and no escape
 abbrev pub stands_in : ℕ → ℕ → Bool

@@ -6,9 +6,9 @@ use Prim.Native.Nat.{ℕ, ◌-◌, ◌≤◌, ◌<◌}
 use native.Mathlib.Omega.{arith}
 use lib.ListN.{length}
 use lib.Dec.{eqb, leb}
-use borrow.Author.Tests.{eqb-false}
+use borrow.Author.Tests.{eqb-false, lt-leb}
 use Rattle.rules.specs.Lines.{in_plain}
-use Rattle.rules.specs.Tokens.{gap, broken, word, Token, token, single, token_at, no_part, tokens_from, without_blanks, operands, tokens_refusal}
+use Rattle.rules.specs.Tokens.{gap, broken, Token, token, token_at, no_part, tokens_from, without_blanks, operands, tokens_refusal}
 use Rattle.text_lines.specs.declared.Signs.{Signs}
 use Rattle.text_lines.specs.declared.Spot.{Spot}
 use Rattle.text_lines.specs.Stream.{marks_left, blank_first}
@@ -23,8 +23,7 @@ use Rattle.text_operands.specs.declared.Operand.{Operand}
 use Rattle.text_operands.specs.declared.Operand.TheVariants as operand
 use Rattle.text_operands.specs.declared.After.{After}
 use Rattle.text_operands.specs.declared.After.TheVariants as after
-use Rattle.text_operands.specs.declared.One.{One}
-use Rattle.text_operands.specs.Operand.{operands_left, OperandAt, OperandIs, OperandsFrom, AfterIs, OneIs}
+use Rattle.text_operands.specs.Operand.{operands_left, OperandAt, OperandIs, OperandsFrom, AfterIs}
 use Rattle.text_operands.proofs.ListLaws.{blankless, opening-kind, operands-solid, operands-blank, operands-none, none-refused, some, none-broken, some-kept}
 use Rattle.text_operands.proofs.BlankLaws.{skips-past}
 use Rattle.text_operands.proofs.NextLaws.{past-free}
@@ -71,50 +70,16 @@ module _ (g : Signs) (src : List ℕ) (p : Spot) where
 -- ## What the answers say
 
 module _ (g : Signs) (src : List ℕ) (p : Spot) {a : After} (v : AfterIs g src p a) where
-  module _ (e : a ≡ after.None) where
-    none : operands (tokens_left g src p) ≡ []
-    none = subst (AfterIs g src p) e v
+  pub refusal-none : a ≡ after.None → 0 ≡ tokens_refusal (operands (tokens_left g src p))
+  refusal-none e = let none : operands (tokens_left g src p) ≡ [] = subst (AfterIs g src p) e v in sym (ap tokens_refusal none ∙ none-refused)
 
-    pub refusal-none : 0 ≡ tokens_refusal (operands (tokens_left g src p))
-    refusal-none = sym (ap tokens_refusal none ∙ none-refused)
+  pub refusal-malformed : a ≡ after.Broken → 3 ≡ tokens_refusal (operands (tokens_left g src p))
+  refusal-malformed e =
+      let malformed : operands (tokens_left g src p) ≡ token broken [] [] ∷ [] = subst (AfterIs g src p) e v in
+      sym (ap tokens_refusal malformed ∙ refusal-broken (token broken [] []) [] refl)
 
-    pub empty-none : true ≡ eqb (length (operands (tokens_left g src p))) 0
-    empty-none = rw none
-
-    pub single-none : (k : ℕ) → single k (operands (tokens_left g src p)) ≡ false
-    single-none k = rw none
-
-  module _ (e : a ≡ after.Broken) where
-    malformed : operands (tokens_left g src p) ≡ token broken [] [] ∷ []
-    malformed = subst (AfterIs g src p) e v
-
-    pub refusal-malformed : 3 ≡ tokens_refusal (operands (tokens_left g src p))
-    refusal-malformed = sym (ap tokens_refusal malformed ∙ refusal-broken (token broken [] []) [] refl)
-
-    pub empty-malformed : false ≡ eqb (length (operands (tokens_left g src p))) 0
-    empty-malformed = rw malformed
-
-    pub word-malformed : single word (operands (tokens_left g src p)) ≡ false
-    word-malformed = rw malformed
-
-  module _ {x : Spot} (e : a ≡ after.Operands x) where
-    from : OperandsFrom g src p x
-    from = subst (AfterIs g src p) e v
-
-    pub after-plain : (x.at ≤ length src) × (x.mode ≡ in_plain)
-    after-plain = (from.to, from.mode)
-
-    pub after-fresh : (x.at ≤ length src) × (x.mode ≡ in_plain) × (x.fresh ≡ true)
-    after-fresh = (from.to, from.mode, from.fresh)
-
-    pub refusal-from : {r : ℕ} → r ≡ tokens_refusal (operands_left g src false x) → r ≡ tokens_refusal (operands (tokens_left g src p))
-    refusal-from h = h ∙ sym (ap tokens_refusal from.operands)
-
-    pub empty-from : {r : Bool} → r ≡ eqb (length (operands_left g src false x)) 0 → r ≡ eqb (length (operands (tokens_left g src p))) 0
-    empty-from h = h ∙ sym (ap (λ (ts : List Token). eqb (length ts) 0) from.operands)
-
-    pub word-from : (r : One) → OneIs g src (operands_left g src false x) r → OneIs g src (operands (tokens_left g src p)) r
-    word-from r h = subst (λ (ts : List Token). OneIs g src ts r) (sym from.operands) h
+  pub after-plain : {x : Spot} → a ≡ after.Operands x → (x.at ≤ length src) × (x.mode ≡ in_plain)
+  after-plain {x} e = let from : OperandsFrom g src p x = subst (AfterIs g src p) e v in (from.to, from.mode)
 
 -- ## What the next operand says
 
@@ -131,20 +96,19 @@ module _ (g : Signs) (src : List ℕ) (glued : Bool) (p : Spot) {o : Operand} (v
     pub next-less : length src - t.next.at < length src - p.at
     next-less = let x = at.from in let y = at.token.on in let z = at.token.to in omega arith
 
-  pub left-some : {q : Spot} {t : Tok} → o ≡ operand.Token q t → false ≡ eqb (length (operands_left g src glued p)) 0
-  left-some {q} {t} e = let z : OperandAt g src glued p q t = subst (OperandIs g src glued p) e v in
-      sym (ap (λ (ts : List Token). eqb (length ts) 0) z.first ∙ some (token_there g src q) (operands_left g src (leb broken t.kind) t.next))
-
-  pub left-broken : o ≡ operand.Broken → false ≡ eqb (length (operands_left g src glued p)) 0
-  left-broken e = sym (none-broken (operands_left g src glued p) (subst (OperandIs g src glued p) e v))
-
-  pub left-none : o ≡ operand.End → true ≡ eqb (length (operands_left g src glued p)) 0
-  left-none e = let z : operands_left g src glued p ≡ [] = subst (OperandIs g src glued p) e v in rw z
+-- an operand is still to come, or one that is malformed
+pub left-any : (g : Signs) (src : List ℕ) (glued : Bool) (p : Spot) (o : Operand) → OperandIs g src glued p o → (o ≡ operand.End → ⊥)
+    → false ≡ eqb (length (operands_left g src glued p)) 0
+left-any g src glued p (operand.Token q t) v h =
+    sym (ap (λ (ts : List Token). eqb (length ts) 0) v.first ∙ some (token_there g src q) (operands_left g src (leb broken t.kind) t.next))
+left-any g src glued p operand.Broken v h = sym (none-broken (operands_left g src glued p) v)
+left-any g src glued p operand.End v h = absurd (h refl)
 
 -- a visible byte is not the end
 pub left-solid : (g : Signs) (src : List ℕ) (glued : Bool) (p : Spot) → p.mode ≡ in_plain → {b : ℕ} → PlainAt g src p.at b → 32 < b
-    → false ≡ eqb (length (operands_left g src glued p)) 0
+    → leb b 32 ≡ eqb (length (operands_left g src glued p)) 0
 unfolding operands_left tokens_left
 left-solid g src glued p o {b} v l =
     let m = ahead-solid g src p o v l in
-    sym (rw m.marks (some-kept glued (kept-first b (marks_left g src _) (sym m.step.fresh))))
+    lt-leb b 32 l
+    ∙ sym (rw m.marks (some-kept glued (kept-first b (marks_left g src _) (sym m.step.fresh))))

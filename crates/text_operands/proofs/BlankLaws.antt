@@ -1,12 +1,13 @@
 -- Blanks: they are text; what was read past them, and that a comment may open after it.
-use mathlib.Core.Path.{◌≡◌, refl, sym, ap, ◌∙◌, subst}
+use Rattle.std.specs.Prelude.{ℕ}
+use mathlib.Core.Path.{◌≡◌, refl, sym, ap, ◌∙◌}
 use mathlib.Core.Bool.{Bool, true, false, false≢true}
 use mathlib.Core.List.{List, [], ◌∷◌, ◌++◌}
 use Prim.Native.Nat.{ℕ, ◌≤◌, ◌<◌}
 use native.Mathlib.Omega.{arith}
 use lib.ListN.{length, length-append}
 use lib.Dec.{eqb}
-use borrow.Author.Tests.{ne_eqb, eqb-true}
+use borrow.Author.Tests.{eq-eqb, eqb-true}
 use Rattle.base_lists.proofs.Bools.{by, and_intro}
 use Rattle.rules.specs.Text.{every}
 use Rattle.rules.specs.Names.{is_blank}
@@ -14,36 +15,20 @@ use Rattle.rules.specs.Lines.{in_plain}
 use Rattle.rules.specs.Tokens.{is_text, without_blanks}
 use Rattle.text_lines.specs.declared.Signs.{Signs}
 use Rattle.text_lines.specs.declared.Spot.{Spot}
-use Rattle.text_lines.specs.declared.Step.{Step}
-use Rattle.text_lines.specs.declared.Step.TheVariants as step
-use Rattle.text_lines.specs.Stream.{marks_left, blank_first, fresh_through, MarkIs, StepIs}
+use Rattle.text_lines.specs.Stream.{marks_left, blank_first, fresh_through}
 use Rattle.text_lines.proofs.LineLaws.{run-marks}
 use Rattle.text_tokens.specs.Left.{PlainAt, Skips}
 use Rattle.text_tokens.proofs.AheadLaws.{ahead-solid, ahead-space}
 
 -- ## Whether a blank comes next
 
-module _ (g : Signs) (src : List ℕ) (p : Spot) {s : Step} (v : StepIs g src p s) where
-  pub blank-end : s ≡ step.End → false ≡ blank_first (marks_left g src p)
-  blank-end e = let n : marks_left g src p ≡ [] = subst (StepIs g src p) e v in rw n
-
-  module _ {m : ℕ} {q : Spot} (e : s ≡ step.Mark m q) where
-    mark : MarkIs g src p m q
-    mark = subst (StepIs g src p) e v
-
-    pub blank-space : m ≡ 32 → true ≡ blank_first (marks_left g src p)
-    blank-space h = rw (mark.marks, h)
-
-    pub blank-other : (m ≡ 32 → ⊥) → eqb m 9 ≡ blank_first (marks_left g src p)
-    blank-other h = rw mark.marks (simp (ne_eqb m 32 h))
-
 -- the next byte tells it
 module _ (g : Signs) (src : List ℕ) (p : Spot) (o : p.mode ≡ in_plain) {b : ℕ} (v : PlainAt g src p.at b) where
   pub blank-solid : 32 < b → false ≡ blank_first (marks_left g src p)
   blank-solid l = let m = ahead-solid g src p o v l in rw m.marks m.step.fresh
 
-  pub blank-ahead : b ≡ 32 → true ≡ blank_first (marks_left g src p)
-  blank-ahead e = rw (ahead-space g src p o v e).marks
+  pub blank-ahead : b ≡ 32 → eqb b 32 ≡ blank_first (marks_left g src p)
+  blank-ahead e = let t : true ≡ blank_first (marks_left g src p) = rw (ahead-space g src p o v e).marks in eq-eqb b 32 e ∙ t
 
 -- ## Marks that hold only blanks
 

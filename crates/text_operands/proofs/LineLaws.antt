@@ -7,6 +7,7 @@ use Rattle.rules.specs.Text.{every, lower, lowest}
 use Rattle.rules.specs.Names.{names_refusal}
 use Rattle.rules.specs.Lines.{in_plain}
 use Rattle.rules.specs.Tokens.{word, Token, token_at, single, tokens_of, operands, tokens_refusal}
+use Rattle.base_units.specs.Numbers.{number_or_none}
 use Rattle.text_lines.specs.declared.Signs.{Signs}
 use Rattle.text_lines.specs.declared.Spot.{Spot}
 use Rattle.text_lines.specs.Stream.{marks_left, line_start}
@@ -47,7 +48,7 @@ module _ (g : Signs) (src : List ℕ) (p : Spot) {q : Spot} (v : Skips g src p q
 
 -- the refusal of a first token and the operands
 pub line-lowest : (g : Signs) (src : List ℕ) (q : Spot) {t : Tok} (os : List Token) → TokenIs g src q t
-    → tokens_refusal (token_there g src q ∷ os) ≡ lower t.refusal (tokens_refusal os)
+    → tokens_refusal (token_there g src q ∷ os) ≡ lower (number_or_none t.refusal) (tokens_refusal os)
 line-lowest g src q os w = tokens_refusal-cons (token_there g src q) os ∙ ap (λ (r : ℕ). lower r (tokens_refusal os)) w.refusal
 
 -- a spot where a comment may open, outside names and quotes, is that of a line's start

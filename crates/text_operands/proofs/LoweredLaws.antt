@@ -1,8 +1,11 @@
 -- The lowest refusal of the operands, one after the other.
+use Rattle.std.specs.Prelude.{Option, None}
+use Rattle.base_units.specs.declared.Refusal.{Refusal}
+use Rattle.base_units.specs.Numbers.{number_or_none}
 use mathlib.Core.Path.{◌≡◌, refl, sym, ap, ◌∙◌, subst}
 use mathlib.Core.Bool.{Bool}
-use mathlib.Core.List.{List, [], ◌∷◌, ◌++◌, append-nil, append_assoc}
-use Prim.Native.Nat.{ℕ, ◌-◌, ◌≤◌, ◌<◌}
+use mathlib.Core.List.{List, [], ◌∷◌, ◌++◌, append_assoc}
+use Prim.Native.Nat.{ℕ, ◌≤◌}
 use lib.ListN.{length}
 use lib.Dec.{leb}
 use Rattle.rules.specs.Text.{lower}
@@ -15,37 +18,28 @@ use Rattle.text_tokens.specs.Left.{token_there}
 use Rattle.text_operands.specs.declared.Operand.{Operand}
 use Rattle.text_operands.specs.declared.Operand.TheVariants as operand
 use Rattle.text_operands.specs.Operand.{operands_left, OperandAt, OperandIs}
-use Rattle.text_operands.proofs.AfterLaws.{next-less}
 use Rattle.text_operands.proofs.ListLaws.{none-refused, refusal-snoc, refusal-behind}
 
 -- Some operands are passed from p to q; `refusal` is their lowest.
-pub record Lowered (g : Signs) (src : List ℕ) (glued : Bool) (p q : Spot) (held : Bool) (refusal : ℕ) : Type 0 where
+pub record Lowered (g : Signs) (src : List ℕ) (glued : Bool) (p q : Spot) (held : Bool) (refusal : Option Refusal) : Type 0 where
   pub done : List Token
   pub whole : operands_left g src glued p ≡ done ++ operands_left g src held q
-  pub lowest : tokens_refusal done ≡ refusal
+  pub lowest : tokens_refusal done ≡ number_or_none refusal
   pub mode : q.mode ≡ in_plain
   pub to : q.at ≤ length src
 
-pub lowered_none : (g : Signs) (src : List ℕ) (glued : Bool) (p : Spot) → p.at ≤ length src → p.mode ≡ in_plain → Lowered g src glued p p glued 0
+pub lowered_none : (g : Signs) (src : List ℕ) (glued : Bool) (p : Spot) → p.at ≤ length src → p.mode ≡ in_plain → Lowered g src glued p p glued None
 lowered_none g src glued p h m = record { done = []; whole = refl; lowest = none-refused; mode = m; to = h }
 
-module _ (g : Signs) (src : List ℕ) (glued : Bool) (p q : Spot) (held : Bool) (refusal : ℕ) {o : Operand} (v : Lowered g src glued p q held refusal) (w : OperandIs g src held q o) where
+module _ (g : Signs) (src : List ℕ) (glued : Bool) (p q : Spot) (held : Bool) (refusal : Option Refusal) {o : Operand} (v : Lowered g src glued p q held refusal) (w : OperandIs g src held q o) where
   pub lowered-broken : o ≡ operand.Broken → 3 ≡ tokens_refusal (operands_left g src glued p)
   lowered-broken e = sym (ap tokens_refusal v.whole ∙ refusal-behind v.done (operands_left g src held q) (subst (OperandIs g src held q) e w))
-
-  pub lowered-end : o ≡ operand.End → refusal ≡ tokens_refusal (operands_left g src glued p)
-  lowered-end e =
-      let z : operands_left g src held q ≡ [] = subst (OperandIs g src held q) e w in
-      sym (ap tokens_refusal (v.whole ∙ ap (λ (ts : List Token). v.done ++ ts) z ∙ append-nil v.done) ∙ v.lowest)
 
   module _ {r : Spot} {t : Tok} (e : o ≡ operand.Token r t) where
     at : OperandAt g src held q r t
     at = subst (OperandIs g src held q) e w
 
-    pub lowered-less : length src - t.next.at < length src - q.at
-    lowered-less = next-less g src held q w e
-
-    pub lowered-more : {f : ℕ} → f ≡ lower refusal t.refusal → Lowered g src glued p t.next (leb 3 t.kind) f
+    pub lowered-more : {f : Option Refusal} → number_or_none f ≡ lower (number_or_none refusal) (number_or_none t.refusal) → Lowered g src glued p t.next (leb 3 t.kind) f
     lowered-more {f} k =
         let u = token_there g src r in
         record {

@@ -1,6 +1,7 @@
 -- The next operand, from the blanks before it and its token.
 use mathlib.Core.Path.{◌≡◌, refl, sym, ap, ◌∙◌, subst}
 use mathlib.Core.Bool.{Bool, true, false, not, ◌&&◌}
+use mathlib.Core.Logic.{◌⊎◌, inl, inr}
 use mathlib.Core.List.{List, [], ◌∷◌}
 use Prim.Native.Nat.{ℕ, ◌≤◌, ◌<◌}
 use native.Mathlib.Omega.{arith}
@@ -67,8 +68,8 @@ module _ (g : Signs) (src : List ℕ) (glued : Bool) (p : Spot) {apart : Bool} {
       pub operand-dead : t.kind ≡ 3 → tokens_refusal (operands_left g src glued p) ≡ 3
       operand-dead h = rw from_first (gaps-broken held (token_there g src q) (tokens_left g src t.next) (there.kind ∙ h))
 
-      pub operand-glued : 3 ≤ t.kind → apart ≡ false → glued ≡ true → tokens_refusal (operands_left g src glued p) ≡ 3
-      operand-glued h a k =
+      pub operand-glued : (3 ≤ t.kind) × (apart ≡ false) × (glued ≡ true) → tokens_refusal (operands_left g src glued p) ≡ 3
+      operand-glued (h, a, k) =
           rw from_first
           (gaps-glued held (token_there g src q) (tokens_left g src t.next) (rw (k, sym b ∙ a)) (rw there.kind (le-leb 3 t.kind h)))
 
@@ -97,10 +98,15 @@ module _ (g : Signs) (src : List ℕ) (glued : Bool) (p : Spot) {apart : Bool} {
         pub operand-separator : t.kind < 3 → OperandAt g src glued p q t
         operand-separator l = at (and_none held (rw there.kind (lt-leb 3 t.kind l))) (λ k m. absurd (omega arith))
 
-        pub operand-apart : apart ≡ true → OperandAt g src glued p q t
+        operand-apart : apart ≡ true → OperandAt g src glued p q t
         operand-apart a =
             let z : blank_first (marks_left g src p) ≡ true = sym b ∙ a in
             at (rw (and-not glued z)) (λ k m. skips-past v z)
 
         pub operand-free : glued ≡ false → OperandAt g src glued p q t
         operand-free k = at (rw k) (λ l m. clash l k)
+
+        pub operand-whole : (t.kind < 3) ⊎ (((3 ≤ t.kind) × (apart ≡ true)) ⊎ ((3 ≤ t.kind) × (apart ≡ false) × (glued ≡ false))) → OperandAt g src glued p q t
+        operand-whole (inl l) = operand-separator l
+        operand-whole (inr (inl (l, a))) = operand-apart a
+        operand-whole (inr (inr (l, a, k))) = operand-free k

@@ -1,14 +1,14 @@
 -- One operand: a word, and nothing more.
-use mathlib.Core.Path.{◌≡◌, sym, ap, ◌∙◌, subst}
+use mathlib.Core.Path.{◌≡◌, refl, sym, ap, ◌∙◌, subst}
 use mathlib.Core.Bool.{Bool, true, false, ◌&&◌}
 use mathlib.Core.List.{List, [], ◌∷◌}
 use Prim.Native.Nat.{ℕ}
 use lib.ListN.{length}
 use lib.Dec.{eqb, leb}
-use borrow.Author.Tests.{eqb-true, ne_eqb, leb-true}
+use borrow.Author.Tests.{eqb-true, leb-true}
 use Rattle.base_lists.proofs.Bools.{and_left, and_right}
 use Rattle.base_lists.proofs.Lists.{length-zero}
-use Rattle.rules.specs.Tokens.{broken, word, Token, token, single, without_gaps}
+use Rattle.rules.specs.Tokens.{word, Token, token, single, without_gaps}
 use Rattle.rules.proofs.TextLaws.{every-head}
 use Rattle.text_lines.specs.declared.Signs.{Signs}
 use Rattle.text_lines.specs.declared.Spot.{Spot}
@@ -19,7 +19,7 @@ use Rattle.text_operands.specs.declared.Operand.{Operand}
 use Rattle.text_operands.specs.declared.Operand.TheVariants as operand
 use Rattle.text_operands.specs.Operand.{operands_left, OperandAt, OperandIs, WordAlone}
 use Rattle.text_operands.proofs.TidyLaws.{tidy}
-use Rattle.text_operands.proofs.ListLaws.{gaps-tidy, single-first, single_more, single-broken}
+use Rattle.text_operands.proofs.ListLaws.{gaps-tidy, single-broken}
 use Rattle.text_operands.proofs.NextLaws.{left-tidy}
 
 -- a token of its parts
@@ -32,30 +32,13 @@ tidy-word : (t : Token) → t.kind ≡ word → tidy t ≡ true → (leb 1 (leng
 tidy-word t e h = rw e at h
 
 module _ (g : Signs) (src : List ℕ) (p : Spot) {o : Operand} (v : OperandIs g src false p o) where
-  pub word_end : o ≡ operand.End → single word (operands_left g src false p) ≡ false
-  word_end e = let z : operands_left g src false p ≡ [] = subst (OperandIs g src false p) e v in rw z
-
-  pub word-broken : o ≡ operand.Broken → single word (operands_left g src false p) ≡ false
-  unfolding operands_left
-  word-broken e =
-      single-broken (without_gaps false (tokens_left g src p)) (gaps-tidy false (tokens_left g src p) (left-tidy g src p)) (subst (OperandIs g src false p) e v)
-
   module _ {q : Spot} {t : Tok} (e : o ≡ operand.Token q t) where
     at : OperandAt g src false p q t
     at = subst (OperandIs g src false p) e v
 
-    pub word-other : (t.kind ≡ 4 → ⊥) → single word (operands_left g src false p) ≡ false
-    word-other h =
-        ap (λ (ts : List Token). single word ts) at.first
-        ∙ single-first word (token_there g src q) (operands_left g src (leb broken t.kind) t.next) (rw at.token.kind (ne_eqb t.kind 4 h))
-
     module _ (k : t.kind ≡ 4) {n : Bool} (f : n ≡ eqb (length (operands_left g src true t.next)) 0) where
       first : operands_left g src false p ≡ token_there g src q ∷ operands_left g src true t.next
       first = at.first ∙ rw k
-
-      pub word_more : n ≡ false → single word (operands_left g src false p) ≡ false
-      word_more z =
-          ap (λ (ts : List Token). single word ts) first ∙ single_more word (token_there g src q) (operands_left g src true t.next) (sym f ∙ z)
 
       pub word-alone : p.fresh ≡ true → n ≡ true → WordAlone g src (operands_left g src false p) q
       word-alone h z =
@@ -74,3 +57,12 @@ module _ (g : Signs) (src : List ℕ) (p : Spot) {o : Operand} (v : OperandIs g 
             mode = at.mode;
             to = at.to;
           }
+
+-- no operand is left, or the next one is malformed
+pub word-missing : (g : Signs) (src : List ℕ) (p : Spot) (o : Operand) → OperandIs g src false p o → ((q : Spot) → (t : Tok) → o ≡ operand.Token q t → ⊥)
+    → single word (operands_left g src false p) ≡ false
+unfolding operands_left
+word-missing g src p (operand.Token q t) v h = absurd (h q t refl)
+word-missing g src p operand.Broken v h =
+    single-broken (without_gaps false (tokens_left g src p)) (gaps-tidy false (tokens_left g src p) (left-tidy g src p)) v
+word-missing g src p operand.End v h = ap (λ (ts : List Token). single word ts) v

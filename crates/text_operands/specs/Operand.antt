@@ -1,5 +1,5 @@
 -- The operands of a line as code reads them: what is still to come at a spot is the paper's own list (Rattle.rules.specs.Tokens).
-use Rattle.std.specs.Prelude.{◌≡◌, Bool, true, false, List, [], ◌∷◌, ℕ, ◌≤◌, length, leb}
+use Rattle.std.specs.Prelude.{◌≡◌, Bool, true, false, List, [], ◌∷◌, ℕ, ◌≤◌, length, leb, None, Option, Some}
 use Rattle.rules.specs.Lines.{in_plain}
 use Rattle.rules.specs.Tokens.{broken, word, Token, token, single, without_gaps, operands, tokens_refusal}
 use Rattle.text_lines.specs.declared.Signs.{Signs}
@@ -11,8 +11,6 @@ use Rattle.text_operands.specs.declared.Operand.{Operand}
 use Rattle.text_operands.specs.declared.Operand.TheVariants as operand
 use Rattle.text_operands.specs.declared.After.{After}
 use Rattle.text_operands.specs.declared.After.TheVariants as after
-use Rattle.text_operands.specs.declared.One.{One}
-use Rattle.text_operands.specs.declared.One.TheVariants as one
 
 -- ## Operands from a spot on
 
@@ -67,6 +65,6 @@ pub record WordAlone (g : Signs) (src : List ℕ) (os : List Token) (q : Spot) :
   pub mode : q.mode ≡ in_plain
   pub to : q.at ≤ length src
 
-abbrev pub OneIs : Signs → List ℕ → List Token → One → Type 0
-OneIs g src os (one.Word q) = WordAlone g src os q
-OneIs g src os one.Other = single word os ≡ false
+abbrev pub OneIs : Signs → List ℕ → List Token → Option Spot → Type 0
+OneIs g src os (Some q) = WordAlone g src os q
+OneIs g src os None = single word os ≡ false

@@ -27,12 +27,12 @@ fn line_from(src: &[u8], g: Signs, at: usize) -> LineEnd
     requires { at ≤ length src.now }
     ensures { LineIs g src.now (line_start at) result }
 {
-    let p = Spot {
-        at: at,
+    let start = Spot {
+        at,
         mode: IN_PLAIN,
         fresh: true,
     };
-    line_end(src, g, p)
+    line_end(src, g, start)
 }
 
 // A reader at a place of a source, where a line of this number begins.

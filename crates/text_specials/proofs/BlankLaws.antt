@@ -1,13 +1,13 @@
 -- The keyword at a spot, and the first byte after blanks: the turns of the loop.
 use mathlib.Core.Path.{◌≡◌, refl, sym, ◌∙◌}
-use mathlib.Core.Bool.{Bool, true, false}
+use mathlib.Core.Bool.{Bool, true, false, not}
 use mathlib.Core.List.{List, [], ◌∷◌, ◌++◌, append_assoc}
 use Prim.Native.Nat.{ℕ, ◌+◌, ◌≤◌, ◌<◌}
 use native.Mathlib.Numerals.{add-one}
 use native.Mathlib.Omega.{arith}
 use lib.ListN.{length, get_or, drop, drop_of_length-le, length-append}
 use lib.Seq.{drop-cons}
-use borrow.Author.Tests.{eq-eqb}
+use borrow.Author.Tests.{not-true, not-false}
 use Rattle.rules.specs.Text.{every}
 use Rattle.rules.specs.Names.{is_blank}
 use Rattle.rules.proofs.TextLaws.{every-both, every-cons}
@@ -31,20 +31,17 @@ module _ {src : List ℕ} {at i : ℕ} (v : InBlanks src at i) where
     here : drop i src ≡ get_or src i 0 ∷ drop (i + 1) src
     here = rw (add-one, drop-cons src i 0)
 
-    pub blanks-feed : get_or src i 0 ≡ 10 → NoByte src at
-    blanks-feed e = record { rest = drop i src; before = v.before; ends = rw here (eq-eqb (get_or src i 0) 10 e) }
-
-    pub blanks-byte : {t : Bool} → t ≡ is_blank (get_or src i 0) → t ≡ false → (get_or src i 0 ≡ 10 → ⊥) → ByteAt src at (get_or src i 0) i
+    pub blanks-byte : {t : Bool} → t ≡ is_blank (get_or src i 0) → not t ≡ true → (get_or src i 0 ≡ 10 → ⊥) → ByteAt src at (get_or src i 0) i
     blanks-byte e f n =
         record {
           before = record { blanks = v.before.blanks; are = v.before.are; split = v.before.split ∙ rw here };
           place = v.place;
           inside = h;
-          solid = sym e ∙ f;
+          solid = sym e ∙ not-true _ f;
           no-feed = n;
         }
 
-    pub blanks-more : {t : Bool} → t ≡ is_blank (get_or src i 0) → t ≡ true → InBlanks src at (i + 1)
+    pub blanks-more : {t : Bool} → t ≡ is_blank (get_or src i 0) → not t ≡ false → InBlanks src at (i + 1)
     unfolding every
     blanks-more e f =
         let b = get_or src i 0 in
@@ -53,7 +50,7 @@ module _ {src : List ℕ} {at i : ℕ} (v : InBlanks src at i) where
         record {
           before = record {
             blanks = bs ++ b ∷ [];
-            are = every-both is_blank bs (b ∷ []) v.before.are (every-cons is_blank b [] (sym e ∙ f) refl);
+            are = every-both is_blank bs (b ∷ []) v.before.are (every-cons is_blank b [] (sym e ∙ not-false _ f) refl);
             split = v.before.split ∙ rw here (sym (append_assoc bs (b ∷ []) (drop (i + 1) src)));
           };
           place = rw (length-append bs (b ∷ [])) (omega arith);

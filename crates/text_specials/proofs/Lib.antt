@@ -1,4 +1,3 @@
-pub mod SignLaws
 pub mod Fields
 pub mod AsIsLaws
 pub mod BlankLaws

@@ -1,7 +1,9 @@
 -- How a line outside every category opens: with the keyword and a blank, or not.
+use Rattle.std.specs.Prelude.{None, Option, Some, ℕ}
 use borrow.Author.Tests.{ne_eqb}
 use mathlib.Core.Path.{◌≡◌, refl, sym, ap, ◌∙◌, subst}
 use mathlib.Core.Bool.{Bool, true, false, not, ◌&&◌, and-false}
+use mathlib.Core.Logic.{◌⊎◌, inl, inr}
 use mathlib.Core.List.{List, [], ◌∷◌, ◌++◌, append_cancel_right}
 use Prim.Native.Nat.{ℕ, ◌+◌, ◌≤◌}
 use lib.ListN.{length, drop}
@@ -15,8 +17,6 @@ use Rattle.rules.specs.Lines.{in_plain, after, is_word_line, is_sign_line, takes
 use Rattle.rules.proofs.TextLaws.{every-head, every-tail, same_refl, begins-split}
 use Rattle.text_lines.specs.declared.Signs.{Signs}
 use Rattle.text_lines.specs.declared.Spot.{Spot}
-use Rattle.text_lines.specs.declared.Step.{Step}
-use Rattle.text_lines.specs.declared.Step.TheVariants as step
 use Rattle.text_lines.specs.Stream.{plain_signs, outside_signs, line_left, line_start, marks_left, fresh_through, MarkIs, StepIs, blank_first, opens_with, Run}
 use Rattle.text_lines.proofs.LineLaws.{line_of-left, run-marks}
 use Rattle.text_lines.proofs.RunLaws.{run-then}
@@ -156,16 +156,13 @@ module _ (g : Signs) (src : List ℕ) (at : ℕ) {q : Spot} (v : Skips g src (li
 -- ## After the keyword
 
 module _ {g : Signs} {src : List ℕ} {at : ℕ} {q : Spot} {comment : Bool} (v : KeywordAt g src at q comment) where
-  pub word-plain : (q.at ≤ length src) × (q.mode ≡ in_plain)
-  word-plain = (v.skips.to, v.skips.mode)
-
-  module _ {r : Spot} (w : WordEnds g src q r) {s : Step} (k : StepIs g src r s) where
-    pub opened-end : s ≡ step.End → line_of (outside_signs g) (drop at src) ≡ line_left g src (line_start at)
+  module _ {r : Spot} (w : WordEnds g src q r) {s : Option (ℕ × Spot)} (k : StepIs g src r s) where
+    pub opened-end : s ≡ None → line_of (outside_signs g) (drop at src) ≡ line_left g src (line_start at)
     opened-end e =
         let z : marks_left g src r ≡ [] = subst (StepIs g src r) e k in
         plain-glued g src at v.skips comment r v.word w.after (rw z)
 
-    module _ {m : ℕ} {x : Spot} (e : s ≡ step.Mark m x) where
+    module _ {m : ℕ} {x : Spot} (e : s ≡ Some (m, x)) where
       mark : MarkIs g src r m x
       mark = subst (StepIs g src r) e k
 
@@ -195,25 +192,17 @@ module _ {g : Signs} {src : List ℕ} {at : ℕ} {q : Spot} {comment : Bool} (v 
             to = mark.to;
           }
 
-      pub opened-space : m ≡ 32 → Opened g src at x comment
-      opened-space h = opened-blank (rw h)
+      pub opened-gap : (m ≡ 9) ⊎ (m ≡ 32) → Opened g src at x comment
+      opened-gap (inl h) = opened-blank (rw h)
+      opened-gap (inr h) = opened-blank (rw h)
 
-      pub opened-tab : m ≡ 9 → Opened g src at x comment
-      opened-tab h = opened-blank (rw h)
-
-      pub opened-solid : (m ≡ 32 → ⊥) → (m ≡ 9 → ⊥) → line_of (outside_signs g) (drop at src) ≡ line_left g src (line_start at)
-      opened-solid h i = opened-other (simp (ne_eqb m 32 h, ne_eqb m 9 i))
+    pub opened-past : (y : ℕ × Spot) → s ≡ Some y → (y.0 ≡ 32 → ⊥) → (y.0 ≡ 9 → ⊥) → line_of (outside_signs g) (drop at src) ≡ line_left g src (line_start at)
+    opened-past (m, x) e h i = opened-other e (simp (ne_eqb m 32 h, ne_eqb m 9 i))
 
 -- ## The keyword
 
 -- what opens a line after blanks
 module _ {g : Signs} {src : List ℕ} {at : ℕ} {q : Spot} {k : Keyword} (v : Visible g) (h : at ≤ length src) (s : Skips g src (line_start at) q)
     (w : WordIs (word_in (marks_left g src q)) k) where
-  pub comment-at : k ≡ key.Comment → KeywordAt g src at q true
-  comment-at e = record { visible = v; inside = h; skips = s; word = subst (WordIs (word_in (marks_left g src q))) e w }
-
-  pub escape-at : k ≡ key.Escape → KeywordAt g src at q false
-  escape-at e = record { visible = v; inside = h; skips = s; word = subst (WordIs (word_in (marks_left g src q))) e w }
-
   pub neither-at : k ≡ key.Neither → line_of (outside_signs g) (drop at src) ≡ line_left g src (line_start at)
   neither-at e = plain-neither g src at s (subst (WordIs (word_in (marks_left g src q))) e w)

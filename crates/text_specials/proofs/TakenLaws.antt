@@ -1,8 +1,9 @@
 -- A line that opens with the keyword and a blank: the byte after the blanks is taken as it stands; where the line ends before one, it is plain.
+use Rattle.std.specs.Prelude.{None, Option, Some, ℕ}
 use mathlib.Core.Path.{◌≡◌, refl, sym, ap, ◌∙◌, subst}
 use mathlib.Core.Bool.{Bool, true, false, ◌&&◌, or-true, and-false, not}
 use mathlib.Core.List.{List, [], ◌∷◌, ◌++◌, append-nil, append_assoc}
-use Prim.Native.Nat.{ℕ, ◌+◌, ◌-◌, ◌≤◌, ◌<◌, ◌^◌}
+use Prim.Native.Nat.{ℕ, ◌+◌, ◌-◌, ◌≤◌}
 use native.Mathlib.Omega.{arith}
 use lib.ListN.{length, drop}
 use lib.Seq.{drop-append_seam}
@@ -20,8 +21,6 @@ use Rattle.text_lines.specs.Stream.{outside_signs, state_in, line_left, line_sta
 use Rattle.text_lines.proofs.SignLaws.{sign-never, Solid, comment-solid, escape-solid}
 use Rattle.text_specials.proofs.OpenLaws.{outside-never, outside-kind}
 use Rattle.text_specials.proofs.AsIsLaws.{Past, Reached, never-quiet, reached-nothing, reached-byte, reached-less}
-use Rattle.text_specials.specs.declared.Found.{Found}
-use Rattle.text_specials.specs.declared.Found.TheVariants as found
 use Rattle.text_specials.specs.Signed.{keyword, TakenIs, ByteAt, FoundIs, Opened}
 
 -- ## The keyword and blanks
@@ -103,16 +102,13 @@ module _ {g : Signs} {src : List ℕ} {at : ℕ} {x : Spot} {comment : Bool} (v 
   pub found-less : {a d : LineEnd} → LineIs g src (line_start at) a → LineIs g src x d → d.feeds ≤ a.feeds
   found-less h l = reached-less reached h l
 
-  module _ {f : Found} (w : FoundIs src x.at f) where
-    pub found_nothing : f ≡ found.Nothing → line_of (outside_signs g) (drop at src) ≡ line_left g src (line_start at)
+  module _ {f : Option (ℕ × ℕ)} (w : FoundIs src x.at f) where
+    pub found_nothing : f ≡ None → line_of (outside_signs g) (drop at src) ≡ line_left g src (line_start at)
     found_nothing e = reached-nothing reached (subst (FoundIs src x.at) e w)
 
-    module _ {b i : ℕ} (e : f ≡ found.Byte b i) where
+    module _ {b i : ℕ} (e : f ≡ Some (b, i)) where
       there : ByteAt src x.at b i
       there = subst (FoundIs src x.at) e w
-
-      pub found-fits : length src < 2 ^ 64 → i + 1 < 2 ^ 64
-      found-fits h = let k = there.inside in omega arith
 
       word-here : is_word_line (keyword comment) (read ++ there.before.blanks) ≡ true
       unfolding read

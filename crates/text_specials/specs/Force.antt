@@ -9,10 +9,6 @@ use Rattle.text_specials.specs.declared.Chars.{Chars}
 unfoldable pub is_free : ℕ → Bool
 is_free c = every (λ (x : ℕ). not (eqb x c)) (bytes "<>\";,._-")
 
--- the last four of them
-unfoldable pub is_later : ℕ → Bool
-is_later c = every (λ (x : ℕ). not (eqb x c)) (bytes ",._-")
-
 abbrev pub chars_as : Chars → paper.Chars
 chars_as h = record { comment = h.comment; escape = h.escape; comment_set = h.commented; escape_set = h.escaped }
 

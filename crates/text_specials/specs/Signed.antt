@@ -1,5 +1,5 @@
 -- A line outside every category: a plain one, or one with a byte that is taken as it stands.
-use Rattle.std.specs.Prelude.{◌≡◌, Bool, true, false, List, [], ◌∷◌, ◌++◌, ℕ, ◌+◌, ◌≤◌, ◌<◌, length, drop, eqb, if◌then◌else◌}
+use Rattle.std.specs.Prelude.{◌≡◌, Bool, true, false, List, [], ◌∷◌, ◌++◌, ℕ, ◌+◌, ◌≤◌, ◌<◌, length, drop, eqb, if◌then◌else◌, None, Option, Some}
 use Rattle.rules.specs.Text.{bytes, every, same}
 use Rattle.rules.specs.Names.{is_blank}
 use Rattle.rules.specs.Lines as paper
@@ -8,12 +8,8 @@ use Rattle.text_lines.specs.declared.Signs.{Signs}
 use Rattle.text_lines.specs.declared.Spot.{Spot}
 use Rattle.text_lines.specs.Stream.{outside_signs, line_left, line_start, marks_left, end_of, opens_with, Run}
 use Rattle.text_tokens.specs.Left.{word_in, Skips}
-use Rattle.text_specials.specs.declared.Found.{Found}
-use Rattle.text_specials.specs.declared.Found.TheVariants as found
 use Rattle.text_specials.specs.declared.Keyword.{Keyword}
 use Rattle.text_specials.specs.declared.Keyword.TheVariants as key
-use Rattle.text_specials.specs.declared.Sign.{Sign}
-use Rattle.text_specials.specs.declared.Sign.TheVariants.{Plain, Taken}
 
 -- the two characters are no blanks
 pub record Visible (g : Signs) : Type 0 where
@@ -52,9 +48,9 @@ pub record ByteTaken (s : paper.Signs) (g : Signs) (src : List ℕ) (at : ℕ) (
   pub mode : rest.mode ≡ in_plain
   pub to : rest.at ≤ length src
 
-abbrev pub SignIs : Signs → List ℕ → ℕ → Sign → Type 0
-SignIs g src at Plain = line_of (outside_signs g) (drop at src) ≡ line_left g src (line_start at)
-SignIs g src at (Taken comment c k rest) = TakenIs g src at comment c k rest
+abbrev pub SignIs : Signs → List ℕ → ℕ → Option (Bool × ℕ × ℕ × Spot) → Type 0
+SignIs g src at None = line_of (outside_signs g) (drop at src) ≡ line_left g src (line_start at)
+SignIs g src at (Some (comment, c, k, rest)) = TakenIs g src at comment c k rest
 
 -- ## The first byte after blanks
 
@@ -83,9 +79,9 @@ pub record NoByte (src : List ℕ) (at : ℕ) : Type 0 where
   pub before : Blanks src at rest
   pub ends : line_ends rest ≡ true
 
-abbrev pub FoundIs : List ℕ → ℕ → Found → Type 0
-FoundIs src at (found.Byte b i) = ByteAt src at b i
-FoundIs src at found.Nothing = NoByte src at
+abbrev pub FoundIs : List ℕ → ℕ → Option (ℕ × ℕ) → Type 0
+FoundIs src at (Some (b, i)) = ByteAt src at b i
+FoundIs src at None = NoByte src at
 
 -- ## Up to the first blank after the keyword
 

@@ -4,12 +4,12 @@
 ghost use Rattle.std.specs.Prelude.{◌≡◌, ◌||◌, ◌≤◌, length};
 ghost use Rattle.rules.specs.Text.{within, ◌unless◌};
 ghost use Rattle.rules.specs.Lines.{is_sign, defaults, sign_refusal, sign_set};
-ghost use Rattle.text_specials.specs.Force.{is_free, is_later, chars_as, operand};
+ghost use Rattle.text_specials.specs.Force.{is_free, chars_as, operand};
 ghost use Rattle.text_lines.specs.Stream.{marks_left};
 ghost use Rattle.text_tokens.specs.Left.{word_in};
 ghost use Rattle.text_specials.specs.Signed.{Visible, SignIs, WordIs, FoundIs, KeywordAt, Opened};
 
-use text_lines::{IN_PLAIN, Signs, Spot, Step, is_blank, line_end, next_mark};
+use text_lines::{IN_PLAIN, Signs, Spot, is_blank, line_end, next_mark};
 use text_tokens::{end_of_word, skip_gaps, word_is};
 
 // The two characters in force, and which of the two lines has stood.
@@ -21,75 +21,27 @@ pub struct Chars {
     pub escaped: bool,
 }
 
-// Whether a byte lies between two others, or is one of them.
-pub fn between(low: u8, high: u8, c: u8) -> bool
-    ensures { result ≡ within low high c }
-{
-    if low <= c {
-        return c <= high;
-    }
-    false
-}
-
 // Whether a byte is a letter or a digit.
 fn is_alphanumeric(c: u8) -> bool
     ensures { result ≡ (within 48 57 c || within 65 90 c || within 97 122 c) }
 {
-    if between(48, 57, c) {
-        return true;
-    }
-    if between(65, 90, c) {
-        return true;
-    }
-    between(97, 122, c)
-}
-
-// Whether a byte is none of `, . _ -`.
-fn is_later(c: u8) -> bool
-    ensures { result ≡ is_later c }
-{
-    if c == 44 {
-        return false;
-    }
-    if c == 46 {
-        return false;
-    }
-    if c == 95 {
-        return false;
-    }
-    c != 45
+    matches!(c, b'0'..=b'9' | b'A'..=b'Z' | b'a'..=b'z')
 }
 
 // Whether a byte is none of `< > " ; , . _ -`.
+#[tactic(auto, unfolding(crate::specs::Force::is_free, rules::specs::Text::every, rules::specs::Text::bytes))]
 fn is_free(c: u8) -> bool
     ensures { result ≡ is_free c }
 {
-    if c == 60 {
-        return false;
-    }
-    if c == 62 {
-        return false;
-    }
-    if c == 34 {
-        return false;
-    }
-    if c == 59 {
-        return false;
-    }
-    is_later(c)
+    !matches!(c, b'<' | b'>' | b'"' | b';' | b',' | b'.' | b'_' | b'-')
 }
 
 // Whether a byte may be one of the two characters.
+#[tactic(auto, unfolding(rules::specs::Lines::is_sign, crate::specs::Force::is_free))]
 fn is_sign(c: u8) -> bool
     ensures { result ≡ is_sign c }
 {
-    if between(33, 126, c) {
-        if is_alphanumeric(c) {
-            return false;
-        }
-        return is_free(c);
-    }
-    false
+    (33..=126).contains(&c) && !is_alphanumeric(c) && is_free(c)
 }
 
 // Before the first line.
@@ -97,65 +49,46 @@ pub fn start() -> Chars
     ensures { chars_as result ≡ defaults }
 {
     Chars {
-        comment: 35,
-        escape: 92,
+        comment: b'#',
+        escape: b'\\',
         commented: false,
         escaped: false,
     }
 }
 
 // Whether a line may set one of the two to c.
+#[tactic(auto, unfolding(rules::specs::Lines::sign_refusal))]
 pub fn may_set(h: Chars, comment: bool, c: u8) -> bool
     ensures { (3 unless result) ≡ sign_refusal (chars_as h) comment (operand c) }
 {
-    if is_sign(c) {
-        if comment {
-            if h.commented {
-                return false;
-            }
-            return c != h.escape;
-        }
-        if h.escaped {
-            return false;
-        }
-        return c != h.comment;
+    if !is_sign(c) {
+        return false;
     }
-    false
+    if comment {
+        !h.commented && c != h.escape
+    } else {
+        !h.escaped && c != h.comment
+    }
 }
 
 // The two characters after such a line.
+#[tactic(auto, unfolding(rules::specs::Lines::sign_set))]
 pub fn with_set(h: Chars, comment: bool, c: u8) -> Chars
     ensures { chars_as result ≡ sign_set (chars_as h) comment (operand c) }
 {
     if comment {
-        return Chars {
+        Chars {
             comment: c,
-            escape: h.escape,
             commented: true,
-            escaped: h.escaped,
-        };
+            ..h
+        }
+    } else {
+        Chars {
+            escape: c,
+            escaped: true,
+            ..h
+        }
     }
-    Chars {
-        comment: h.comment,
-        escape: c,
-        commented: h.commented,
-        escaped: true,
-    }
-}
-
-// Plain: no byte is taken as it stands. Taken: the line is comment_char's (true) or escape_char's, the byte, how many LFs stand before it, and
-// the spot after it.
-#[derive(Clone, Copy)]
-pub enum Sign {
-    Plain,
-    Taken(bool, u8, usize, Spot),
-}
-
-// The first byte after blanks and its place, or that the line ends before one.
-#[derive(Clone, Copy)]
-pub enum Found {
-    Byte(u8, usize),
-    Nothing,
 }
 
 // Which keyword a word is.
@@ -172,100 +105,93 @@ fn keyword_at(src: &[u8], g: Signs, p: Spot) -> Keyword
     ensures { WordIs (word_in (marks_left g src.now p)) result }
 {
     if word_is(src, g, p, b"comment_char") {
-        return Keyword::Comment;
+        Keyword::Comment
+    } else if word_is(src, g, p, b"escape_char") {
+        Keyword::Escape
+    } else {
+        Keyword::Neither
     }
-    if word_is(src, g, p, b"escape_char") {
-        return Keyword::Escape;
-    }
-    Keyword::Neither
 }
 
 // The first byte after the blanks from a place on, as it stands.
-pub fn after_blanks(src: &[u8], at: usize) -> Found
+pub fn after_blanks(src: &[u8], at: usize) -> Option<(u8, usize)>
     requires { at ≤ length src.now }
     ensures { FoundIs src.now at result }
 {
-    let mut i = at;
-    while i < src.len() {
+    for i in at..src.len() {
         let b = src[i];
-        if is_blank(b) {
-            i += 1;
-        } else {
-            if b == 10 {
-                return Found::Nothing;
-            }
-            return Found::Byte(b, i);
+        if !is_blank(b) {
+            return if b == b'\n' { None } else { Some((b, i)) };
         }
     }
-    Found::Nothing
+    None
 }
 
 // The byte that is taken as it stands, from the spot after the keyword and one blank on.
-fn byte_from(src: &[u8], g: Signs, at: usize, x: Spot, comment: bool) -> Sign
+fn byte_from(
+    src: &[u8],
+    g: Signs,
+    at: usize,
+    x: Spot,
+    comment: bool,
+) -> Option<(bool, u8, usize, Spot)>
     requires { Opened g src.now at x comment }
     ensures { SignIs g src.now at result }
 {
-    let f = after_blanks(src, x.at);
-    match f {
-        Found::Nothing => return Sign::Plain,
-        Found::Byte(b, i) => {
-            let p = Spot {
-                at: at,
-                mode: IN_PLAIN,
-                fresh: true,
-            };
-            let a = line_end(src, g, p);
-            let d = line_end(src, g, x);
-            return Sign::Taken(
-                comment,
-                b,
-                a.feeds - d.feeds,
-                Spot {
-                    at: i + 1,
-                    mode: IN_PLAIN,
-                    fresh: false,
-                },
-            );
-        }
-    }
+    let (b, i) = after_blanks(src, x.at)?;
+    let a = line_end(
+        src,
+        g,
+        Spot {
+            at,
+            mode: IN_PLAIN,
+            fresh: true,
+        },
+    );
+    let d = line_end(src, g, x);
+    let rest = Spot {
+        at: i + 1,
+        mode: IN_PLAIN,
+        fresh: false,
+    };
+    Some((comment, b, a.feeds - d.feeds, rest))
 }
 
 // A line that the keyword opens.
-fn keyword_line(src: &[u8], g: Signs, at: usize, q: Spot, comment: bool) -> Sign
+fn keyword_line(
+    src: &[u8],
+    g: Signs,
+    at: usize,
+    q: Spot,
+    comment: bool,
+) -> Option<(bool, u8, usize, Spot)>
     requires { KeywordAt g src.now at q comment }
     ensures { SignIs g src.now at result }
 {
     let r = end_of_word(src, g, q);
-    let s = next_mark(src, g, r);
-    match s {
-        Step::End => return Sign::Plain,
-        Step::Mark(m, x) => {
-            if m == 32 {
-                return byte_from(src, g, at, x, comment);
-            }
-            if m == 9 {
-                return byte_from(src, g, at, x, comment);
-            }
-            return Sign::Plain;
-        }
+    match next_mark(src, g, r) {
+        Some((32 | 9, x)) => byte_from(src, g, at, x, comment),
+        _ => None,
     }
 }
 
 // What a line outside every category is, from its first place on.
-pub fn sign_line(src: &[u8], g: Signs, at: usize) -> Sign
+pub fn sign_line(src: &[u8], g: Signs, at: usize) -> Option<(bool, u8, usize, Spot)>
     requires { (at ≤ length src.now) × Visible g }
     ensures { SignIs g src.now at result }
 {
-    let p = Spot {
-        at: at,
-        mode: IN_PLAIN,
-        fresh: true,
-    };
-    let q = skip_gaps(src, g, p);
-    let k = keyword_at(src, g, q);
-    match k {
-        Keyword::Comment => return keyword_line(src, g, at, q, true),
-        Keyword::Escape => return keyword_line(src, g, at, q, false),
-        Keyword::Neither => return Sign::Plain,
+    let q = skip_gaps(
+        src,
+        g,
+        Spot {
+            at,
+            mode: IN_PLAIN,
+            fresh: true,
+        },
+    );
+    match keyword_at(src, g, q) {
+        Keyword::Comment => keyword_line(src, g, at, q, true),
+        Keyword::Escape => keyword_line(src, g, at, q, false),
+        Keyword::Neither => None,
     }
 }

@@ -1,8 +1,10 @@
 -- Blanks: a line's tokens without the gaps that open them, and the walk past the blanks at a spot.
+use Rattle.std.specs.Prelude.{None, Option, Some, ℕ}
 use mathlib.Core.Path.{◌≡◌, refl, sym, ◌∙◌, subst}
 use mathlib.Core.Bool.{true, false}
+use mathlib.Core.Logic.{◌⊎◌, inl, inr}
 use mathlib.Core.List.{List, [], ◌∷◌, ◌++◌}
-use Prim.Native.Nat.{ℕ, ◌-◌, ◌%◌, ◌≤◌, ◌<◌}
+use Prim.Native.Nat.{ℕ, ◌-◌, ◌%◌, ◌≤◌}
 use native.Mathlib.Omega.{arith}
 use lib.ListN.{length}
 use lib.Dec.{eqb, leb}
@@ -13,8 +15,6 @@ use Rattle.rules.specs.Lines.{in_plain, after}
 use Rattle.rules.specs.Tokens.{gap, semi, comma, broken, word, name, quote, as_is, Token, token, no_part, Lexed, lexed, lex_none, quoted_part, lex, lex_end, tokens_from, without_blanks, without_opening_gaps, tokens_of}
 use Rattle.text_lines.specs.declared.Signs.{Signs}
 use Rattle.text_lines.specs.declared.Spot.{Spot}
-use Rattle.text_lines.specs.declared.Step.{Step}
-use Rattle.text_lines.specs.declared.Step.TheVariants as step
 use Rattle.text_lines.specs.Stream.{marks_left, Walk, MarkIs, StepIs}
 use Rattle.text_lines.proofs.RunLaws.{walk_none, walk-then, mark-walk}
 use Rattle.text_tokens.specs.Left.{tokens_left, Skips}
@@ -101,21 +101,15 @@ stop {g} {src} {p} {q} v e =
     let m : marks_left g src q ≡ without_blanks (marks_left g src p) = sym (v.rest ∙ e) in
     record { marks = m; tokens = rw m (opening-gaps (marks_left g src p)); mode = v.mode; walk = v.walk; from = v.from; to = v.to }
 
-module _ {g : Signs} {src : List ℕ} {p q : Spot} {s : Step} (v : InBlanks g src p q) (w : StepIs g src q s) where
-  pub blanks-end : s ≡ step.End → Skips g src p q
+module _ {g : Signs} {src : List ℕ} {p q : Spot} (v : InBlanks g src p q) where
+  pub blanks-end : {s : Option (ℕ × Spot)} → StepIs g src q s → s ≡ None → Skips g src p q
   unfolding without_blanks
-  blanks-end e = let n : marks_left g src q ≡ [] = subst (StepIs g src q) e w in stop v (rw n)
+  blanks-end w e = let n : marks_left g src q ≡ [] = subst (StepIs g src q) e w in stop v (rw n)
 
-  module _ {m : ℕ} {r : Spot} (e : s ≡ step.Mark m r) where
-    mark : MarkIs g src q m r
-    mark = subst (StepIs g src q) e w
-
+  module _ {m : ℕ} {r : Spot} (mark : MarkIs g src q m r) where
     pub blanks-stop : is_blank m ≡ false → Skips g src p q
     unfolding without_blanks
     blanks-stop b = stop v (rw (mark.marks, b))
-
-    pub blanks-less : length src - r.at < length src - q.at
-    blanks-less = let x = mark.on in let y = mark.to in omega arith
 
     more : is_blank m ≡ true → after in_plain m ≡ in_plain → InBlanks g src p r
     unfolding without_blanks
@@ -126,13 +120,18 @@ module _ {g : Signs} {src : List ℕ} {p q : Spot} {s : Step} (v : InBlanks g sr
     unfolding after
     blanks-space h = more (rw h) (rw h)
 
-    pub blanks-tab : m ≡ 9 → InBlanks g src p r
+    pub blanks-more : (m ≡ 9) ⊎ (m ≡ 32) → InBlanks g src p r
     unfolding after
-    blanks-tab h = more (rw h) (rw h)
+    blanks-more (inl h) = more (rw h) (rw h)
+    blanks-more (inr h) = blanks-space h
 
 -- what is neither space nor tab
 pub no-blank : (m : ℕ) → (m ≡ 32 → ⊥) → (m ≡ 9 → ⊥) → is_blank m ≡ false
 no-blank m h k = simp (ne_eqb m 32 h, ne_eqb m 9 k)
+
+pub blanks-other : {g : Signs} {src : List ℕ} {p q : Spot} → InBlanks g src p q → {s : Option (ℕ × Spot)} → StepIs g src q s → (x : ℕ × Spot) → s ≡ Some x
+    → (x.0 ≡ 32 → ⊥) → (x.0 ≡ 9 → ⊥) → Skips g src p q
+blanks-other {g} {src} {q = q} v w (m, r) e h k = blanks-stop v (subst (StepIs g src q) e w) (no-blank m h k)
 
 -- the tokens of a line are those from the spot after the blanks that open it
 pub tokens_of-left : {g : Signs} {src : List ℕ} {p q : Spot} → Skips g src p q → tokens_of (marks_left g src p) ≡ tokens_left g src q

@@ -8,4 +8,3 @@ pub mod StandLaws
 pub mod PlainLaws
 pub mod AheadLaws
 pub mod CopyLaws
-pub mod RestLaws

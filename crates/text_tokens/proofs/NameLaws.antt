@@ -1,28 +1,27 @@
 -- Reading a name byte by byte, and quotes name by name: the turns of the loops to their ends.
+use Rattle.std.specs.Prelude.{None, Option, Some, ℕ}
 use mathlib.Core.Path.{◌≡◌, refl, sym, ◌∙◌, subst}
-use mathlib.Core.Bool.{Bool, true, false, ◌&&◌, and-true}
+use mathlib.Core.Bool.{Bool, true, false, not, ◌&&◌, and-true}
 use mathlib.Core.List.{List, [], ◌∷◌, ◌++◌, append-nil, append_assoc}
-use Prim.Native.Nat.{ℕ, suc, ◌+◌, ◌-◌, ◌%◌, ◌≤◌, ◌<◌}
+use Prim.Native.Nat.{ℕ, suc, ◌+◌, ◌%◌, ◌≤◌, ◌<◌}
 use native.Mathlib.Omega.{arith}
 use lib.ListN.{length, length-append}
 use lib.Dec.{eqb, leb}
-use borrow.Author.Tests.{ne_eqb, le-leb, lt-leb, eqb-true}
+use borrow.Author.Tests.{ne_eqb, le-leb, lt-leb, eqb-true, not-true, not-false}
 use Rattle.base_lists.proofs.Bools.{by}
 use Rattle.rules.specs.Text.{every, one_of, ◌unless◌, lower, lowest}
 use Rattle.rules.specs.Names.{is_visible, name_refusal, names_refusal}
 use Rattle.rules.specs.Lines.{quoted, after}
 use Rattle.rules.specs.Tokens.{broken, quote, Token, token, lexed, tokens_from, tokens_refusal}
+use Rattle.base_units.specs.declared.Refusal.{Refusal}
+use Rattle.base_units.specs.Numbers.{number_or_none}
 use Rattle.text_lines.specs.declared.Signs.{Signs}
 use Rattle.text_lines.specs.declared.Spot.{Spot}
-use Rattle.text_lines.specs.declared.Step.{Step}
-use Rattle.text_lines.specs.declared.Step.TheVariants as step
 use Rattle.text_lines.specs.Stream.{marks_left, Walk, MarkIs, StepIs}
 use Rattle.text_lines.proofs.RunLaws.{walk_none, walk-then, mark-walk}
 use Rattle.text_lines.proofs.ByteLaws.{after-name, after-inner}
 use Rattle.text_tokens.specs.declared.NameStep.{NameStep}
 use Rattle.text_tokens.specs.declared.NameStep.TheVariants.{Byte, Close, Open}
-use Rattle.text_tokens.specs.declared.Closing.{Closing}
-use Rattle.text_tokens.specs.declared.Closing.TheVariants as closing
 use Rattle.text_tokens.specs.Left.{tokens_left, is_close, is_inside, name_in, after_name, names_in, NameByte, NameCloses, NameOpen, NameStepIs, NameEnds, NameEndsAfter, ClosingAfter, ClosingIs, QuotesEnd}
 use Rattle.text_tokens.proofs.TokenLaws.{quote-open, quote-close, quote-name, quote-name-open, quote-foul, names_in-close, names_in-name}
 use Rattle.text_tokens.proofs.RefusalLaws.{refusal-broken, names_refusal-snoc}
@@ -36,11 +35,11 @@ inside-stays mode m h n =
     (λ t. let e = eqb-true mode 3 (rw t at h) in sym (e ∙ after-inner e n))
 
 module _ {g : Signs} {src : List ℕ} {p : Spot} where
-  pub name-open-here : {s : Step} → StepIs g src p s → s ≡ step.End → NameOpen g src p
+  pub name-open-here : {s : Option (ℕ × Spot)} → StepIs g src p s → s ≡ None → NameOpen g src p
   unfolding name_in one_of
   name-open-here v e = let n : marks_left g src p ≡ [] = subst (StepIs g src p) e v in record { bytes = rw n; closes = rw n }
 
-  module _ {s : Step} {m : ℕ} {q : Spot} (v : StepIs g src p s) (e : s ≡ step.Mark m q) where
+  module _ {s : Option (ℕ × Spot)} {m : ℕ} {q : Spot} (v : StepIs g src p s) (e : s ≡ Some (m, q)) where
     mark : MarkIs g src p m q
     mark = subst (StepIs g src p) e v
 
@@ -79,17 +78,17 @@ module _ (n : ℕ) (visible : Bool) where
   unfolding lower
   refusal-none e = rw e
 
-  pub refusal-good : (n ≡ 0 → ⊥) → visible ≡ true → n ≤ 32 → 0 ≡ lower (3 unless (leb 1 n && visible)) (7 unless leb n 32)
+  pub refusal-good : (n ≡ 0 → ⊥) → not visible ≡ false → n ≤ 32 → 0 ≡ lower (3 unless (leb 1 n && visible)) (7 unless leb n 32)
   unfolding lower
-  refusal-good h e l = rw (e, le-leb n 32 l, le-leb 1 n (omega arith))
+  refusal-good h e l = rw (not-false visible e, le-leb n 32 l, le-leb 1 n (omega arith))
 
-  pub refusal-long : (n ≡ 0 → ⊥) → visible ≡ true → 32 < n → 7 ≡ lower (3 unless (leb 1 n && visible)) (7 unless leb n 32)
+  pub refusal-long : (n ≡ 0 → ⊥) → not visible ≡ false → 32 < n → 7 ≡ lower (3 unless (leb 1 n && visible)) (7 unless leb n 32)
   unfolding lower
-  refusal-long h e l = rw (e, lt-leb n 32 l, le-leb 1 n (omega arith))
+  refusal-long h e l = rw (not-false visible e, lt-leb n 32 l, le-leb 1 n (omega arith))
 
-  pub refusal-foul : (n ≡ 0 → ⊥) → visible ≡ false → 3 ≡ lower (3 unless (leb 1 n && visible)) (7 unless leb n 32)
+  pub refusal-foul : (n ≡ 0 → ⊥) → not visible ≡ true → 3 ≡ lower (3 unless (leb 1 n && visible)) (7 unless leb n 32)
   unfolding lower
-  refusal-foul h e = rw (e, le-leb 1 n (omega arith)) (by (leb n 32) (λ t. rw t) (λ t. rw t))
+  refusal-foul h e = rw (not-true visible e, le-leb 1 n (omega arith)) (by (leb n 32) (λ t. rw t) (λ t. rw t))
 
 -- ## To the end of a name
 
@@ -108,10 +107,6 @@ pub record InName (g : Signs) (src : List ℕ) (p q : Spot) (n : ℕ) (visible :
 pub name-none : (g : Signs) (src : List ℕ) (p : Spot) → p.at ≤ length src → is_inside p.mode ≡ true → InName g src p p 0 true
 name-none g src p h i =
     record { long = omega arith; clean = refl; after = refl; closes = refl; mode = refl; inside = i; walk = walk_none g src p; from = omega arith; to = h }
-
-pub name-less : (g : Signs) (src : List ℕ) (q : Spot) {s : NameStep} {b : ℕ} {r : Spot} → NameStepIs g src q s → s ≡ Byte b r
-    → length src - r.at < length src - q.at
-name-less g src q {b = b} {r} w e = let x : NameByte g src q b r = subst (NameStepIs g src q) e w in omega (arith, x.on, x.to)
 
 module _ {g : Signs} {src : List ℕ} {p q : Spot} {n : ℕ} {visible : Bool} {s : NameStep} (v : InName g src p q n visible) (w : NameStepIs g src q s) where
   -- a byte more
@@ -139,7 +134,7 @@ module _ {g : Signs} {src : List ℕ} {p q : Spot} {n : ℕ} {visible : Bool} {s
   pub name-foul : {b : ℕ} {r : Spot} → s ≡ Byte b r → visible ≡ false → InName g src p r (n + 1) visible
   name-foul e f = name-on e (rw f)
 
-  pub name-ends : {k f : ℕ} {r : Spot} → s ≡ Close r → f ≡ lower (3 unless (leb 1 (k + n) && visible)) (7 unless leb (k + n) 32) → NameEndsAfter k g src p f r
+  pub name-ends : {k : ℕ} {f : Option Refusal} {r : Spot} → s ≡ Close r → number_or_none f ≡ lower (3 unless (leb 1 (k + n) && visible)) (7 unless leb (k + n) 32) → NameEndsAfter k g src p f r
   unfolding every
   name-ends {k} {f} {r} e h =
       let x : NameCloses g src q r = subst (NameStepIs g src q) e w in
@@ -160,9 +155,9 @@ module _ {g : Signs} {src : List ℕ} {p q : Spot} {n : ℕ} {visible : Bool} {s
   name-left-open e = let x : NameOpen g src q = subst (NameStepIs g src q) e w in v.closes ∙ x.closes
 
 -- visible bytes of a name, and its end behind them
-pub name-joined : {g : Signs} {src : List ℕ} {p q : Spot} {n : ℕ} → InName g src p q n true → (c : Closing) → ClosingAfter n g src q c → ClosingIs g src p c
+pub name-joined : {g : Signs} {src : List ℕ} {p q : Spot} {n : ℕ} → InName g src p q n true → (c : Option (Option Refusal × Spot)) → ClosingAfter n g src q c → ClosingIs g src p c
 unfolding name_refusal
-name-joined v (closing.Closed f r) w =
+name-joined v (Some (f, r)) w =
     record {
       refusal = rw (v.long, v.clean) w.refusal;
       after = v.after ∙ w.after;
@@ -174,40 +169,37 @@ name-joined v (closing.Closed f r) w =
       walk = walk-then v.walk w.walk;
       to = w.to;
     }
-name-joined v closing.Open w = v.closes ∙ w
+name-joined v None w = v.closes ∙ w
 
 -- ## To the end of quotes
 
 -- From p to q these names are read in quotes.
-pub record InQuotes (g : Signs) (src : List ℕ) (p q : Spot) (n r : ℕ) : Type 0 where
+pub record InQuotes (g : Signs) (src : List ℕ) (p q : Spot) (n : ℕ) (r : Option Refusal) : Type 0 where
   pub names : List (List ℕ)
   pub tokens : tokens_from (lexed [] quote [] []) (marks_left g src p) ≡ tokens_from (lexed [] quote [] names) (marks_left g src q)
   pub all : names_in (marks_left g src p) ≡ names ++ names_in (marks_left g src q)
   pub many : length names ≡ n
-  pub refusal : names_refusal names ≡ r
+  pub refusal : names_refusal names ≡ number_or_none r
   pub mode : q.mode ≡ quoted
   pub walk : Walk g src p q
   pub from : n + p.at ≤ q.at
   pub to : q.at ≤ length src
 
-pub quotes-none : (g : Signs) (src : List ℕ) (p : Spot) → p.at ≤ length src → p.mode ≡ quoted → InQuotes g src p p 0 0
+pub quotes-none : (g : Signs) (src : List ℕ) (p : Spot) → p.at ≤ length src → p.mode ≡ quoted → InQuotes g src p p 0 None
 unfolding names_refusal lowest
 quotes-none g src p h m =
     record { names = []; tokens = refl; all = refl; many = refl; refusal = refl; mode = m; walk = walk_none g src p; from = omega arith; to = h }
 
 -- a malformed token comes next
-foul : {g : Signs} {src : List ℕ} {p q : Spot} {n r : ℕ} (v : InQuotes g src p q n r) {ms : List ℕ} {ts : List Token} → marks_left g src q ≡ ms
+foul : {g : Signs} {src : List ℕ} {p q : Spot} {n : ℕ} {r : Option Refusal} (v : InQuotes g src p q n r) {ms : List ℕ} {ts : List Token} → marks_left g src q ≡ ms
     → tokens_from (lexed [] quote [] v.names) ms ≡ token broken [] [] ∷ ts → tokens_refusal (tokens_from (lexed [] quote [] []) (marks_left g src p)) ≡ 3
 foul v {ts = ts} z e = rw (v.tokens, z, e) (refusal-broken (token broken [] []) ts refl)
 
-module _ {g : Signs} {src : List ℕ} {p q : Spot} {n r : ℕ} {s : Step} (v : InQuotes g src p q n r) (w : StepIs g src q s) where
-  pub quotes-open : s ≡ step.End → tokens_refusal (tokens_from (lexed [] quote [] []) (marks_left g src p)) ≡ 3
-  quotes-open e = let z : marks_left g src q ≡ [] = subst (StepIs g src q) e w in foul v z (quote-open v.names)
+module _ {g : Signs} {src : List ℕ} {p q : Spot} {n : ℕ} {r : Option Refusal} (v : InQuotes g src p q n r) where
+  pub quotes-open : marks_left g src q ≡ [] → tokens_refusal (tokens_from (lexed [] quote [] []) (marks_left g src p)) ≡ 3
+  quotes-open z = foul v z (quote-open v.names)
 
-  module _ {m : ℕ} {x : Spot} (e : s ≡ step.Mark m x) where
-    next : MarkIs g src q m x
-    next = subst (StepIs g src q) e w
-
+  module _ {m : ℕ} {x : Spot} (next : MarkIs g src q m x) where
     pub quotes-end : m ≡ 34 → QuotesEnd g src p n r x
     unfolding tokens_left after
     quotes-end h =
@@ -231,30 +223,22 @@ module _ {g : Signs} {src : List ℕ} {p q : Spot} {n r : ℕ} {s : Step} (v : I
       unfolding after
       quotes-inside = (next.to, rw (next.step.mode, v.mode, h))
 
-      module _ {c : Closing} (k : ClosingIs g src x c) where
-        pub quotes-name-open : c ≡ closing.Open → tokens_refusal (tokens_from (lexed [] quote [] []) (marks_left g src p)) ≡ 3
-        quotes-name-open f =
-            let z : one_of is_close (marks_left g src x) ≡ false = subst (ClosingIs g src x) f k in
-            foul v next.marks (quote-name-open v.names m (marks_left g src x) h z)
+      pub quotes-name-open : one_of is_close (marks_left g src x) ≡ false → tokens_refusal (tokens_from (lexed [] quote [] []) (marks_left g src p)) ≡ 3
+      quotes-name-open z =
+          foul v next.marks (quote-name-open v.names m (marks_left g src x) h z)
 
-        pub quotes-less : {f : ℕ} {y : Spot} → c ≡ closing.Closed f y → length src - y.at < length src - q.at
-        quotes-less {f} {y} i =
-            let z : NameEnds g src x f y = subst (ClosingIs g src x) i k in
-            omega (arith, next.on, z.on, z.to)
-
-        pub quotes-more : {f t : ℕ} {y : Spot} → c ≡ closing.Closed f y → t ≡ lower r f → InQuotes g src p y (n + 1) t
-        unfolding after
-        quotes-more {f} {t} {y} i l =
-            let z : NameEnds g src x f y = subst (ClosingIs g src x) i k in
-            let name = name_in (marks_left g src x) in
-            record {
-              names = v.names ++ name ∷ [];
-              tokens = v.tokens ∙ rw (next.marks, quote-name v.names m (marks_left g src x) h z.closes, z.after);
-              all = v.all ∙ rw (next.marks, names_in-name m (marks_left g src x) h, z.after) (sym (append_assoc v.names (name ∷ []) (names_in (marks_left g src y))));
-              many = length-append v.names (name ∷ []) ∙ rw v.many;
-              refusal = names_refusal-snoc v.names name ∙ rw (v.refusal, z.refusal) (sym l);
-              mode = z.mode ∙ rw (next.step.mode, v.mode, h);
-              walk = walk-then v.walk (walk-then (mark-walk next) z.walk);
-              from = omega (arith, v.from, next.on, z.on);
-              to = z.to;
-            }
+      pub quotes-more : {f t : Option Refusal} {y : Spot} → NameEnds g src x f y → number_or_none t ≡ lower (number_or_none r) (number_or_none f) → InQuotes g src p y (n + 1) t
+      unfolding after
+      quotes-more {y = y} z l =
+          let name = name_in (marks_left g src x) in
+          record {
+            names = v.names ++ name ∷ [];
+            tokens = v.tokens ∙ rw (next.marks, quote-name v.names m (marks_left g src x) h z.closes, z.after);
+            all = v.all ∙ rw (next.marks, names_in-name m (marks_left g src x) h, z.after) (sym (append_assoc v.names (name ∷ []) (names_in (marks_left g src y))));
+            many = length-append v.names (name ∷ []) ∙ rw v.many;
+            refusal = names_refusal-snoc v.names name ∙ rw (v.refusal, z.refusal) (sym l);
+            mode = z.mode ∙ rw (next.step.mode, v.mode, h);
+            walk = walk-then v.walk (walk-then (mark-walk next) z.walk);
+            from = omega (arith, v.from, next.on, z.on);
+            to = z.to;
+          }

@@ -1,6 +1,8 @@
 -- One token at a spot: a law for each kind, and for what is malformed.
+use Rattle.std.specs.Prelude.{None, Option, Some, ℕ}
 use mathlib.Core.Path.{◌≡◌, refl, sym, ◌∙◌, subst}
 use mathlib.Core.Bool.{true, false}
+use mathlib.Core.Logic.{◌⊎◌, inl, inr}
 use mathlib.Core.List.{List, [], ◌∷◌}
 use Prim.Native.Nat.{ℕ, ◌-◌, ◌≤◌, ◌<◌}
 use native.Mathlib.Omega.{arith}
@@ -10,16 +12,12 @@ use Rattle.rules.specs.Text.{one_of, lower, lowest}
 use Rattle.rules.specs.Names.{names_refusal}
 use Rattle.rules.specs.Lines.{in_plain, quoted, after}
 use Rattle.rules.specs.Tokens.{broken, word, name, quote, Token, token, no_part, in_word, tokens_from, tokens_refusal, lex_end}
+use Rattle.base_units.specs.declared.Refusal.{Refusal}
+use Rattle.base_units.specs.declared.Refusal.TheVariants.{Malformed}
 use Rattle.text_lines.specs.declared.Signs.{Signs}
 use Rattle.text_lines.specs.declared.Spot.{Spot}
-use Rattle.text_lines.specs.declared.Step.{Step}
-use Rattle.text_lines.specs.declared.Step.TheVariants as step
 use Rattle.text_lines.specs.Stream.{marks_left, Walk, MarkIs, StepIs}
 use Rattle.text_lines.proofs.RunLaws.{walk_none, walk-then, mark-walk}
-use Rattle.text_tokens.specs.declared.Closing.{Closing}
-use Rattle.text_tokens.specs.declared.Closing.TheVariants as closing
-use Rattle.text_tokens.specs.declared.Quotes.{Quotes}
-use Rattle.text_tokens.specs.declared.Quotes.TheVariants as quotes
 use Rattle.text_tokens.specs.declared.Tok.{Tok}
 use Rattle.text_tokens.specs.Left.{tokens_left, token_there, word_in, is_close, is_inside, name_in, names_in, WordEnds, NameEnds, ClosingIs, QuotesEnd, QuotesIs, bare_at, named_at, TokenIs}
 use Rattle.text_tokens.proofs.WordLaws.{unblank, wide-unblank}
@@ -68,11 +66,11 @@ module _ (g : Signs) (src : List ℕ) (p : Spot) where
         inside = n;
       }
 
-  pub next-end : {s : Step} → StepIs g src p s → s ≡ step.End → tokens_left g src p ≡ []
+  pub next-end : {s : Option (ℕ × Spot)} → StepIs g src p s → s ≡ None → tokens_left g src p ≡ []
   unfolding tokens_left tokens_from lex_end
   next-end v e = let n : marks_left g src p ≡ [] = subst (StepIs g src p) e v in rw n
 
-  module _ {s : Step} {m : ℕ} {q : Spot} (o : p.mode ≡ in_plain) (v : StepIs g src p s) (e : s ≡ step.Mark m q) where
+  module _ {s : Option (ℕ × Spot)} {m : ℕ} {q : Spot} (o : p.mode ≡ in_plain) (v : StepIs g src p s) (e : s ≡ Some (m, q)) where
     mark : MarkIs g src p m q
     mark = subst (StepIs g src p) e v
 
@@ -99,15 +97,13 @@ module _ (g : Signs) (src : List ℕ) (p : Spot) where
     pub next-comma : m ≡ 44 → {t : Tok} → t ≡ bare_at 2 q → TokenIs g src p t
     next-comma h = one 2 (omega arith) (λ z. omega arith) (λ z. omega arith) (first-comma m (marks_left g src q) h)
 
-    pub next-space : m ≡ 32 → {t : Tok} → t ≡ bare_at 0 q → TokenIs g src p t
-    next-space h = one 0 (omega arith) (λ z. omega arith) (λ z. omega arith) (first-gap m (marks_left g src q) (rw h))
-
-    pub next-tab : m ≡ 9 → {t : Tok} → t ≡ bare_at 0 q → TokenIs g src p t
-    next-tab h = one 0 (omega arith) (λ z. omega arith) (λ z. omega arith) (first-gap m (marks_left g src q) (rw h))
+    pub next-gap : (m ≡ 9) ⊎ (m ≡ 32) → {t : Tok} → t ≡ bare_at 0 q → TokenIs g src p t
+    next-gap (inl h) = one 0 (omega arith) (λ z. omega arith) (λ z. omega arith) (first-gap m (marks_left g src q) (rw h))
+    next-gap (inr h) = one 0 (omega arith) (λ z. omega arith) (λ z. omega arith) (first-gap m (marks_left g src q) (rw h))
 
     -- ### An escape pair
 
-    pub next-dead : 256 ≤ m → TokenIs g src p (record { kind = 3; next = q; inside = q; names = 0; refusal = 3; byte = m - 512 })
+    pub next-dead : 256 ≤ m → TokenIs g src p (record { kind = 3; next = q; inside = q; names = 0; refusal = Some Malformed; byte = m - 512 })
     unfolding tokens_left
     next-dead h =
         let f : tokens_left g src p ≡ token broken ((m - 512) ∷ []) [] ∷ tokens_left g src q = from-mark ∙ first-dead m (marks_left g src q) (mark.step.dead o h) in
@@ -134,9 +130,6 @@ module _ (g : Signs) (src : List ℕ) (p : Spot) where
           to = mark.to;
           inside = mark.to;
         }
-
-    pub dead-byte : 256 ≤ m → (512 ≤ m) × (m - 512 < 256)
-    dead-byte h = let k = mark.step.dead o h in let l = mark.step.small in (k, omega arith)
 
     -- ### A word
 
@@ -184,13 +177,13 @@ module _ (g : Signs) (src : List ℕ) (p : Spot) where
       unfolding after
       next-name-inside = (mark.to, rw (mark.step.mode, o, h))
 
-      module _ {c : Closing} (k : ClosingIs g src q c) where
-        pub next-name-open : c ≡ closing.Open → tokens_refusal (tokens_left g src p) ≡ 3
+      module _ {c : Option (Option Refusal × Spot)} (k : ClosingIs g src q c) where
+        pub next-name-open : c ≡ None → tokens_refusal (tokens_left g src p) ≡ 3
         next-name-open f =
             let z : one_of is_close (marks_left g src q) ≡ false = subst (ClosingIs g src q) f k in
             rw (from-mark, first-name m (marks_left g src q) h, name-open [] (marks_left g src q) z) (refusal-broken (token broken [] []) [] refl)
 
-        pub next-name : {f : ℕ} {r : Spot} → c ≡ closing.Closed f r → {t : Tok} → t ≡ named_at f q r → TokenIs g src p t
+        pub next-name : {f : Option Refusal} {r : Spot} → c ≡ Some (f, r) → {t : Tok} → t ≡ named_at f q r → TokenIs g src p t
         unfolding tokens_left after
         next-name {f} {r} i j =
             let z : NameEnds g src q f r = subst (ClosingIs g src q) i k in
@@ -228,25 +221,25 @@ module _ (g : Signs) (src : List ℕ) (p : Spot) where
       unfolding after
       next-quote-inside = (mark.to, rw (mark.step.mode, o, h))
 
-      module _ {c : Quotes} (k : QuotesIs g src q c) where
-        pub next-quote-broken : c ≡ quotes.Broken → tokens_refusal (tokens_left g src p) ≡ 3
+      module _ {c : Option (ℕ × Option Refusal × Spot)} (k : QuotesIs g src q c) where
+        pub next-quote-broken : c ≡ None → tokens_refusal (tokens_left g src p) ≡ 3
         next-quote-broken f = rw (from-mark, first-quote m (marks_left g src q) h) (subst (QuotesIs g src q) f k)
 
-        module _ {n f : ℕ} {r : Spot} (i : c ≡ quotes.Closed n f r) where
+        module _ {n : ℕ} {f : Option Refusal} {r : Spot} (i : c ≡ Some (n, f, r)) where
           closed : QuotesEnd g src q n f r
           closed = subst (QuotesIs g src q) i k
 
           from-quote : tokens_left g src p ≡ token quote [] (names_in (marks_left g src q)) ∷ tokens_left g src r
           from-quote = from-mark ∙ first-quote m (marks_left g src q) h ∙ closed.token
 
-          pub next-quote-empty : n ≡ 0 → tokens_refusal (tokens_left g src p) ≡ 3
+          pub next-quote-empty : n ≤ 0 → tokens_refusal (tokens_left g src p) ≡ 3
           next-quote-empty j =
               let ns = names_in (marks_left g src q) in
               rw from-quote
               (tokens_refusal-cons (token quote [] ns) (tokens_left g src r)
-              ∙ rw (refusal-empty ns (closed.many ∙ j)) (three-first (tokens_left g src r)))
+              ∙ rw (refusal-empty ns (omega (arith, closed.many))) (three-first (tokens_left g src r)))
 
-          pub next-quote : (n ≡ 0 → ⊥) → TokenIs g src p (record { kind = 6; next = r; inside = q; names = n; refusal = f; byte = 0 })
+          pub next-quote : 0 < n → TokenIs g src p (record { kind = 6; next = r; inside = q; names = n; refusal = f; byte = 0 })
           unfolding after
           next-quote j =
               let ns = names_in (marks_left g src q) in
@@ -255,7 +248,7 @@ module _ (g : Signs) (src : List ℕ) (p : Spot) where
                 first = first from-quote;
                 kind = rw t;
                 names = rw t closed.many;
-                refusal = rw t (refusal-quote ns (λ z. j (sym closed.many ∙ z)) ∙ closed.refusal);
+                refusal = rw t (refusal-quote ns (λ z. omega (arith, closed.many)) ∙ closed.refusal);
                 dead = λ x. absurd (omega arith);
                 word = λ x. absurd (omega arith);
                 name = λ x. absurd (omega arith);

@@ -1,4 +1,5 @@
 -- Plain bytes of a name: how far they go on, and the end of a name from them.
+use Rattle.std.specs.Prelude.{Option, Some, ℕ}
 use mathlib.Core.Path.{◌≡◌, refl, sym, ◌∙◌}
 use mathlib.Core.Bool.{Bool, true, false, ◌&&◌, not}
 use mathlib.Core.List.{List, ◌∷◌}
@@ -8,33 +9,22 @@ use native.Mathlib.Omega.{arith}
 use lib.ListN.{length, get_or, drop, drop_of_length-le}
 use lib.Seq.{drop-cons}
 use lib.Dec.{eqb, leb, ltb}
-use borrow.Author.Tests.{ne_eqb, eqb-true, eqb-false, leb-true, ltb-true, ltb-false, not-true}
+use borrow.Author.Tests.{ne_eqb, eqb-true, eqb-false, leb-true, ltb-true, ltb-false, not-true, not-false}
 use Rattle.base_lists.proofs.Bools.{by, and_left, and_right}
 use Rattle.rules.specs.Text.{every, ◌unless◌, lower}
 use Rattle.rules.specs.Names.{is_blank, is_visible}
 use Rattle.rules.specs.Lines.{after}
+use Rattle.base_units.specs.declared.Refusal.{Refusal}
+use Rattle.base_units.specs.Numbers.{number_or_none}
 use Rattle.text_lines.specs.declared.Signs.{Signs}
 use Rattle.text_lines.specs.declared.Spot.{Spot}
-use Rattle.text_lines.specs.declared.Step.TheVariants as step
 use Rattle.text_lines.proofs.LineLaws.{spot}
 use Rattle.text_lines.proofs.StandsLaws.{Stands, stands-mark}
 use Rattle.text_tokens.specs.declared.NameStep.TheVariants as nameStep
-use Rattle.text_tokens.specs.declared.Closing.{Closing}
-use Rattle.text_tokens.specs.declared.Closing.TheVariants as closing
 use Rattle.text_tokens.specs.Left.{is_inside, is_plain, plain_in, PlainTo, NameCloses, NameEnds, ClosingAfter, ClosingIs}
 use Rattle.text_tokens.proofs.NameLaws.{InName, name-none, name-more, name-joined, name-byte-here, name-close-here, inside-stays}
 
 -- ## Plain bytes of a name
-
-module _ (escape b : ℕ) (v : Bool) where
-  pub plain-foul : v ≡ is_visible b → v ≡ false → false ≡ is_plain escape b
-  plain-foul e f = rw (sym e ∙ f)
-
-  pub plain-close : v ≡ is_visible b → v ≡ true → b ≡ 62 → false ≡ is_plain escape b
-  plain-close e f h = rw h
-
-  pub plain_other : v ≡ is_visible b → v ≡ true → (b ≡ 62 → ⊥) → not (eqb b escape) ≡ is_plain escape b
-  plain_other e f h = rw (sym e ∙ f) (simp (ne_eqb b 62 h))
 
 -- Up to i they go on.
 pub record Passing (src : List ℕ) (escape at i : ℕ) : Type 0 where
@@ -45,23 +35,23 @@ pub passing-none : (src : List ℕ) (escape at : ℕ) → at ≤ length src → 
 passing-none src escape at h = record { same = refl; to = h }
 
 module _ {src : List ℕ} {escape at i : ℕ} (v : Passing src escape at i) where
-  pub passing-end : length src ≤ i → PlainTo src escape at i
+  pub passing-end : length src ≤ i → PlainTo src escape at (length src)
   unfolding plain_in
   passing-end h =
       let z : plain_in escape (drop i src) ≡ 0 = rw (drop_of_length-le src h) in
-      record { is = omega (arith, v.same); to = v.to }
+      record { is = omega (arith, v.same, v.to); to = omega arith }
 
   module _ (h : i < length src) {t : Bool} (e : t ≡ is_plain escape (get_or src i 0)) where
-    pub passing-stop : t ≡ false → PlainTo src escape at i
+    pub passing-stop : not t ≡ true → PlainTo src escape at i
     unfolding plain_in
     passing-stop f =
-        let z : plain_in escape (drop i src) ≡ 0 = rw (drop-cons src i 0 h, sym e ∙ f) in
+        let z : plain_in escape (drop i src) ≡ 0 = rw (drop-cons src i 0 h, sym e ∙ not-true t f) in
         record { is = omega (arith, v.same); to = v.to }
 
-    pub passing-more : t ≡ true → Passing src escape at (i + 1)
+    pub passing-more : not t ≡ false → Passing src escape at (i + 1)
     unfolding plain_in
     passing-more f =
-        let z : plain_in escape (drop i src) ≡ suc (plain_in escape (drop (i + 1) src)) = rw (drop-cons src i 0 h, sym e ∙ f, add-one) in
+        let z : plain_in escape (drop i src) ≡ suc (plain_in escape (drop (i + 1) src)) = rw (drop-cons src i 0 h, sym e ∙ not-false t f, add-one) in
         record { same = omega (arith, v.same); to = omega arith }
 
 -- ## To the end of a name
@@ -141,7 +131,7 @@ module _ {g : Signs} {src : List ℕ} {p : Spot} where
       let a : p.mode ≡ after q.mode b = sym v.mode ∙ sym (inside-stays q.mode b i f.plain.no-close) in
       let s = stands-mark (inside-stands i f.inside refl f.plain.visible f.plain.no-escape) a w.1 in
       name-more {s = nameStep.Byte (b % 256) (spot (q.at + 1) p.mode false)} v
-      (name-byte-here {s = step.Mark b (spot (q.at + 1) p.mode false)} s refl f.plain.no-close) refl refl (rw m (sym f.plain.visible))
+      (name-byte-here {s = Some (b, (spot (q.at + 1) p.mode false))} s refl f.plain.no-close) refl refl (rw m (sym f.plain.visible))
 
   -- one and more
   name-some : (k : ℕ) (q : Spot) (n : ℕ) → InName g src p q n true → plain_in g.escape (drop q.at src) ≡ suc k
@@ -153,12 +143,9 @@ module _ {g : Signs} {src : List ℕ} {p : Spot} where
       let b : n + 1 + suc k ≡ n + suc (suc k) = omega arith in
       rw (a, b) at (name-some k (spot (q.at + 1) p.mode false) (n + 1) (name-one (suc k) q n v f) f.rest)
 
-pub plain-mode : (mode : ℕ) → is_inside mode ≡ true → 1 ≤ mode
-plain-mode mode i = (inside_is mode i).some
-
 module _ (g : Signs) (src : List ℕ) (p : Spot) (l : p.at ≤ length src) (i : is_inside p.mode ≡ true) where
   -- no plain byte comes first
-  pub plain-none : (c : Closing) → ClosingAfter 0 g src p c → ClosingIs g src p c
+  pub plain-none : (c : Option (Option Refusal × Spot)) → ClosingAfter 0 g src p c → ClosingIs g src p c
   plain-none c w = name-joined (name-none g src p l i) c w
 
   module _ {at : ℕ} (v : PlainTo src g.escape p.at at) (n : at ≡ p.at → ⊥) where
@@ -171,21 +158,21 @@ module _ (g : Signs) (src : List ℕ) (p : Spot) (l : p.at ≤ length src) (i : 
         rw (a, b) at (name-some k p 0 (name-none g src p l i) e)
 
     -- what stands behind them
-    pub plain_then : (c : Closing) → ClosingAfter (at - p.at) g src (spot at p.mode false) c → ClosingIs g src p c
+    pub plain_then : (c : Option (Option Refusal × Spot)) → ClosingAfter (at - p.at) g src (spot at p.mode false) c → ClosingIs g src p c
     plain_then c w = name-joined plain-passed c w
 
     -- the `>` right behind them
-    pub plain_closed : {f : ℕ} → at < length src → get_or src at 0 ≡ 62 → (g.escape ≡ 62 → ⊥) → f ≡ lower (3 unless (leb 1 (at - p.at) && true)) (7 unless leb (at - p.at) 32)
+    pub plain_closed : {f : Option Refusal} → at < length src → get_or src at 0 ≡ 62 → (g.escape ≡ 62 → ⊥) → number_or_none f ≡ lower (3 unless (leb 1 (at - p.at) && true)) (7 unless leb (at - p.at) 32)
         → NameEnds g src p f (spot (at + 1) (p.mode - 1) false)
     unfolding every
     plain_closed {f} h e d r =
         let q = spot at p.mode false in
         let z = spot (at + 1) (p.mode - 1) false in
         let x : NameCloses g src q z =
-        name-close-here {s = step.Mark 62 z} (stands-mark (inside-stands i h e refl (λ y. d (sym y))) (inside_is p.mode i).left refl) refl refl in
+        name-close-here {s = Some (62, z)} (stands-mark (inside-stands i h e refl (λ y. d (sym y))) (inside_is p.mode i).left refl) refl refl in
         let k = at - p.at in
         let none : k + 0 ≡ k = omega arith in
-        name-joined plain-passed (closing.Closed f z)
+        name-joined plain-passed (Some (f, z))
         (record {
           refusal = rw (x.bytes, none) (sym r);
           after = x.after;

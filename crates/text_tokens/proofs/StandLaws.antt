@@ -1,6 +1,7 @@
 -- The byte at a place, in plain mode: where it is given as it is, it stands for itself.
 use mathlib.Core.Path.{◌≡◌, refl, sym, ◌∙◌}
 use mathlib.Core.Bool.{◌&&◌, ◌||◌, and-false}
+use mathlib.Core.Logic.{◌⊎◌, inl, inr}
 use mathlib.Core.List.{List}
 use Prim.Native.Nat.{ℕ, ◌≤◌, ◌<◌}
 use native.Mathlib.Omega.{arith}
@@ -21,24 +22,33 @@ module _ (g : Signs) (src : List ℕ) (at : ℕ) where
       let z : get_or src at 0 ≡ 0 = get_or-eq_default src 0 h in
       record { is = sym (rw z (cond_both (λ (x : ℕ). x ≡ 0) (eqb 0 g.escape || eqb 0 g.comment || eqb 0 10) refl refl)); small = omega arith }
 
-  pub at-escape : get_or src at 0 ≡ g.escape → PlainAt g src at 0
+  at-escape : get_or src at 0 ≡ g.escape → PlainAt g src at 0
   unfolding plain_at
   at-escape e = record { is = sym (rw (eq-eqb (get_or src at 0) g.escape e)); small = omega arith }
 
-  pub at-comment : (get_or src at 0 ≡ g.escape → ⊥) → get_or src at 0 ≡ g.comment → PlainAt g src at 0
+  at-comment : (get_or src at 0 ≡ g.escape → ⊥) → get_or src at 0 ≡ g.comment → PlainAt g src at 0
   unfolding plain_at
   at-comment h e = record { is = sym (simp (ne_eqb (get_or src at 0) g.escape h, eq-eqb (get_or src at 0) g.comment e)); small = omega arith }
 
   module _ (h : get_or src at 0 ≡ g.escape → ⊥) (k : get_or src at 0 ≡ g.comment → ⊥) where
-    pub at-feed : get_or src at 0 ≡ 10 → PlainAt g src at 0
+    at-feed : get_or src at 0 ≡ 10 → PlainAt g src at 0
     unfolding plain_at
     at-feed e =
         record { is = sym (simp (ne_eqb (get_or src at 0) g.escape h, ne_eqb (get_or src at 0) g.comment k, eq-eqb (get_or src at 0) 10 e)); small = omega arith }
 
-    pub at_byte : (get_or src at 0 ≡ 10 → ⊥) → get_or src at 0 < 256 → PlainAt g src at (get_or src at 0)
-    unfolding plain_at
-    at_byte n l =
-        record { is = sym (simp (ne_eqb (get_or src at 0) g.escape h, ne_eqb (get_or src at 0) g.comment k, ne_eqb (get_or src at 0) 10 n)); small = l }
+  pub at-one : (get_or src at 0 ≡ g.escape)
+      ⊎ ((((get_or src at 0 ≡ g.escape → ⊥) × (get_or src at 0 ≡ g.comment)))
+      ⊎ ((get_or src at 0 ≡ g.escape → ⊥) × (get_or src at 0 ≡ g.comment → ⊥) × (get_or src at 0 ≡ 10)))
+      → PlainAt g src at 0
+  at-one (inl e) = at-escape e
+  at-one (inr (inl (h, e))) = at-comment h e
+  at-one (inr (inr (h, k, e))) = at-feed h k e
+
+  pub at_byte : (get_or src at 0 ≡ g.escape → ⊥) × (get_or src at 0 ≡ g.comment → ⊥) × (get_or src at 0 ≡ 10 → ⊥) → get_or src at 0 < 256
+      → PlainAt g src at (get_or src at 0)
+  unfolding plain_at
+  at_byte (h, k, n) l =
+      record { is = sym (simp (ne_eqb (get_or src at 0) g.escape h, ne_eqb (get_or src at 0) g.comment k, ne_eqb (get_or src at 0) 10 n)); small = l }
 
 -- such a byte stands at every spot in plain mode
 pub plain-stands : {g : Signs} {src : List ℕ} {p : Spot} {b : ℕ} → PlainAt g src p.at b → p.mode ≡ in_plain → 0 < b → Stands g src p b

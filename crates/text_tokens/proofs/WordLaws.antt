@@ -1,7 +1,8 @@
 -- Reading a word byte by byte: the test of a mark, the turns of the loops to its end and beside another word.
-use native.Mathlib.Nat.{le_of_eq}
+use Rattle.std.specs.Prelude.{None, Option, Some, ℕ}
+use Rattle.std.specs.Option.{is_some}
 use mathlib.Core.Path.{◌≡◌, refl, sym, ap, ◌∙◌, subst}
-use mathlib.Core.Bool.{Bool, true, false, not, or-true, or-false}
+use mathlib.Core.Bool.{Bool, true, false, not, or-false}
 use mathlib.Core.List.{List, []}
 use Prim.Native.Nat.{ℕ, ◌+◌, ◌-◌, ◌≤◌, ◌<◌}
 use native.Mathlib.Numerals.{add-one}
@@ -9,37 +10,24 @@ use native.Mathlib.Omega.{arith}
 use lib.ListN.{length, get_or, drop, drop_of_length-le}
 use lib.Seq.{drop-cons}
 use lib.Dec.{eqb}
-use borrow.Author.Tests.{eq-eqb, ne_eqb, le-leb, lt-leb, eqb-false, eqb-true}
+use borrow.Author.Tests.{eq-eqb, ne_eqb, lt-leb, not-true, not-false}
 use Rattle.rules.specs.Text.{same}
 use Rattle.rules.specs.Lines.{in_plain, after}
 use Rattle.rules.specs.Tokens.{in_word}
 use Rattle.text_lines.specs.declared.Signs.{Signs}
 use Rattle.text_lines.specs.declared.Spot.{Spot}
-use Rattle.text_lines.specs.declared.Step.{Step}
-use Rattle.text_lines.specs.declared.Step.TheVariants as step
-use Rattle.text_lines.specs.Stream.{marks_left, Walk, MarkIs, StepIs}
-use Rattle.text_lines.proofs.RunLaws.{walk_none, walk-then, mark-walk}
-use Rattle.text_tokens.specs.declared.WordStep.{WordStep}
-use Rattle.text_tokens.specs.declared.WordStep.TheVariants.{Byte, End}
-use Rattle.text_tokens.specs.Left.{word_in, after_word, WordByte, WordStops, WordStepIs, WordEnds}
+use Rattle.text_lines.specs.Stream.{marks_left, Walk, MarkIs}
+use Rattle.text_lines.proofs.RunLaws.{walk-then, mark-walk}
+use Rattle.text_tokens.specs.Left.{word_in, after_word, WordByte, WordStops, WordStepIs}
 use Rattle.text_tokens.proofs.TokenLaws.{in-word}
 use Rattle.base_lists.proofs.Bools.{by, clash}
 use Rattle.rules.specs.Names.{is_blank}
 
 -- ## The marks of a word
 
-pub in-word-escaped : (m : ℕ) → 256 ≤ m → false ≡ in_word m
-in-word-escaped m h = simp (le-leb 256 m h, or-true)
-
-pub in-word-not : (m k : ℕ) → in_word k ≡ false → m ≡ k → false ≡ in_word m
-in-word-not m k h e = sym (rw e h)
-
 pub in-word-yes : (m : ℕ) → m < 256 → (m ≡ 32 → ⊥) → (m ≡ 9 → ⊥) → (m ≡ 59 → ⊥) → (m ≡ 44 → ⊥) → (m ≡ 60 → ⊥) → not (eqb m 34) ≡ in_word m
 in-word-yes m h a b c d e =
     simp (lt-leb 256 m h, ne_eqb m 32 a, ne_eqb m 9 b, ne_eqb m 59 c, ne_eqb m 44 d, ne_eqb m 60 e, or-false)
-
-pub word_small : (m : ℕ) {t : Bool} → t ≡ in_word m → t ≡ true → m < 256
-word_small m f y = (in-word m (sym f ∙ y)).small
 
 -- it is no blank
 pub unblank : (m : ℕ) → in_word m ≡ true → is_blank m ≡ false
@@ -52,14 +40,11 @@ wide-unblank m h = simp (ne_eqb m 32 (λ e. omega (arith, e, h)), ne_eqb m 9 (λ
 -- ## The next byte
 
 module _ {g : Signs} {src : List ℕ} {p : Spot} where
-  pub word_end : {s : Step} → StepIs g src p s → s ≡ step.End → WordStops g src p
+  pub word_end : marks_left g src p ≡ [] → WordStops g src p
   unfolding word_in after_word
-  word_end v e = let n : marks_left g src p ≡ [] = subst (StepIs g src p) e v in record { bytes = rw n; after = rw n }
+  word_end n = record { bytes = rw n; after = rw n }
 
-  module _ {s : Step} {m : ℕ} {q : Spot} (v : StepIs g src p s) (e : s ≡ step.Mark m q) where
-    mark : MarkIs g src p m q
-    mark = subst (StepIs g src p) e v
-
+  module _ {m : ℕ} {q : Spot} (mark : MarkIs g src p m q) where
     pub word-stops : {t : Bool} → t ≡ in_word m → t ≡ false → WordStops g src p
     unfolding word_in after_word
     word-stops f n = let k = sym f ∙ n in record { bytes = rw (mark.marks, k); after = rw (mark.marks, k) }
@@ -91,22 +76,14 @@ pub record InWord (g : Signs) (src : List ℕ) (p q : Spot) : Type 0 where
   pub from : p.at ≤ q.at
   pub to : q.at ≤ length src
 
-pub in-none : (g : Signs) (src : List ℕ) (p : Spot) → p.at ≤ length src → p.mode ≡ in_plain → InWord g src p p
-in-none g src p h m = record { after = refl; mode = m; edge = λ e. e; long = omega arith; walk = walk_none g src p; from = omega arith; to = h }
-
-module _ {g : Signs} {src : List ℕ} {p q : Spot} {s : WordStep} (v : InWord g src p q) (w : WordStepIs g src q s) where
-  pub in-more : {b : ℕ} {r : Spot} → s ≡ Byte b r → InWord g src p r
+module _ {g : Signs} {src : List ℕ} {p q : Spot} {s : Option (ℕ × Spot)} (v : InWord g src p q) (w : WordStepIs g src q s) where
+  pub in-more : {b : ℕ} {r : Spot} → s ≡ Some (b, r) → InWord g src p r
   in-more {b} {r} e =
       let x : WordByte g src q b r = subst (WordStepIs g src q) e w in
       record { after = v.after ∙ x.after; mode = x.mode v.mode; edge = λ e. x.edge; long = (let l = ap length x.bytes in omega (arith, v.long, x.on, l)); walk = walk-then v.walk x.walk; from = omega (arith, v.from, x.on); to = x.to }
 
-  pub in_end : s ≡ End → WordEnds g src p q
-  in_end e =
-      let x : WordStops g src q = subst (WordStepIs g src q) e w in
-      record { after = sym (v.after ∙ x.after); mode = v.mode; edge = v.edge; long = (let l = ap length x.bytes in omega (arith, v.long, l)); walk = v.walk; from = v.from; to = v.to }
-
 -- each byte of a word brings the end nearer
-pub word-less : (g : Signs) (src : List ℕ) (q : Spot) {s : WordStep} {b : ℕ} {r : Spot} → WordStepIs g src q s → s ≡ Byte b r
+pub word-less : (g : Signs) (src : List ℕ) (q : Spot) {s : Option (ℕ × Spot)} {b : ℕ} {r : Spot} → WordStepIs g src q s → s ≡ Some (b, r)
     → length src - r.at < length src - q.at
 word-less g src q {b = b} {r} w e = let x : WordByte g src q b r = subst (WordStepIs g src q) e w in omega (arith, x.on, x.to)
 
@@ -121,22 +98,14 @@ pub record Alike (g : Signs) (src w : List ℕ) (p q : Spot) (i : ℕ) : Type 0 
 pub alike-none : (g : Signs) (src w : List ℕ) (p : Spot) → p.at ≤ length src → Alike g src w p p 0
 alike-none g src w p h = record { rest = refl; to = h; short = omega arith }
 
-module _ {g : Signs} {src w : List ℕ} {p q : Spot} {i : ℕ} {s : WordStep} (v : Alike g src w p q i) (x : WordStepIs g src q s) where
-  pub alike_end : s ≡ End → eqb i (length w) ≡ same (word_in (marks_left g src p)) w
+module _ {g : Signs} {src w : List ℕ} {p q : Spot} {i : ℕ} {s : Option (ℕ × Spot)} (v : Alike g src w p q i) (x : WordStepIs g src q s) where
+  pub alike-short : s ≡ None → i < length w → false ≡ same (word_in (marks_left g src p)) w
   unfolding same
-  alike_end e =
-      let y : WordStops g src q = subst (WordStepIs g src q) e x in
-      sym (v.rest ∙ rw y.bytes (by (eqb i (length w))
-      (λ t. rw (t, drop_of_length-le w (le_of_eq (sym (eqb-true i (length w) t)))))
-      (λ t. let n = eqb-false i (length w) t in let k = v.short in rw (t, drop-cons w i 0 (omega arith)))))
+  alike-short e h = let y : WordStops g src q = subst (WordStepIs g src q) e x in sym (v.rest ∙ rw (y.bytes, drop-cons w i 0 h))
 
-  module _ {b : ℕ} {r : Spot} (e : s ≡ Byte b r) where
+  module _ {b : ℕ} {r : Spot} (e : s ≡ Some (b, r)) where
     on : WordByte g src q b r
     on = subst (WordStepIs g src q) e x
-
-    pub alike-long : length w ≤ i → false ≡ same (word_in (marks_left g src p)) w
-    unfolding same
-    alike-long h = sym (v.rest ∙ rw (on.bytes, drop_of_length-le w h))
 
     module _ (h : i < length w) where
       pub alike-not : (b ≡ get_or w i 0 → ⊥) → false ≡ same (word_in (marks_left g src p)) w
@@ -151,3 +120,10 @@ module _ {g : Signs} {src w : List ℕ} {p q : Spot} {i : ℕ} {s : WordStep} (v
             to = on.to;
             short = omega arith;
           }
+
+-- where the other word is used up, the first one must be too
+pub alike_end : {g : Signs} {src w : List ℕ} {p q : Spot} {i : ℕ} → Alike g src w p q i → length w ≤ i → (s : Option (ℕ × Spot)) → WordStepIs g src q s → {t : Bool}
+    → is_some s ≡ not t → t ≡ same (word_in (marks_left g src p)) w
+unfolding same
+alike_end {w = w} v h None x {t} e = not-false t (sym e) ∙ sym (v.rest ∙ rw (x.bytes, drop_of_length-le w h))
+alike_end {w = w} v h (Some (b, r)) x {t} e = not-true t (sym e) ∙ sym (v.rest ∙ rw (x.bytes, drop_of_length-le w h))

@@ -1,22 +1,18 @@
 -- The tokens of a line as code reads them: what is still to come at a spot is the paper's own list (Rattle.rules.specs.Tokens).
-use Rattle.std.specs.Prelude.{◌≡◌, Bool, true, false, ◌&&◌, ◌||◌, not, List, [], ◌∷◌, ◌++◌, ℕ, suc, ◌+◌, ◌%◌, ◌≤◌, ◌<◌, length, get_or, take, drop, eqb, leb, if◌then◌else◌}
+use Rattle.std.specs.Prelude.{◌≡◌, Bool, true, false, ◌&&◌, ◌||◌, not, List, [], ◌∷◌, ◌++◌, ℕ, suc, ◌+◌, ◌%◌, ◌≤◌, ◌<◌, length, get_or, take, drop, eqb, leb, if◌then◌else◌, None, Option, Some}
 use Rattle.rules.specs.Text.{every, one_of, ◌unless◌, lower}
 use Rattle.rules.specs.Names.{is_visible, name_refusal, names_refusal}
 use Rattle.rules.specs.Lines as lines
 use Rattle.rules.specs.Lines.{in_plain, in_name, quoted, quoted_name}
 use Rattle.rules.specs.Tokens as tokens
 use Rattle.rules.specs.Tokens.{broken, word, name, quote, Token, token_at, no_part, in_word, tokens_from, without_blanks, without_opening_gaps, tokens_refusal, lexed, token}
+use Rattle.base_units.specs.declared.Refusal.{Refusal}
+use Rattle.base_units.specs.Numbers.{number_or_none}
 use Rattle.text_lines.specs.declared.Signs.{Signs}
 use Rattle.text_lines.specs.declared.Spot.{Spot}
 use Rattle.text_lines.specs.Stream.{marks_left, Walk}
-use Rattle.text_tokens.specs.declared.WordStep.{WordStep}
-use Rattle.text_tokens.specs.declared.WordStep.TheVariants as wordStep
 use Rattle.text_tokens.specs.declared.NameStep.{NameStep}
 use Rattle.text_tokens.specs.declared.NameStep.TheVariants as nameStep
-use Rattle.text_tokens.specs.declared.Closing.{Closing}
-use Rattle.text_tokens.specs.declared.Closing.TheVariants as closing
-use Rattle.text_tokens.specs.declared.Quotes.{Quotes}
-use Rattle.text_tokens.specs.declared.Quotes.TheVariants as quotes
 use Rattle.text_tokens.specs.declared.Tok.{Tok}
 use Rattle.text_tokens.specs.declared.Next.{Next}
 use Rattle.text_tokens.specs.declared.Next.TheVariants as next
@@ -132,9 +128,9 @@ pub record WordStops (g : Signs) (src : List ℕ) (p : Spot) : Type 0 where
   pub bytes : word_in (marks_left g src p) ≡ []
   pub after : after_word (marks_left g src p) ≡ marks_left g src p
 
-abbrev pub WordStepIs : Signs → List ℕ → Spot → WordStep → Type 0
-WordStepIs g src p (wordStep.Byte b q) = WordByte g src p b q
-WordStepIs g src p wordStep.End = WordStops g src p
+abbrev pub WordStepIs : Signs → List ℕ → Spot → Option (ℕ × Spot) → Type 0
+WordStepIs g src p (Some (b, q)) = WordByte g src p b q
+WordStepIs g src p None = WordStops g src p
 
 -- The word w stands in front of the area, or as much of it as there is room for, n bytes; what lies behind them is as it was.
 pub record CopiesWord (w area after : List ℕ) (n : ℕ) : Type 0 where
@@ -185,8 +181,8 @@ NameStepIs g src p (nameStep.Close q) = NameCloses g src p q
 NameStepIs g src p nameStep.Open = NameOpen g src p
 
 -- A name that is closed: its refusal, and the spot after it.
-pub record NameEnds (g : Signs) (src : List ℕ) (p : Spot) (r : ℕ) (q : Spot) : Type 0 where
-  pub refusal : name_refusal (name_in (marks_left g src p)) ≡ r
+pub record NameEnds (g : Signs) (src : List ℕ) (p : Spot) (r : Option Refusal) (q : Spot) : Type 0 where
+  pub refusal : name_refusal (name_in (marks_left g src p)) ≡ number_or_none r
   pub after : after_name (marks_left g src p) ≡ marks_left g src q
   pub closes : one_of is_close (marks_left g src p) ≡ true
   pub mode : q.mode ≡ lines.after p.mode 62
@@ -196,13 +192,13 @@ pub record NameEnds (g : Signs) (src : List ℕ) (p : Spot) (r : ℕ) (q : Spot)
   pub walk : Walk g src p q
   pub to : q.at ≤ length src
 
-abbrev pub ClosingIs : Signs → List ℕ → Spot → Closing → Type 0
-ClosingIs g src p (closing.Closed r q) = NameEnds g src p r q
-ClosingIs g src p closing.Open = one_of is_close (marks_left g src p) ≡ false
+abbrev pub ClosingIs : Signs → List ℕ → Spot → Option (Option Refusal × Spot) → Type 0
+ClosingIs g src p (Some (r, q)) = NameEnds g src p r q
+ClosingIs g src p None = one_of is_close (marks_left g src p) ≡ false
 
 -- The same of a name with k visible bytes more, which stand before p.
-pub record NameEndsAfter (k : ℕ) (g : Signs) (src : List ℕ) (p : Spot) (r : ℕ) (q : Spot) : Type 0 where
-  pub refusal : lower (3 unless (leb 1 (k + length (name_in (marks_left g src p))) && every is_visible (name_in (marks_left g src p)))) (7 unless leb (k + length (name_in (marks_left g src p))) 32) ≡ r
+pub record NameEndsAfter (k : ℕ) (g : Signs) (src : List ℕ) (p : Spot) (r : Option Refusal) (q : Spot) : Type 0 where
+  pub refusal : lower (3 unless (leb 1 (k + length (name_in (marks_left g src p))) && every is_visible (name_in (marks_left g src p)))) (7 unless leb (k + length (name_in (marks_left g src p))) 32) ≡ number_or_none r
   pub after : after_name (marks_left g src p) ≡ marks_left g src q
   pub closes : one_of is_close (marks_left g src p) ≡ true
   pub mode : q.mode ≡ lines.after p.mode 62
@@ -211,33 +207,33 @@ pub record NameEndsAfter (k : ℕ) (g : Signs) (src : List ℕ) (p : Spot) (r : 
   pub walk : Walk g src p q
   pub to : q.at ≤ length src
 
-abbrev pub ClosingAfter : ℕ → Signs → List ℕ → Spot → Closing → Type 0
-ClosingAfter k g src p (closing.Closed r q) = NameEndsAfter k g src p r q
-ClosingAfter k g src p closing.Open = one_of is_close (marks_left g src p) ≡ false
+abbrev pub ClosingAfter : ℕ → Signs → List ℕ → Spot → Option (Option Refusal × Spot) → Type 0
+ClosingAfter k g src p (Some (r, q)) = NameEndsAfter k g src p r q
+ClosingAfter k g src p None = one_of is_close (marks_left g src p) ≡ false
 
 -- Quotes that hold names only, from the spot after the opening `"`: how many, their lowest refusal, and the spot after the closing one.
-pub record QuotesEnd (g : Signs) (src : List ℕ) (p : Spot) (n r : ℕ) (q : Spot) : Type 0 where
+pub record QuotesEnd (g : Signs) (src : List ℕ) (p : Spot) (n : ℕ) (r : Option Refusal) (q : Spot) : Type 0 where
   pub token : tokens_from (lexed [] quote [] []) (marks_left g src p) ≡ token quote [] (names_in (marks_left g src p)) ∷ tokens_left g src q
   pub many : length (names_in (marks_left g src p)) ≡ n
-  pub refusal : names_refusal (names_in (marks_left g src p)) ≡ r
+  pub refusal : names_refusal (names_in (marks_left g src p)) ≡ number_or_none r
   pub mode : q.mode ≡ in_plain
   pub edge : q.fresh ≡ false
   pub on : p.at < q.at
   pub walk : Walk g src p q
   pub to : q.at ≤ length src
 
-abbrev pub QuotesIs : Signs → List ℕ → Spot → Quotes → Type 0
-QuotesIs g src p (quotes.Closed n r q) = QuotesEnd g src p n r q
-QuotesIs g src p quotes.Broken = tokens_refusal (tokens_from (lexed [] quote [] []) (marks_left g src p)) ≡ 3
+abbrev pub QuotesIs : Signs → List ℕ → Spot → Option (ℕ × Option Refusal × Spot) → Type 0
+QuotesIs g src p (Some (n, r, q)) = QuotesEnd g src p n r q
+QuotesIs g src p None = tokens_refusal (tokens_from (lexed [] quote [] []) (marks_left g src p)) ≡ 3
 
 -- ## What the reader of tokens gives
 
 -- a token that is no more than its kind
 abbrev pub bare_at : ℕ → Spot → Tok
-bare_at kind next = record { kind = kind; next = next; inside = next; names = 0; refusal = 0; byte = 0 }
+bare_at kind next = record { kind = kind; next = next; inside = next; names = 0; refusal = None; byte = 0 }
 
 -- a name's token
-abbrev pub named_at : ℕ → Spot → Spot → Tok
+abbrev pub named_at : Option Refusal → Spot → Spot → Tok
 named_at refusal inside next = record { kind = 5; next = next; inside = inside; names = 1; refusal = refusal; byte = 0 }
 
 -- A token and the spot after it. Of a word and of what a name or quotes hold the bytes are read from the spot itself, or from the spot
@@ -246,7 +242,7 @@ pub record TokenIs (g : Signs) (src : List ℕ) (p : Spot) (t : Tok) : Type 0 wh
   pub first : tokens_left g src p ≡ token_there g src p ∷ tokens_left g src t.next
   pub kind : (token_there g src p).kind ≡ t.kind
   pub names : length (token_there g src p).names ≡ t.names
-  pub refusal : tokens_refusal (token_there g src p ∷ []) ≡ t.refusal
+  pub refusal : tokens_refusal (token_there g src p ∷ []) ≡ number_or_none t.refusal
   pub dead : t.kind ≡ broken → (token_there g src p).text ≡ t.byte ∷ []
   pub word : t.kind ≡ word → (token_there g src p).text ≡ word_in (marks_left g src p)
   pub name : t.kind ≡ name → (token_there g src p).names ≡ name_in (marks_left g src t.inside) ∷ []

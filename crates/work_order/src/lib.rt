@@ -25,7 +25,7 @@ pub const RANK_NUMBER: usize = 4;
 // Until then the mark of the order line before it.
 const BACK_NUMBER: usize = 4;
 
-// The marks of the first and the last line, 0 for none, and how many there are.
+// The marks of the first and the last line, 0 for none as in the links that the area keeps (`Links.Reached`, `linked_to`), and how many there are.
 #[derive(Clone, Copy)]
 pub struct Order {
     pub first: usize,
@@ -38,10 +38,9 @@ fn link(work: &mut [u32], l: usize, j: usize, v: usize)
     requires { (j < 5) × (v < 4294967296) × Reached work.old l }
     ensures { work.new ≡ linked_to work.old l j v }
 {
-    if l == 0 {
-        return;
+    if l != 0 {
+        tell(work, l, j, v as u32);
     }
-    tell(work, l, j, v as u32);
 }
 
 // The numbers of a line: that of its first physical line, and the place after its subject.
@@ -57,10 +56,7 @@ fn give_numbers(work: &mut [u32], v: usize, number: usize, place: usize)
 fn where_none(n: usize, a: usize, b: usize) -> usize
     ensures { result ≡ (if eqb n 0 then a else b) }
 {
-    if n == 0 {
-        return a;
-    }
-    b
+    if n == 0 { a } else { b }
 }
 
 // A line more, of the thing at a mark: the number of its first physical line, and the place after its subject.
@@ -75,9 +71,9 @@ pub fn add_line(work: &mut [u32], o: Order, v: usize, number: usize, place: usiz
     let first = where_none(o.first, v, o.first);
     let count = o.count + 1;
     Order {
-        first: first,
+        first,
         last: v,
-        count: count,
+        count,
     }
 }
 
@@ -93,11 +89,7 @@ pub fn take_out(work: &mut [u32], o: Order, v: usize) -> Order
     let first = where_none(back, next, o.first);
     let last = where_none(next, back, o.last);
     let count = o.count - 1;
-    Order {
-        first: first,
-        last: last,
-        count: count,
-    }
+    Order { first, last, count }
 }
 
 // The links to and from a line that comes to stand between those of a and of next, if there is one.
@@ -132,8 +124,8 @@ pub fn put_after(
     let count = o.count + 1;
     Order {
         first: o.first,
-        last: last,
-        count: count,
+        last,
+        count,
     }
 }
 
@@ -143,10 +135,8 @@ pub fn give_ranks(work: &mut [u32], o: Order)
     ensures { Ranks work.old o work.new }
 {
     let mut v = o.first;
-    let mut rank: usize = 0;
-    while rank < o.count {
-        rank += 1;
-        tell(work, v, RANK_NUMBER, rank as u32);
+    for before in 0..o.count {
+        tell(work, v, RANK_NUMBER, (before + 1) as u32);
         v = told(work, v, NEXT_NUMBER) as usize;
     }
 }

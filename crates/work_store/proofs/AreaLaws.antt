@@ -1,15 +1,14 @@
 -- The area and the list that it holds: an area that is cleared, what a store elsewhere leaves, and where the ways of keys lead in it.
 use mathlib.Core.Path.{◌≡◌, refl, sym, ap, ◌∙◌, subst}
 use mathlib.Core.Bool.{true, false, ◌&&◌, false≢true}
-use mathlib.Core.List.{List, [], ◌++◌, append-nil}
+use mathlib.Core.List.{List, []}
 use Prim.Native.Nat.{ℕ, zero, suc, ◌+◌, ◌-◌, ◌*◌, ◌/◌, ◌%◌, ◌≤◌, ◌<◌}
 use native.Mathlib.Nat.{mod-lt}
 use native.Mathlib.Omega.{arith}
-use lib.ListN.{length, get_or, set, drop, replicate, length-set, length-replicate, drop_of_length-le}
+use lib.ListN.{length, get_or, set, replicate, length-set, length-replicate}
 use lib.Seq.{get_or-set_other}
 use lib.Dec.{eqb}
 use borrow.Author.Tests.{eq-eqb, ne_eqb, eqb-true, eqb-false}
-use borrow.Author.Fill.{fill_more}
 use Rattle.base_lists.proofs.Bools.{by, and_intro, cond_both}
 use Rattle.base_lists.proofs.Lists.{All}
 use Rattle.work_rows.specs.Cells.{cell_at}
@@ -19,27 +18,6 @@ use Rattle.work_store.specs.Store.{Decl, is_place, nothing, heads_of, chain_of, 
 use Rattle.work_store.proofs.WayLaws.{bit-small, together-swap, alike, depth-alike, node_by, node-some}
 
 -- ## Clearing
-
--- the first i numbers are 0
-pub record Cleared (w₀ w : List ℕ) (i : ℕ) : Type 0 where
-  pub to : i ≤ length w₀
-  pub there : w ≡ replicate i 0 ++ drop i w₀
-  pub long : length w ≡ length w₀
-
-module _ {w₀ w : List ℕ} {i : ℕ} (v : Cleared w₀ w i) where
-  pub cleared_more : i < length w → Cleared w₀ (set w i 0) (i + 1)
-  cleared_more h =
-      record {
-        to = omega (arith, v.long);
-        there = ap (λ (l : List ℕ). set l i 0) v.there ∙ fill_more i 0 w₀ (omega (arith, v.long));
-        long = length-set w i 0 ∙ v.long;
-      }
-
-  pub cleared-all : length w ≤ i → w ≡ replicate (length w₀) 0
-  cleared-all h =
-      let e : i ≡ length w₀ = omega (arith, v.long, v.to) in
-      v.there ∙ ap (λ (l : List ℕ). replicate i 0 ++ l) (drop_of_length-le w₀ {i = i} (omega arith))
-      ∙ append-nil (replicate i 0) ∙ ap (λ (n : ℕ). replicate n 0) e
 
 pub zeros : (n i : ℕ) → ◌≡◌ {A = ℕ} (get_or (replicate n 0) i 0) 0
 zeros zero i = refl

@@ -1,4 +1,5 @@
 -- A declaration more: a new row, and the slot at the end of its way that leads to it.
+use Rattle.std.specs.Prelude.{None}
 use mathlib.Core.Path.{◌≡◌, refl, sym, ap, ◌∙◌, subst}
 use mathlib.Core.Bool.{true}
 use mathlib.Core.List.{List, [], ◌∷◌}
@@ -14,9 +15,8 @@ use Rattle.work_rows.specs.Cells.{cell_at}
 use Rattle.base_lists.proofs.Lists.{All}
 use Rattle.work_subjects.specs.Keys.{Key}
 use Rattle.work_subjects.specs.declared.Told.{Told}
-use Rattle.work_subjects.specs.Numbers.{is_declarable, kind_of, width_of, numbers_of, bit_of, NumbersAre}
+use Rattle.work_subjects.specs.Numbers.{is_declarable, kind_number, kind_of, width_of, numbers_of, bit_of, NumbersAre}
 use Rattle.work_subjects.proofs.BitLaws.{kind-few}
-use Rattle.work_store.specs.declared.Found.TheVariants.{Nothing}
 use Rattle.work_store.specs.Store.{Decl, first, another, fresh, heads_of, chain_of, together, depth_of, node_of, side_of, slot_of, pointed, pointing, tag_in, tag_of, above_of, spot_of, Nodes, none, more, Roomy, Holds, WayEnds, Kept, Declares}
 use Rattle.work_store.proofs.WayLaws.{together-swap, depth-on, depth-off, depth-alike, node_by, node-other, node-deep, node-some, node-none, slot-alike}
 use Rattle.work_store.proofs.AreaLaws.{other, chain-is, above-name, spot_is, Alike, keep, all-nodes, rise, pointed-same, tag_same, depth-in, node-le, node_in, side-by, slot-number, slot-low, slot-meet}
@@ -359,7 +359,7 @@ module _ (key : ℕ → Key) (len : ℕ) (w w₀ : List ℕ) (v s : ℕ) (number
         }) o.nodes)
         (subst (λ (x : ℕ). All (Off x) ds) (sym at-end) (slots-off hs (key v) end (omega arith) o.nodes))
 
-    held : first (key v) ds ≡ Nothing → Holds key len w₂ (row + 1) ds'
+    held : first (key v) ds ≡ None → Holds key len w₂ (row + 1) ds'
     held new = record {
       roomy = record { few = r.few; room = rw long r.room };
       points = points;
@@ -380,11 +380,8 @@ module _ (key : ℕ → Key) (len : ℕ) (w w₀ : List ℕ) (v s : ℕ) (number
         (λ j c z. let y = (spot_is kind row j c).to in omega (arith, z, y, b, fit));
   }
 
-pub kind-told : {k : Key} {numbers : List ℕ} {r : Told} → NumbersAre k numbers r → r.kind ≤ 3
-kind-told {k} a = let e = a.kind in let f = kind-few k in omega (arith, e, f)
-
 pub declared : (key : ℕ → Key) (len : ℕ) (w : List ℕ) (v s : ℕ) {numbers w₀ w₁ w₂ : List ℕ} {r : Told} {h tag : ℕ} → Roomy len w → v / 2 ≤ len → NumbersAre (key v) numbers r
-    → h ≡ r.hash % heads_of len → WayEnds (heads_of len) w h numbers s → Kept w r.kind (v / 16) numbers w₀ → tag ≡ tag_of r.kind v
+    → h ≡ r.hash % heads_of len → WayEnds (heads_of len) w h numbers s → Kept w (kind_number r.kind) (v / 16) numbers w₀ → tag ≡ tag_of (kind_number r.kind) v
     → w₁ ≡ set (set w₀ (8 * (v / 16)) 0) (8 * (v / 16) + 2) tag → w₂ ≡ pointing w₁ s (v / 16 + 1) → Declares key len w v w₂
 declared key len w v s {numbers} {w₀} {w₁} {w₂} {r} {h} {tag} a fit n e ends k t y z =
     let c = n.kind in

@@ -1,5 +1,5 @@
 -- How deep a way can go: 259 at most, whatever is declared.
-use Rattle.std.specs.Prelude.{if◌then◌else◌}
+use Rattle.std.specs.Prelude.{if◌then◌else◌, None, Some}
 use mathlib.Core.Path.{◌≡◌, refl, sym, ap, ◌∙◌}
 use mathlib.Core.Bool.{true, ◌&&◌}
 use mathlib.Core.List.{List, [], ◌∷◌}
@@ -14,7 +14,6 @@ use Rattle.work_subjects.specs.Keys.{Key, same_key}
 use Rattle.work_subjects.specs.Numbers.{is_declarable, kind_of, numbers_of, bit_of}
 use Rattle.work_subjects.proofs.KeyLaws.{same_key-equal}
 use Rattle.work_subjects.proofs.BitLaws.{bits-numbers, kind-low, numbers_apart}
-use Rattle.work_store.specs.declared.Found.TheVariants.{At, Nothing}
 use Rattle.work_store.specs.Store.{Decl, first, Once, another, together, depth_of, Nodes, none, more}
 use Rattle.work_store.proofs.WayLaws.{together-less, depth-on, depth-off}
 
@@ -50,13 +49,13 @@ has-now j xs d ds e f = rw (and_intro (eq-eqb (kind_of d.key) j e) (ap (same (nu
 
 module _ {key : ℕ → Key} {len : ℕ} {w : List ℕ} where
   -- before a key is declared, none of its kind with its numbers is
-  has-none : {n : ℕ} {ds : List Decl} (k : Key) → is_declarable k ≡ true → Nodes key len w n ds → first k ds ≡ Nothing → has (kind_of k) (numbers_of k) ds ≡ 0
+  has-none : {n : ℕ} {ds : List Decl} (k : Key) → is_declarable k ≡ true → Nodes key len w n ds → first k ds ≡ None → has (kind_of k) (numbers_of k) ds ≡ 0
   unfolding has first
   has-none k h none e = refl
   has-none k h (more {d = d} {ds = ds} a ns) e =
       let test = eqb (kind_of d.key) (kind_of k) && same (numbers_of d.key) (numbers_of k) in
       by (same_key d.key k)
-      (λ t. let q : At d.place ≡ Nothing = rw t at e in absurd (let z : ◌≡◌ {A = ℕ} 0 1 = cc in omega (arith, z)))
+      (λ t. let q : Some d.place ≡ None = rw t at e in absurd (let z : ◌≡◌ {A = ℕ} 0 1 = cc in omega (arith, z)))
       (λ t. by test
       (λ u. let s = same_key-equal (numbers_apart d.key k a.plain h
       (eqb-true (kind_of d.key) (kind_of k) (and_left (eqb (kind_of d.key) (kind_of k)) (same (numbers_of d.key) (numbers_of k)) u))

@@ -1,4 +1,5 @@
 -- For callers: what the list says after a declaration and after a number is set, and how marks and keys go together.
+use Rattle.std.specs.Prelude.{None, Some}
 use mathlib.Core.Path.{◌≡◌, refl, sym, ap, ◌∙◌, subst}
 use mathlib.Core.Bool.{true, false, false≢true}
 use mathlib.Core.List.{List, [], ◌∷◌}
@@ -14,13 +15,12 @@ use Rattle.work_rows.specs.Cells.{cell}
 use Rattle.work_subjects.specs.Keys.{Key, item, same_key}
 use Rattle.work_subjects.specs.Numbers.{kind_of, width_of, numbers_of}
 use Rattle.work_subjects.proofs.KeyLaws.{same_key-true, same_key-refl, same_key-equal}
-use Rattle.work_store.specs.declared.Found.TheVariants.{At, Nothing}
 use Rattle.work_store.specs.Store.{Decl, first, is_place, Once, another, fresh, above_of, spot_of, Nodes, none, more, Holds, Declares}
 use Rattle.work_store.proofs.AreaLaws.{spot_is, spot-own, free-name, free-char, placed, placed-within}
 
 -- ## Nothing declared
 
-pub first-none : (k : Key) → first k [] ≡ Nothing
+pub first-none : (k : Key) → first k [] ≡ None
 unfolding first
 first-none k = refl
 
@@ -31,11 +31,11 @@ is_place-none p = refl
 -- ## A declaration more
 
 module _ (key : ℕ → Key) (v : ℕ) (ds : List Decl) where
-  pub first-fresh-same : (k : Key) → same_key (key v) k ≡ true → first k (fresh key v ∷ ds) ≡ At v
+  pub first-fresh-same : (k : Key) → same_key (key v) k ≡ true → first k (fresh key v ∷ ds) ≡ Some v
   unfolding first
   first-fresh-same k t = rw t
 
-  pub first-fresh : first (key v) (fresh key v ∷ ds) ≡ At v
+  pub first-fresh : first (key v) (fresh key v ∷ ds) ≡ Some v
   first-fresh = first-fresh-same (key v) (same_key-refl (key v))
 
   pub first-fresh-other : (k : Key) → same_key (key v) k ≡ false → first k (fresh key v ∷ ds) ≡ first k ds
@@ -58,42 +58,42 @@ nodes-keyed none = tt
 nodes-keyed (more a ns) = (a.keyed, nodes-keyed ns)
 
 -- what is declared once is found at its mark
-pub once-found : (key : ℕ → Key) (u : ℕ) (ds : List Decl) → All (λ (d : Decl). key d.place ≡ d.key) ds → Once ds → is_place u ds ≡ true → first (key u) ds ≡ At u
+pub once-found : (key : ℕ → Key) (u : ℕ) (ds : List Decl) → All (λ (d : Decl). key d.place ≡ d.key) ds → Once ds → is_place u ds ≡ true → first (key u) ds ≡ Some u
 unfolding first is_place
 once-found key u [] a o h = absurd (false≢true h)
 once-found key u (d ∷ ds) a (another x o) h =
     by (eqb d.place u)
     (λ t. let e = eqb-true d.place u t in
-    let k : same_key d.key (key u) ≡ true = same_key-equal (sym a.0 ∙ ap key e) in rw k (ap At e))
+    let k : same_key d.key (key u) ≡ true = same_key-equal (sym a.0 ∙ ap key e) in rw k (ap Some e))
     (λ t. let r = once-found key u ds a.1 o (rw t at h) in
     by (same_key d.key (key u))
-    (λ s. let z : At u ≡ Nothing = sym r ∙ ap (λ (k : Key). first k ds) (sym (same_key-true d.key (key u) s)) ∙ x in absurd (let y : ◌≡◌ {A = ℕ} 0 1 = cc in omega (arith, y)))
+    (λ s. let z : Some u ≡ None = sym r ∙ ap (λ (k : Key). first k ds) (sym (same_key-true d.key (key u) s)) ∙ x in absurd (let y : ◌≡◌ {A = ℕ} 0 1 = cc in omega (arith, y)))
     (λ s. rw s r))
 
 module _ {key : ℕ → Key} {len : ℕ} {w : List ℕ} where
-  first-low : {n : ℕ} {ds : List Decl} (k : Key) (p : ℕ) → Nodes key len w n ds → first k ds ≡ At p → (p / 16 < n) × (p / 2 ≤ len)
+  first-low : {n : ℕ} {ds : List Decl} (k : Key) (p : ℕ) → Nodes key len w n ds → first k ds ≡ Some p → (p / 16 < n) × (p / 2 ≤ len)
   unfolding first
   first-low k p none e = let z : ◌≡◌ {A = ℕ} 0 1 = cc in absurd (omega arith)
   first-low k p (more {d = d} a ns) e =
       by (same_key d.key k)
-      (λ t. let q : At d.place ≡ At p = rw t at e in let z : d.place ≡ p = cc in omega (arith, a.below, a.within))
+      (λ t. let q : Some d.place ≡ Some p = rw t at e in let z : d.place ≡ p = cc in omega (arith, a.below, a.within))
       (λ t. let r = first-low k p ns (rw t at e) in omega (arith, a.below, r.0, r.1))
 
-  first_key : {n : ℕ} {ds : List Decl} (k : Key) (p : ℕ) → Nodes key len w n ds → first k ds ≡ At p → key p ≡ k
+  first_key : {n : ℕ} {ds : List Decl} (k : Key) (p : ℕ) → Nodes key len w n ds → first k ds ≡ Some p → key p ≡ k
   unfolding first
   first_key k p none e = let z : ◌≡◌ {A = ℕ} 0 1 = cc in absurd (omega arith)
   first_key k p (more {d = d} a ns) e =
       by (same_key d.key k)
-      (λ t. let q : At d.place ≡ At p = rw t at e in let z : d.place ≡ p = cc in rw (← z) (a.keyed ∙ same_key-true d.key k t))
+      (λ t. let q : Some d.place ≡ Some p = rw t at e in let z : d.place ≡ p = cc in rw (← z) (a.keyed ∙ same_key-true d.key k t))
       (λ t. first_key k p ns (rw t at e))
 
-  first-place : {n : ℕ} {ds : List Decl} (k : Key) (p : ℕ) → Nodes key len w n ds → first k ds ≡ At p → is_place p ds ≡ true
+  first-place : {n : ℕ} {ds : List Decl} (k : Key) (p : ℕ) → Nodes key len w n ds → first k ds ≡ Some p → is_place p ds ≡ true
   unfolding first is_place
   first-place k p none e = cc
   first-place k p (more {d = d} a ns) e =
       by (eqb d.place p) (λ t. rw t)
       (λ t. rw t (by (same_key d.key k)
-      (λ u. let q : At d.place ≡ At p = rw u at e in let z : d.place ≡ p = cc in absurd (eqb-false d.place p t z))
+      (λ u. let q : Some d.place ≡ Some p = rw u at e in let z : d.place ≡ p = cc in absurd (eqb-false d.place p t z))
       (λ u. first-place k p ns (rw u at e))))
 
   one-row : {n : ℕ} {ds : List Decl} (p q : ℕ) → Nodes key len w n ds → is_place p ds ≡ true → is_place q ds ≡ true → p / 16 ≡ q / 16 → p ≡ q
@@ -109,13 +109,13 @@ module _ {key : ℕ → Key} {len : ℕ} {w : List ℕ} where
 
   module _ {n : ℕ} {ds : List Decl} (v : Holds key len w n ds) where
     -- what is found stands in the source, is declared, and has the key
-    pub found_within : (k : Key) (p : ℕ) → first k ds ≡ At p → p / 2 ≤ len
+    pub found_within : (k : Key) (p : ℕ) → first k ds ≡ Some p → p / 2 ≤ len
     found_within k p e = (first-low k p v.nodes e).1
 
-    pub found-place : (k : Key) (p : ℕ) → first k ds ≡ At p → is_place p ds ≡ true
+    pub found-place : (k : Key) (p : ℕ) → first k ds ≡ Some p → is_place p ds ≡ true
     found-place k p e = first-place k p v.nodes e
 
-    pub found-key : (k : Key) (p : ℕ) → first k ds ≡ At p → key p ≡ k
+    pub found-key : (k : Key) (p : ℕ) → first k ds ≡ Some p → key p ≡ k
     found-key k p e = first_key k p v.nodes e
 
     pub place-below : (p : ℕ) → is_place p ds ≡ true → p / 16 < n

@@ -1,4 +1,5 @@
 -- Following the way of a key: the turns of find.
+use Rattle.std.specs.Prelude.{None, Option, Some, ℕ}
 use mathlib.Core.Path.{◌≡◌, refl, sym, ap, ◌∙◌, subst}
 use mathlib.Core.Bool.{Bool, true, false, ◌&&◌}
 use mathlib.Core.List.{List, [], ◌∷◌}
@@ -12,11 +13,9 @@ use borrow.Author.Tests.{eq-eqb, eqb-true, eqb-false, leb-true, leb-false}
 use Rattle.base_lists.proofs.Bools.{by, and_left, and_right, and_intro, clash}
 use Rattle.work_subjects.specs.Keys.{Key, same_key}
 use Rattle.work_subjects.specs.declared.Told.{Told}
-use Rattle.work_subjects.specs.Numbers.{is_declarable, kind_of, width_of, numbers_of, bit_of, NumbersAre}
+use Rattle.work_subjects.specs.Numbers.{kind_number, is_declarable, kind_of, width_of, numbers_of, bit_of, NumbersAre}
 use Rattle.work_subjects.proofs.KeyLaws.{same_key-true, same_key-equal}
 use Rattle.work_subjects.proofs.BitLaws.{numbers_apart, numbers-long, numbers-past}
-use Rattle.work_store.specs.declared.Found.{Found}
-use Rattle.work_store.specs.declared.Found.TheVariants.{At, Nothing}
 use Rattle.work_store.specs.Store.{Decl, first, is_place, Once, heads_of, chain_of, together, depth_of, node_of, side_of, slot_of, pointed, tag_in, tag_of, mark_in, spot_of, keeps, Node, Nodes, none, more, Holds, Sound, Finds, Sought, SomeSought, FindsAny}
 use Rattle.work_store.proofs.WayLaws.{together-refl, depth-on, depth-more, node_by, node-deep, node-none}
 use Rattle.work_store.proofs.AreaLaws.{chain-is, node-mark, node_in, node-place}
@@ -43,7 +42,7 @@ module _ (hs : ℕ) (k : Key) where
       besides (λ l t. let e = depth-on hs k d es t in x (omega (arith, e, h)) t) (differs-deeper m es (omega (arith, o, h)) r)
 
   -- a key whose way is passed whole is not declared
-  differs_none : (m : ℕ) (ds : List Decl) → depth_of hs k ds ≤ m → Differs hs k m ds → first k ds ≡ Nothing
+  differs_none : (m : ℕ) (ds : List Decl) → depth_of hs k ds ≤ m → Differs hs k m ds → first k ds ≡ None
   unfolding first
   differs_none m ds h nothing = refl
   differs_none m ds h (besides {d = d} {ds = es} x r) =
@@ -74,7 +73,7 @@ module _ (hs : ℕ) (k : Key) where
 
 -- ## What cannot be declared
 
-strange-none : {key : ℕ → Key} {len : ℕ} {w : List ℕ} {n : ℕ} (k : Key) (ds : List Decl) → is_declarable k ≡ false → Nodes key len w n ds → first k ds ≡ Nothing
+strange-none : {key : ℕ → Key} {len : ℕ} {w : List ℕ} {n : ℕ} (k : Key) (ds : List Decl) → is_declarable k ≡ false → Nodes key len w n ds → first k ds ≡ None
 unfolding first
 strange-none k ds s none = refl
 strange-none k ds s (more {d = d} {ds = es} a ns) =
@@ -82,7 +81,7 @@ strange-none k ds s (more {d = d} {ds = es} a ns) =
     (λ t. clash (ap is_declarable (sym (same_key-true d.key k t)) ∙ a.plain) s)
     (λ t. rw t (strange-none k es s ns))
 
-pub strange-nowhere : {key : ℕ → Key} {len : ℕ} {w : List ℕ} {k : Key} {numbers : List ℕ} {r : Told} → NumbersAre k numbers r → r.plain ≡ false → Finds key len w k Nothing
+pub strange-nowhere : {key : ℕ → Key} {len : ℕ} {w : List ℕ} {k : Key} {numbers : List ℕ} {r : Told} → NumbersAre k numbers r → r.plain ≡ false → Finds key len w k None
 strange-nowhere {k = k} a f = record { is = λ n ds o. sym (strange-none k ds (sym a.plain ∙ f) o.nodes) }
 
 -- ## The key in a row
@@ -173,7 +172,7 @@ module _ {key : ℕ → Key} {len : ℕ} {w : List ℕ} {k : Key} where
     to = omega arith;
   })
 
-  pub seek-none : {l m : ℕ} → Seek key len w k l m → l ≤ 0 → Finds key len w k Nothing
+  pub seek-none : {l m : ℕ} → Seek key len w k l m → l ≤ 0 → Finds key len w k None
   seek-none {l} {m} v h = record {
     is = λ n ds o. let f = v.left n ds o in
         let z = f.link in
@@ -184,7 +183,7 @@ module _ {key : ℕ → Key} {len : ℕ} {w : List ℕ} {k : Key} where
     struck : {n : ℕ} {ds : List Decl} → Left key len w k l m n ds → node_of (heads_of len) k m ds ≡ suc (l - 1)
     struck f = let z = f.link in omega (arith, z, h)
 
-    pub seek_found : {t : Bool} {p : ℕ} → p ≡ mark_in w (l - 1) → t ≡ same_key (key p) k → t ≡ true → Finds key len w k (At p)
+    pub seek_found : {t : Bool} {p : ℕ} → p ≡ mark_in w (l - 1) → t ≡ same_key (key p) k → t ≡ true → Finds key len w k (Some p)
     seek_found {p = p} is q t0 = record {
       is = λ n ds o. let f = v.left n ds o in
           let place = subst (λ (x : ℕ). is_place x ds ≡ true) (sym is) (node-place (heads_of len) k m (l - 1) f.nodes (struck f)) in
@@ -228,7 +227,7 @@ module _ {w numbers : List ℕ} {kind h : ℕ} {at : ℕ → Key} {len : ℕ} {k
       ∙ ap (λ (xs : List ℕ). eqb (tag_in w (l - 1) / 16) (kind_of k) && keeps w (kind_of k) (l - 1) xs (width_of (kind_of k))) q.numbers
       ∙ key-told k q.plain i
 
-  sought-here : {p : ℕ} → t ≡ true → p ≡ 16 * (l - 1) + tag % 16 → Finds at len w k (At p)
+  sought-here : {p : ℕ} → t ≡ true → p ≡ 16 * (l - 1) + tag % 16 → Finds at len w k (Some p)
   sought-here {p} e is =
       let z : p ≡ mark_in w (l - 1) = is ∙ ap (λ (x : ℕ). 16 * (l - 1) + x % 16) g in
       seek_found v some z (says ∙ ap (λ (x : ℕ). same_key (at x) k) (sym z)) e
@@ -267,25 +266,25 @@ module _ {w numbers : List ℕ} {kind h : ℕ} (s : SomeSought w numbers kind h)
 
   module _ {l m : ℕ} (v : Seeking w numbers kind h l m) (some : 0 < l) {tag : ℕ} (g : tag ≡ tag_in w (l - 1)) {t : Bool}
       (c : t ≡ (eqb (tag / 16) kind && keeps w kind (l - 1) numbers (width_of kind))) where
-    pub seeking-found : {p : ℕ} → t ≡ true → p ≡ 16 * (l - 1) + tag % 16 → FindsAny w numbers kind h (At p)
+    pub seeking-found : {p : ℕ} → t ≡ true → p ≡ 16 * (l - 1) + tag % 16 → FindsAny w numbers kind h (Some p)
     seeking-found e is = record { is = λ at len k q. sought-here q (v.each at len k q) some g c e is }
 
     pub seeking-on : {side j : ℕ} → t ≡ false → side ≡ side_of (get_or numbers (m / 32) 0 / 2 ^ (m % 32) % 2) → j ≡ pointed w (8 * (l - 1) + side) → Seeking w numbers kind h j (m + 1)
     seeking-on e y j = seeking (λ at len k q. sought-on q (v.each at len k q) some g c e y j)
 
-pub seeking-none : {w numbers : List ℕ} {kind h l m : ℕ} → Seeking w numbers kind h l m → l ≤ 0 → FindsAny w numbers kind h Nothing
+pub seeking-none : {w numbers : List ℕ} {kind h l m : ℕ} → Seeking w numbers kind h l m → l ≤ 0 → FindsAny w numbers kind h None
 seeking-none v h = record { is = λ at len k q. seek-none (v.each at len k q) h }
 
 -- ## What find asks of the search, and has of it
 
 module _ {key : ℕ → Key} {len : ℕ} {w : List ℕ} {k : Key} {numbers : List ℕ} {r : Told} {h : ℕ} where
-  sought-is : Sound key len w → NumbersAre k numbers r → r.plain ≡ true → h ≡ r.hash % heads_of len → Sought w numbers r.kind h key len k
+  sought-is : Sound key len w → NumbersAre k numbers r → r.plain ≡ true → h ≡ r.hash % heads_of len → Sought w numbers (kind_number r.kind) h key len k
   sought-is o a t e =
       let y = sym a.plain ∙ t in
       record { sound = o; plain = y; numbers = a.numbers y; kinds = a.kind; chain = e ∙ chain-is len k r.hash a.hash }
 
-  pub sought-some : Sound key len w → NumbersAre k numbers r → r.plain ≡ true → h ≡ r.hash % heads_of len → SomeSought w numbers r.kind h
+  pub sought-some : Sound key len w → NumbersAre k numbers r → r.plain ≡ true → h ≡ r.hash % heads_of len → SomeSought w numbers (kind_number r.kind) h
   sought-some o a t e = record { at = key; len = len; k = k; sought = sought-is o a t e }
 
-  pub sought-found : {f : Found} → Sound key len w → NumbersAre k numbers r → r.plain ≡ true → h ≡ r.hash % heads_of len → FindsAny w numbers r.kind h f → Finds key len w k f
+  pub sought-found : {f : Option ℕ} → Sound key len w → NumbersAre k numbers r → r.plain ≡ true → h ≡ r.hash % heads_of len → FindsAny w numbers (kind_number r.kind) h f → Finds key len w k f
   sought-found o a t e v = v.is key len k (sought-is o a t e)

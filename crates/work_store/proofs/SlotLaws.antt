@@ -111,16 +111,19 @@ module _ (w : List ℕ) (kind r : ℕ) (key : List ℕ) where
       (λ i h. let z : i ≡ 0 = omega (arith, h) in subst (λ (x : ℕ). get_or w (spot_of kind r x) 0 ≡ get_or key x 0) (sym z) (ap (λ (x : ℕ). get_or w x 0) (spot-first kind r e ∙ ap (λ (x : ℕ). 8 * x) (sym b)) ∙ q))
       (λ i l h. let s = spot-name kind r i e (λ x. omega (arith, x, l)) in omega (arith, s, b)))
 
-  pub kept-other : {before : ℕ} → kind ≡ 1 → before ≡ r - 1 → (get_or w (8 * before) 0 ≡ get_or key 0 0 → ⊥) → false ≡ keeps w kind r key (width_of kind)
-  kept-other {before} e b f = rw (width-name kind e)
+  pub kept-other : {before : ℕ} → kind ≡ 1 → before ≡ r - 1 → (get_or w (8 * before) 0 ≡ get_or key 0 0 → ⊥) → eqb (get_or w (8 * before) 0) (get_or key 0 0) ≡ keeps w kind r key (width_of kind)
+  kept-other {before} e b f = ne_eqb (get_or w (8 * before) 0) (get_or key 0 0) f ∙ rw (width-name kind e)
       (keeps-not 7 0 (omega arith) (λ z. f (ap (λ (x : ℕ). get_or w x 0) (ap (λ (x : ℕ). 8 * x) b ∙ sym (spot-first kind r e)) ∙ z)))
 
   -- of a character, and of characters
   pub kept-char : {t : Bool} → kind ≡ 0 → RunIs w (8 * r + 3) key 0 1 t → t ≡ keeps w kind r key (width_of kind)
   kept-char e v = rw (width-char kind e) (keeps-run 1 (8 * r + 3) 0 v (λ i h. absurd (omega (arith, h))) (λ i l h. spot-own kind r i (λ x. omega (arith, x, e))))
 
-  pub kept-chars : {t : Bool} → (kind ≡ 0 → ⊥) → (kind ≡ 1 → ⊥) → RunIs w (8 * r + 3) key 0 4 t → t ≡ keeps w kind r key (width_of kind)
-  kept-chars m n v = rw (width-other kind m n) (keeps-run 4 (8 * r + 3) 0 v (λ i h. absurd (omega (arith, h))) (λ i l h. spot-own kind r i n))
+  pub kept-chars : {t : Bool} → kind ≡ 2 → RunIs w (8 * r + 3) key 0 4 t → t ≡ keeps w kind r key (width_of kind)
+  kept-chars e v =
+      let m : (kind ≡ 0 → ⊥) = λ x. omega (arith, x, e) in
+      let n : (kind ≡ 1 → ⊥) = λ x. omega (arith, x, e) in
+      rw (width-other kind m n) (keeps-run 4 (8 * r + 3) 0 v (λ i h. absurd (omega (arith, h))) (λ i l h. spot-own kind r i n))
 
 -- ## Numbers that are kept are written
 
@@ -167,8 +170,10 @@ module _ {w w' : List ℕ} {kind r : ℕ} {key : List ℕ} where
   pub char-kept : kind ≡ 0 → Written w (8 * r + 3) key 0 1 w' → Kept w kind r key w'
   char-kept e v = own-kept 1 (width-char kind e) (λ x. omega (arith, x, e)) v
 
-  pub chars-kept : (kind ≡ 0 → ⊥) → (kind ≡ 1 → ⊥) → Written w (8 * r + 3) key 0 4 w' → Kept w kind r key w'
-  chars-kept m n v = own-kept 4 (width-other kind m n) n v
+  pub chars-kept : kind ≡ 2 → Written w (8 * r + 3) key 0 4 w' → Kept w kind r key w'
+  chars-kept e v =
+      let n : (kind ≡ 1 → ⊥) = λ x. omega (arith, x, e) in
+      own-kept 4 (width-other kind (λ x. omega (arith, x, e)) n) n v
 
   -- the seven of a name
   pub name-kept : {before : ℕ} {w₁ : List ℕ} → kind ≡ 1 → before ≡ r - 1 → 8 * r + 10 ≤ length w → Written w (8 * before + 1) key 1 7 w₁ → w' ≡ set w₁ (8 * before) (get_or key 0 0)
@@ -194,8 +199,8 @@ module _ {w w' : List ℕ} {kind r : ℕ} {key : List ℕ} where
 -- ## Tags
 
 module _ (w : List ℕ) (tag kind r : ℕ) (key : List ℕ) where
-  pub kind-same : {t : Bool} → tag / 16 ≡ kind → t ≡ keeps w kind r key (width_of kind) → t ≡ (eqb (tag / 16) kind && keeps w kind r key (width_of kind))
-  kind-same e q = q ∙ sym (rw (eq-eqb (tag / 16) kind e))
+  pub kind-same : {x : ℕ} {t : Bool} → x ≡ kind → tag / 16 ≡ x → t ≡ keeps w kind r key (width_of kind) → t ≡ (eqb (tag / 16) kind && keeps w kind r key (width_of kind))
+  kind-same f e q = q ∙ sym (rw (eq-eqb (tag / 16) kind (e ∙ f)))
 
-  pub kind-other : (tag / 16 ≡ kind → ⊥) → false ≡ (eqb (tag / 16) kind && keeps w kind r key (width_of kind))
-  kind-other n = sym (rw (ne_eqb (tag / 16) kind n))
+  pub kind-other : {x : ℕ} → x ≡ kind → (tag / 16 ≡ x → ⊥) → eqb (tag / 16) x ≡ (eqb (tag / 16) kind && keeps w kind r key (width_of kind))
+  kind-other {x} f n = ne_eqb (tag / 16) x n ∙ sym (rw (ne_eqb (tag / 16) kind (λ e. n (e ∙ sym f))))

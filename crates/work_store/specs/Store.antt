@@ -1,11 +1,9 @@
 -- What is declared, as a list, latest first, and how the work area holds it. key gives what stands at a mark of the source
 -- (Rattle.work_subjects.specs.Keys), len is the source's length.
-use Rattle.std.specs.Prelude.{◌≡◌, Bool, true, false, ◌&&◌, List, [], ◌∷◌, ℕ, zero, suc, ◌+◌, ◌-◌, ◌*◌, ◌/◌, ◌%◌, ◌≤◌, ◌<◌, length, get_or, set, eqb, if◌then◌else◌}
+use Rattle.std.specs.Prelude.{◌≡◌, Bool, true, false, ◌&&◌, List, [], ◌∷◌, ℕ, zero, suc, ◌+◌, ◌-◌, ◌*◌, ◌/◌, ◌%◌, ◌≤◌, ◌<◌, length, get_or, set, eqb, if◌then◌else◌, None, Option, Some}
 use Rattle.work_rows.specs.Cells.{cell_at, cell}
 use Rattle.work_subjects.specs.Keys.{Key, same_key, hash_key}
 use Rattle.work_subjects.specs.Numbers.{is_declarable, kind_of, width_of, numbers_of, bit_of}
-use Rattle.work_store.specs.declared.Found.{Found}
-use Rattle.work_store.specs.declared.Found.TheVariants.{At, Nothing}
 
 -- ## What is declared
 
@@ -15,16 +13,16 @@ pub record Decl : Type 0 where
   pub place : ℕ
 
 -- the mark of the first with that key
-unfoldable pub first : Key → List Decl → Found
-first k [] = Nothing
+unfoldable pub first : Key → List Decl → Option ℕ
+first k [] = None
 first k (d ∷ ds) =
-    let r : Found = first k ds in
-    if same_key d.key k then At d.place else r
+    let r : Option ℕ = first k ds in
+    if same_key d.key k then Some d.place else r
 
 -- something is found
-abbrev pub is_found : Found → Bool
-is_found (At v) = true
-is_found Nothing = false
+abbrev pub is_found : Option ℕ → Bool
+is_found (Some v) = true
+is_found None = false
 
 -- something is declared with that key
 unfoldable pub known_in : Key → List Decl → Bool
@@ -40,7 +38,7 @@ is_place p (d ∷ ds) =
 -- No key is declared twice.
 pub data Once : List Decl → Type 0 where
   nothing : Once []
-  another : {d : Decl} {ds : List Decl} → first d.key ds ≡ Nothing → Once ds → Once (d ∷ ds)
+  another : {d : Decl} {ds : List Decl} → first d.key ds ≡ None → Once ds → Once (d ∷ ds)
 
 -- what is declared at a mark
 abbrev pub fresh : (ℕ → Key) → ℕ → Decl
@@ -161,7 +159,7 @@ pub record Sound (key : ℕ → Key) (len : ℕ) (w : List ℕ) : Type 0 where
   pub holds : Holds key len w n ds
 
 -- r is the mark of the first with the key k.
-pub record Finds (key : ℕ → Key) (len : ℕ) (w : List ℕ) (k : Key) (r : Found) : Type 0 where
+pub record Finds (key : ℕ → Key) (len : ℕ) (w : List ℕ) (k : Key) (r : Option ℕ) : Type 0 where
   pub is : (n : ℕ) (ds : List Decl) → Holds key len w n ds → r ≡ first k ds
 
 -- k is a key of this kind, with these numbers, on the chain h, and the area holds some list.
@@ -179,7 +177,7 @@ pub record SomeSought (w key : List ℕ) (kind h : ℕ) : Type 0 where
   pub sought : Sought w key kind h at len k
 
 -- r is the mark of the first with that key, whatever source the area belongs to.
-pub record FindsAny (w key : List ℕ) (kind h : ℕ) (r : Found) : Type 0 where
+pub record FindsAny (w key : List ℕ) (kind h : ℕ) (r : Option ℕ) : Type 0 where
   pub is : (at : ℕ → Key) (len : ℕ) (k : Key) → Sought w key kind h at len k → Finds at len w k r
 
 -- s is the slot where the way of a key with these numbers, on the chain h, ends, whatever list the area holds.
@@ -216,7 +214,7 @@ pub record Kept (w : List ℕ) (kind r : ℕ) (key : List ℕ) (w' : List ℕ) :
 -- What stands at the mark v is declared, if it can be and was not yet; of the five numbers of every row all stay but those where its own numbers are kept, and
 -- so does what is behind the rows.
 pub record Declares (key : ℕ → Key) (len : ℕ) (w : List ℕ) (v : ℕ) (w' : List ℕ) : Type 0 where
-  pub is : (n : ℕ) (ds : List Decl) → Holds key len w n ds → n + above_of (kind_of (key v)) ≤ v / 16 → is_declarable (key v) ≡ true → first (key v) ds ≡ Nothing
+  pub is : (n : ℕ) (ds : List Decl) → Holds key len w n ds → n + above_of (kind_of (key v)) ≤ v / 16 → is_declarable (key v) ≡ true → first (key v) ds ≡ None
       → Holds key len w' (v / 16 + 1) (fresh key v ∷ ds)
   pub long : length w' ≡ length w
   pub five : (u k : ℕ) → k < 5 → ((i : ℕ) → i < width_of (kind_of (key v)) → cell_at u k ≡ spot_of (kind_of (key v)) (v / 16) i → ⊥) → cell w' u k ≡ cell w u k

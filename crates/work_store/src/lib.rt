@@ -6,19 +6,11 @@
 
 ghost use Rattle.std.specs.Prelude.{◌≡◌, ◌+◌, ◌-◌, ◌*◌, ◌/◌, ◌%◌, ◌^◌, ◌≤◌, ◌<◌, ◌&&◌, length, get_or, set, replicate, eqb};
 ghost use Rattle.work_subjects.specs.Keys.{key_at};
-ghost use Rattle.work_subjects.specs.Numbers.{width_of};
+ghost use Rattle.work_subjects.specs.Numbers.{kind_number, width_of};
 ghost use Rattle.work_store.specs.Store.{heads_of, undefined_mark, side_of, pointed, pointing, tag_in, tag_of, keeps, RunIs, Roomy, Sound, Finds, SomeSought, FindsAny, WayEnds, Written, Kept, Declares};
 
-use base_units::wide;
 use text_lines::Signs;
-use work_subjects::{CHARACTER, NAMED, key_numbers};
-
-// The mark of what is found.
-#[derive(Clone, Copy)]
-pub enum Found {
-    At(usize),
-    Nothing,
-}
+use work_subjects::{Kind, key_numbers};
 
 // The mark of UNDEFINED, whose row is the one behind those of a source of this length.
 pub fn undefined_mark(len: usize) -> usize
@@ -32,11 +24,7 @@ pub fn undefined_mark(len: usize) -> usize
 pub fn clear(work: &mut [u32])
     ensures { work.new ≡ replicate (length work.old) 0 }
 {
-    let mut i = 0;
-    while i < work.len() {
-        work[i] = 0;
-        i += 1;
-    }
+    work.fill(0);
 }
 
 // The chain of a hash.
@@ -46,16 +34,13 @@ fn chain(hash: usize, len: usize) -> usize
     hash % (len / 8 + 1)
 }
 
-// What a slot leads to.
+// What a slot leads to, as the lent area keeps it: 0 for nowhere, else one more than a row. A number and no Option, since `point` stores the same number.
 fn linked(work: &[u32], slot: usize) -> usize
     requires { slot < length work.now }
     ensures { result ≡ pointed work.now slot }
 {
-    let x = wide(work[slot]);
-    if slot % 8 == 2 {
-        return x / 64;
-    }
-    x
+    let x = work[slot] as usize;
+    if slot % 8 == 2 { x / 64 } else { x }
 }
 
 // The tag of a row.
@@ -67,11 +52,10 @@ fn tag_in(work: &[u32], row: usize) -> u32
 }
 
 // The tag of a mark whose key is of a kind.
-fn tag_of(kind: u32, v: usize) -> u32
-    requires { kind ≤ 3 }
-    ensures { result ≡ tag_of kind v }
+fn tag_of(kind: Kind, v: usize) -> u32
+    ensures { result ≡ tag_of (kind_number kind) v }
 {
-    16 * kind + ((v % 16) as u32)
+    16 * kind.number() + (v % 16) as u32
 }
 
 // The mark in a row with a tag.
@@ -79,7 +63,7 @@ fn mark_of(row: usize, tag: u32) -> usize
     requires { row ≤ 1048576 }
     ensures { result ≡ 16 * row + tag % 16 }
 {
-    16 * row + wide(tag % 16)
+    16 * row + (tag % 16) as usize
 }
 
 // The side on which the way of a key of these numbers goes on at a depth.
@@ -89,23 +73,11 @@ fn side_at(key: &[u32], depth: usize) -> usize
 {
     let i = depth / 32;
     if i < 8 {
-        let x = key[i] >> ((depth % 32) as u32);
-        if x % 2 == 0 {
-            return 0;
-        }
-        return 2;
+        let x = key[i] >> (depth % 32);
+        if x % 2 == 0 { 0 } else { 2 }
+    } else {
+        0
     }
-    0
-}
-
-// The row before a row.
-fn row_before(row: usize) -> usize
-    ensures { result ≡ row - 1 }
-{
-    if row == 0 {
-        return 0;
-    }
-    row - 1
 }
 
 // Whether the numbers of a key from one on up to another stand at a place of the area, number i at place at + i.
@@ -113,69 +85,60 @@ fn same_run(work: &[u32], at: usize, key: &[u32], from: usize, to: usize) -> boo
     requires { (from ≤ to) × (to ≤ 7) × (at + 7 ≤ length work.now) × (length key.now ≡ 8) }
     ensures { RunIs work.now at key.now from to result }
 {
-    let mut i = from;
-    while i < to {
+    for i in from..to {
         if work[at + i] != key[i] {
             return false;
         }
-        i += 1;
     }
     true
 }
 
 // Whether the numbers that are kept for a row of this kind are those of a key.
-fn same_kept(work: &[u32], kind: u32, row: usize, key: &[u32]) -> bool
+fn same_kept(work: &[u32], kind: Kind, row: usize, key: &[u32]) -> bool
     requires { (row ≤ 1048576) × (8 * row + 10 ≤ length work.now) × (length key.now ≡ 8) }
-    ensures { result ≡ keeps work.now kind row key.now (width_of kind) }
+    ensures { result ≡ keeps work.now (kind_number kind) row key.now (width_of (kind_number kind)) }
 {
-    if kind == NAMED {
-        let before = 8 * row_before(row);
-        if work[before] == key[0] {
-            return same_run(work, before + 1, key, 1, 7);
+    match kind {
+        Kind::Name => {
+            let before = 8 * row.saturating_sub(1);
+            work[before] == key[0] && same_run(work, before + 1, key, 1, 7)
         }
-        return false;
+        Kind::Character => same_run(work, 8 * row + 3, key, 0, 1),
+        Kind::Chars => same_run(work, 8 * row + 3, key, 0, 4),
     }
-    if kind == CHARACTER {
-        return same_run(work, 8 * row + 3, key, 0, 1);
-    }
-    same_run(work, 8 * row + 3, key, 0, 4)
 }
 
 // Whether what is declared in the row with this tag is the key of that kind and those numbers.
-fn same_key(work: &[u32], tag: u32, kind: u32, row: usize, key: &[u32]) -> bool
+fn same_key(work: &[u32], tag: u32, kind: Kind, row: usize, key: &[u32]) -> bool
     requires { (row ≤ 1048576) × (8 * row + 10 ≤ length work.now) × (length key.now ≡ 8) }
-    ensures { result ≡ (eqb (tag / 16) kind && keeps work.now kind row key.now (width_of kind)) }
+    ensures { result ≡ (eqb (tag / 16) (kind_number kind) && keeps work.now (kind_number kind) row key.now (width_of (kind_number kind))) }
 {
-    if tag / 16 == kind {
-        return same_kept(work, kind, row, key);
-    }
-    false
+    tag / 16 == kind.number() && same_kept(work, kind, row, key)
 }
 
 // The mark of what was declared with the key of this kind and these numbers, on the way that begins at the head h. At most 259 rows are read, whatever the source
 // declares (DepthLaws), and nothing of the source.
-fn find_from(work: &[u32], kind: u32, key: &[u32], h: usize) -> Found
-    requires some_sought { SomeSought work.now key.now kind h }
+fn find_from(work: &[u32], kind: Kind, key: &[u32], h: usize) -> Option<usize>
+    requires some_sought { SomeSought work.now key.now (kind_number kind) h }
     requires h_in_bounds { 8 * h + 1 < length work.now }
-    ensures { FindsAny work.now key.now kind h result }
+    ensures { FindsAny work.now key.now (kind_number kind) h result }
 {
     let mut l = linked(work, 8 * h + 1);
     let mut depth: usize = 0;
     while 0 < l {
         let row = l - 1;
         let tag = tag_in(work, row);
-        let same = same_key(work, tag, kind, row, key);
-        if same {
-            return Found::At(mark_of(row, tag));
+        if same_key(work, tag, kind, row, key) {
+            return Some(mark_of(row, tag));
         }
         l = linked(work, 8 * row + side_at(key, depth));
         depth += 1;
     }
-    Found::Nothing
+    None
 }
 
 // The mark of what was declared with the same key as stands at a mark.
-pub fn find(src: &[u8], g: Signs, work: &[u32], v: usize) -> Found
+pub fn find(src: &[u8], g: Signs, work: &[u32], v: usize) -> Option<usize>
     requires v_in_bounds { v / 2 ≤ length src.now }
     requires sound { Sound (key_at g src.now) (length src.now) work.now }
     ensures { Finds (key_at g src.now) (length src.now) work.now (key_at g src.now v) result }
@@ -183,10 +146,10 @@ pub fn find(src: &[u8], g: Signs, work: &[u32], v: usize) -> Found
     let mut key: [u32; 8] = [0; 8];
     let k = key_numbers(src, g, v, &mut key);
     if k.plain {
-        let h = chain(k.hash, src.len());
-        return find_from(work, k.kind, &key, h);
+        find_from(work, k.kind, &key, chain(k.hash, src.len()))
+    } else {
+        None
     }
-    Found::Nothing
 }
 
 // The slot where the way that begins at the head h ends, for a key of these numbers. There are as many heads as rows; in an area that holds no list the way is
@@ -199,10 +162,7 @@ fn way_end(heads: usize, work: &[u32], h: usize, key: &[u32]) -> usize
     let mut depth: usize = 0;
     while depth < heads {
         let l = linked(work, slot);
-        if l == 0 {
-            return slot;
-        }
-        if heads < l {
+        if l == 0 || heads < l {
             return slot;
         }
         slot = 8 * (l - 1) + side_at(key, depth);
@@ -237,26 +197,24 @@ fn put_run(work: &mut [u32], at: usize, key: &[u32], from: usize, to: usize)
     requires { (from ≤ to) × (to ≤ 7) × (at + 7 ≤ length work.old) × (length key.now ≡ 8) }
     ensures { Written work.old at key.now from to work.new }
 {
-    let mut i = from;
-    while i < to {
+    for i in from..to {
         work[at + i] = key[i];
-        i += 1;
     }
 }
 
 // The numbers of a key of a kind are kept for a row.
-fn keep_key(work: &mut [u32], kind: u32, row: usize, key: &[u32])
+fn keep_key(work: &mut [u32], kind: Kind, row: usize, key: &[u32])
     requires { (row ≤ 1048576) × (8 * row + 10 ≤ length work.old) × (length key.now ≡ 8) }
-    ensures { Kept work.old kind row key.now work.new }
+    ensures { Kept work.old (kind_number kind) row key.now work.new }
 {
-    if kind == NAMED {
-        let before = 8 * row_before(row);
-        put_run(work, before + 1, key, 1, 7);
-        work[before] = key[0];
-    } else if kind == CHARACTER {
-        put_run(work, 8 * row + 3, key, 0, 1);
-    } else {
-        put_run(work, 8 * row + 3, key, 0, 4);
+    match kind {
+        Kind::Name => {
+            let before = 8 * row.saturating_sub(1);
+            put_run(work, before + 1, key, 1, 7);
+            work[before] = key[0];
+        }
+        Kind::Character => put_run(work, 8 * row + 3, key, 0, 1),
+        Kind::Chars => put_run(work, 8 * row + 3, key, 0, 4),
     }
 }
 

@@ -1,4 +1,5 @@
 -- The characters in quotes, one after the other: the next one, and the turns of the loop.
+use Rattle.std.specs.Prelude.{None, Option, Some, ℕ}
 use mathlib.Core.Path.{◌≡◌, refl, sym, ap, ◌∙◌, subst}
 use mathlib.Core.Bool.{true, false}
 use mathlib.Core.List.{List, [], ◌∷◌, map}
@@ -11,20 +12,15 @@ use Rattle.rules.specs.Names.{char_shaped, code_of, is_char_name}
 use Rattle.rules.specs.Lines.{quoted}
 use Rattle.rules.proofs.TextLaws.{every-head, every-tail, one_of-head-false, one_of-tail-false}
 use Rattle.base_lists.proofs.Bools.{and_left}
+use Rattle.base_units.specs.declared.Refusal.{Refusal}
 use Rattle.text_lines.specs.declared.Signs.{Signs}
 use Rattle.text_lines.specs.declared.Spot.{Spot}
 use Rattle.text_lines.specs.Stream.{marks_left}
 use Rattle.text_lines.proofs.ByteLaws.{after-inner-close}
 use Rattle.text_lines.proofs.LineLaws.{ends-source}
-use Rattle.text_tokens.specs.declared.Closing.{Closing}
-use Rattle.text_tokens.specs.declared.Closing.TheVariants as closing
 use Rattle.text_tokens.specs.Left.{is_close, is_inside, after_name, names_in, NameEnds, ClosingIs}
-use Rattle.text_names.specs.declared.Named.{Named}
-use Rattle.text_names.specs.declared.Named.TheVariants.{Name, Close}
 use Rattle.text_names.specs.Named.{name_left, hash_from, hash_of, NameAt, NamedIs}
 use Rattle.base_units.specs.declared.CodePoint.{CodePoint}
-use Rattle.work_subjects.specs.declared.NextChar.{NextChar}
-use Rattle.work_subjects.specs.declared.NextChar.TheVariants.{Char, End}
 use Rattle.work_subjects.specs.Keys.{quote_spot, char_of, chars_left, AfterName, CharNext, NextIs}
 
 -- ## Quotes with characters only
@@ -49,13 +45,13 @@ after-open-none (m ∷ ms) h =
     let r = after-open-none ms (one_of-tail-false is_close m ms h) in
     rw (s, r)
 
-module _ (g : Signs) (src : List ℕ) (p : Spot) {c : Closing} (w : ClosingIs g src p c) where
-  pub after-closed : {f : ℕ} {q : Spot} → c ≡ closing.Closed f q → AfterName g src p q
+module _ (g : Signs) (src : List ℕ) (p : Spot) {c : Option (Option Refusal × Spot)} (w : ClosingIs g src p c) where
+  pub after-closed : {f : Option Refusal} {q : Spot} → c ≡ Some (f, q) → AfterName g src p q
   after-closed {f} {q} e =
       let x : NameEnds g src p f q = subst (ClosingIs g src p) e w in
       record { names = ap names_in (sym x.after); mode = λ h. x.mode ∙ sym (after-inner-close h refl); to = x.to }
 
-  pub after_open : c ≡ closing.Open → AfterName g src p (quote_spot (length src))
+  pub after_open : c ≡ None → AfterName g src p (quote_spot (length src))
   after_open e =
       let x : one_of is_close (marks_left g src p) ≡ false = subst (ClosingIs g src p) e w in
       let none : marks_left g src (quote_spot (length src)) ≡ [] = (ends-source g src (quote_spot (length src)) (le_refl (length src)) (le_refl (length src))).none in
@@ -63,12 +59,12 @@ module _ (g : Signs) (src : List ℕ) (p : Spot) {c : Closing} (w : ClosingIs g 
 
 -- ## The next character
 
-module _ (g : Signs) (src : List ℕ) (p : Spot) {n : Named} (w : NamedIs g src p n) where
-  pub next-none : n ≡ Close → chars_left g src p ≡ []
+module _ (g : Signs) (src : List ℕ) (p : Spot) {n : Option Spot} (w : NamedIs g src p n) where
+  pub next-none : n ≡ None → chars_left g src p ≡ []
   unfolding chars_left
   next-none e = let x : names_in (marks_left g src p) ≡ [] = subst (NamedIs g src p) e w in rw x
 
-  module _ {q : Spot} (e : n ≡ Name q) where
+  module _ {q : Spot} (e : n ≡ Some q) where
     there : NameAt g src p q
     there = subst (NamedIs g src p) e w
 
@@ -84,14 +80,14 @@ module _ (g : Signs) (src : List ℕ) (p : Spot) {n : Named} (w : NamedIs g src 
 
 -- ## The turns of the loop
 
-module _ (g : Signs) (src : List ℕ) (q : Spot) {s : NextChar} (w : NextIs g src q s) where
-  pub step-char : {c : CodePoint} {r : Spot} → s ≡ Char c r → CharNext g src q c.0 r
+module _ (g : Signs) (src : List ℕ) (q : Spot) {s : Option (CodePoint × Spot)} (w : NextIs g src q s) where
+  pub step-char : {c : CodePoint} {r : Spot} → s ≡ Some (c, r) → CharNext g src q c.0 r
   step-char e = subst (NextIs g src q) e w
 
-  pub step_end : s ≡ End → chars_left g src q ≡ []
+  pub step_end : s ≡ None → chars_left g src q ≡ []
   step_end e = subst (NextIs g src q) e w
 
-  pub step_less : {c : CodePoint} {r : Spot} → s ≡ Char c r → length (chars_left g src r) < length (chars_left g src q)
+  pub step_less : {c : CodePoint} {r : Spot} → s ≡ Some (c, r) → length (chars_left g src r) < length (chars_left g src q)
   step_less e = let x = step-char e in rw x.chars (omega arith)
 
 -- The characters before q make h.
@@ -101,12 +97,12 @@ pub record Summing (g : Signs) (src : List ℕ) (p q : Spot) (h : ℕ) : Type 0 
   pub mode : q.mode ≡ quoted
   pub to : q.at ≤ length src
 
-module _ {g : Signs} {src : List ℕ} {p q : Spot} {h : ℕ} {s : NextChar} (v : Summing g src p q h) (w : NextIs g src q s) where
-  pub summing-end : s ≡ End → h ≡ hash_of (chars_left g src p)
+module _ {g : Signs} {src : List ℕ} {p q : Spot} {h : ℕ} {s : Option (CodePoint × Spot)} (v : Summing g src p q h) (w : NextIs g src q s) where
+  pub summing-end : s ≡ None → h ≡ hash_of (chars_left g src p)
   unfolding hash_from
   summing-end e = rw (step_end g src q w e) at v.rest
 
-  pub summing-more : {c : CodePoint} {x : ℕ} {r : Spot} → s ≡ Char c r → x ≡ c.0 → Summing g src p r ((h * 10368889 + x) % 16777216)
+  pub summing-more : {c : CodePoint} {x : ℕ} {r : Spot} → s ≡ Some (c, r) → x ≡ c.0 → Summing g src p r ((h * 10368889 + x) % 16777216)
   unfolding hash_from
   summing-more {c} {x} {r} e f =
       let y : CharNext g src q c.0 r = step-char g src q w e in

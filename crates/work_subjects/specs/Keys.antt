@@ -1,6 +1,6 @@
 -- What stands at a mark of the source. A mark v is a tagged place: 2 * place for a name, the place right after its `<`; 2 * place + 1 for
 -- quotes, the place right after the opening `"`.
-use Rattle.std.specs.Prelude.{◌≡◌, Bool, false, List, [], ◌∷◌, map, ℕ, ◌/◌, ◌%◌, ◌≤◌, length, eqb, if◌then◌else◌}
+use Rattle.std.specs.Prelude.{◌≡◌, Bool, false, List, [], ◌∷◌, map, ℕ, ◌/◌, ◌%◌, ◌≤◌, length, eqb, if◌then◌else◌, None, Option, Some}
 use Rattle.rules.specs.Text.{same}
 use Rattle.rules.specs.Names.{char_shaped, code_of}
 use Rattle.rules.specs.Lines.{in_name, quoted, quoted_name}
@@ -11,8 +11,7 @@ use Rattle.text_lines.specs.declared.Spot.{Spot}
 use Rattle.text_lines.specs.Stream.{marks_left}
 use Rattle.text_tokens.specs.Left.{names_in, after_name}
 use Rattle.text_names.specs.Named.{name_left, hash_of}
-use Rattle.work_subjects.specs.declared.NextChar.{NextChar}
-use Rattle.work_subjects.specs.declared.NextChar.TheVariants.{Char, End}
+use Rattle.base_units.specs.declared.CodePoint.{CodePoint}
 
 -- ## Spots of marks
 
@@ -77,6 +76,6 @@ pub record CharNext (g : Signs) (src : List ℕ) (p : Spot) (c : ℕ) (q : Spot)
   pub mode : q.mode ≡ quoted
   pub to : q.at ≤ length src
 
-abbrev pub NextIs : Signs → List ℕ → Spot → NextChar → Type 0
-NextIs g src p (Char c q) = CharNext g src p c.0 q
-NextIs g src p End = chars_left g src p ≡ []
+abbrev pub NextIs : Signs → List ℕ → Spot → Option (CodePoint × Spot) → Type 0
+NextIs g src p (Some (c, q)) = CharNext g src p c.0 q
+NextIs g src p None = chars_left g src p ≡ []

@@ -1,13 +1,21 @@
 -- The eight numbers of what can be declared, and their bits, by which its way goes in the store. A name has seven of them, so that they find room in one row of the
 -- work area; a character one, an element's characters four.
-use Rattle.std.specs.Prelude.{◌≡◌, Bool, true, false, ◌&&◌, List, [], ◌∷◌, ℕ, suc, ◌+◌, ◌*◌, ◌/◌, ◌%◌, ◌^◌, ◌≤◌, length, get_or, set, replicate, eqb, leb, ltb, if◌then◌else◌}
+use Rattle.std.specs.Prelude.{◌≡◌, Bool, true, false, ◌&&◌, List, [], ◌∷◌, ℕ, suc, ◌+◌, ◌*◌, ◌/◌, ◌%◌, ◌^◌, ◌≤◌, length, get_or, set, replicate, eqb, leb, ltb, if◌then◌else◌, None, Option, Some}
 use Rattle.rules.specs.Text.{every}
 use Rattle.rules.specs.State.{character, named, undefined}
 use Rattle.text_names.specs.Packed.{packed, is_plain}
 use Rattle.work_subjects.specs.Keys.{Key, item, chars, hash_key}
 use Rattle.work_subjects.specs.declared.Told.{Told}
+use Rattle.work_subjects.specs.declared.Kind.{Kind}
+use Rattle.work_subjects.specs.declared.Kind.TheVariants as kind
 
 -- ## Kinds
+
+-- the number of a kind
+abbrev pub kind_number : Kind → ℕ
+kind_number kind.Character = 0
+kind_number kind.Name = 1
+kind_number kind.Chars = 2
 
 -- three kinds of keys can be declared: characters, names, the characters of quotes
 unfoldable pub kind_of : Key → ℕ
@@ -62,23 +70,31 @@ numbers_of (chars cs) = with_codes (replicate 8 0) 0 cs
 -- What is told of a key: whether it can be declared, its hash, its kind, and its numbers where it can.
 pub record NumbersAre (k : Key) (key : List ℕ) (r : Told) : Type 0 where
   pub plain : r.plain ≡ is_declarable k
-  pub kind : r.kind ≡ kind_of k
+  pub kind : kind_number r.kind ≡ kind_of k
   pub hash : r.hash ≡ hash_key k
   pub long : length key ≡ 8
   pub numbers : is_declarable k ≡ true → key ≡ numbers_of k
 
--- Of the characters of quotes n are passed, or 5 where there are more than four or one of them is none: what is still to come is cs.
-pub record CodesAre (all : List ℕ) (key : List ℕ) (n : ℕ) (cs : List ℕ) : Type 0 where
+-- Of the characters of quotes n are passed: what is still to come is cs.
+pub record CodesGood (all : List ℕ) (key : List ℕ) (n : ℕ) (cs : List ℕ) : Type 0 where
   pub long : length key ≡ 8
-  pub few : n ≤ 5
+  pub few : n ≤ 4
   pub plain : is_declarable (chars all) ≡ (leb (n + length cs) 4 && every is_code cs)
-  pub numbers : n ≤ 4 → with_codes key n cs ≡ numbers_of (chars all)
+  pub numbers : with_codes key n cs ≡ numbers_of (chars all)
+
+-- There are more than four, or one of them is none.
+pub record CodesBad (all : List ℕ) (key : List ℕ) : Type 0 where
+  pub long : length key ≡ 8
+  pub plain : is_declarable (chars all) ≡ false
+
+abbrev pub CodesAre : List ℕ → List ℕ → Option ℕ → List ℕ → Type 0
+CodesAre all key (Some n) cs = CodesGood all key n cs
+CodesAre all key None cs = CodesBad all key
 
 -- One character more.
-pub record CodePut (key : List ℕ) (n c : ℕ) (after : List ℕ) (m : ℕ) : Type 0 where
+pub record CodePut (key : List ℕ) (n : Option ℕ) (c : ℕ) (after : List ℕ) (m : Option ℕ) : Type 0 where
   pub is : (all cs : List ℕ) → CodesAre all key n (c ∷ cs) → CodesAre all after m cs
   pub long : length after ≡ length key
-  pub few : m ≤ 5
 
 -- ## Bits
 

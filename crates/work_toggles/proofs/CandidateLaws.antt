@@ -69,9 +69,9 @@ pub taken_here : (w : List ℕ) (c d : ℕ) → d / 8192 ≡ c → eqb (get_or w
 unfolding takes
 taken_here w c d e = let t = eq-eqb (d / 8192) c e in rw t
 
-pub taken-elsewhere : (w : List ℕ) (c d : ℕ) → (d / 8192 ≡ c → ⊥) → false ≡ takes w c d
+pub taken-elsewhere : (w : List ℕ) (c d : ℕ) → (d / 8192 ≡ c → ⊥) → eqb (d / 8192) c ≡ takes w c d
 unfolding takes
-taken-elsewhere w c d n = let t = ne_eqb (d / 8192) c n in rw t
+taken-elsewhere w c d n = let t = ne_eqb (d / 8192) c n in rw t refl
 
 -- The candidate among the first i toggles.
 pub record Choosing (w work : List ℕ) (from n c i : ℕ) : Type 0 where
@@ -125,9 +125,9 @@ proper-alike {w} {v} p q h = words-alike 32 w v p.clean q.clean p.short q.short 
 
 -- ## A decision
 
-pub decision-is : (c : ℕ) (m : Parting) → (c * 32 + m.at) * 256 + m.byte ≡ decision_for c m
+pub decision-is : (c : ℕ) (m : Parting) {b : ℕ} → b ≡ m.byte → (c * 32 + m.at) * 256 + b ≡ decision_for c m
 unfolding decision_for
-decision-is c m = refl
+decision-is c m e = rw e
 
 module _ (c : ℕ) (m : Parting) (h : m.at < 32) (b : m.byte < 256) where
   decision-toggle : decision_for c m / 8192 ≡ c

@@ -1,5 +1,5 @@
 -- The first bytes of a word, copied, and two words beside each other by them.
-use mathlib.Core.Path.{◌≡◌, sym, ap, ◌∙◌}
+use mathlib.Core.Path.{subst, ◌≡◌, sym, ap, ◌∙◌}
 use mathlib.Core.List.{List, ◌++◌}
 use Prim.Native.Nat.{ℕ, ◌+◌, ◌-◌, ◌≤◌, ◌<◌, min}
 use native.Mathlib.Omega.{arith}
@@ -70,8 +70,10 @@ module _ {a b : List ℕ} {i : ℕ} (v : Comparing a b i) where
   pub compare-differ : (get_or a i 0 ≡ get_or b i 0 → ⊥) → Differ a b i
   compare-differ n = record { below = v.below; apart = λ e. absurd (n e) }
 
-  pub compare-end : 31 ≤ i → Differ a b i
-  compare-end h = record { below = v.below; apart = λ e k l. up_to e k (omega (arith, v.below)) }
+  pub compare-end : 31 ≤ i → Differ a b 31
+  compare-end h =
+      let e : i ≡ 31 = omega (arith, v.below) in
+      subst (λ (j : ℕ). Differ a b j) e (record { below = v.below; apart = λ e k l. up_to e k (omega (arith, v.below)) })
 
 -- what holds of the rooms holds of the words in them
 pub words-part : (w v : List ℕ) {a b : List ℕ} {k m n : ℕ} → CopiesWord w (replicate 32 0) a m → CopiesWord v (replicate 32 0) b n → Differ a b k → Parts w v (record { at = k; byte = get_or a k 0 })

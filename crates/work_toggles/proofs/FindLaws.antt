@@ -1,4 +1,5 @@
 -- The toggle of a word is its candidate or none, and what is told of the one that is found.
+use Rattle.std.specs.Prelude.{None, Option, Some, is_some, unwrap_or, ℕ}
 use mathlib.Core.Path.{◌≡◌, refl, sym, ap, ◌∙◌, subst}
 use mathlib.Core.Bool.{Bool, true, false}
 use mathlib.Core.List.{List, [], ◌∷◌}
@@ -12,8 +13,6 @@ use Rattle.rules.specs.State.{Toggle}
 use Rattle.rules.specs.Conditionals.{is_toggle, is_on}
 use Rattle.rules.proofs.TextLaws.{one_of-get_d}
 use Rattle.text_lines.specs.declared.Signs.{Signs}
-use Rattle.work_toggles.specs.declared.Place.{Place}
-use Rattle.work_toggles.specs.declared.Place.TheVariants.{At, Nothing}
 use Rattle.work_toggles.specs.Candidates.{candidate}
 use Rattle.work_toggles.specs.Kept.{is_defined, toggle_at, toggles_in, Kept, no_toggle, First, PlaceIs, Slot}
 use Rattle.work_toggles.proofs.AreaLaws.{toggle-on, word-is, toggles-length, toggles-get_d}
@@ -81,27 +80,31 @@ unfolding is_on one_of
 on_none w [] b = refl
 on_none w (x ∷ xs) b = rw (or-false-left (is_toggle w x) (one_of (is_toggle w) xs) b) (on_none w xs (or-false-right (is_toggle w x) (one_of (is_toggle w) xs) b))
 
-module _ (w : List ℕ) (ts : List Toggle) {f : Place} (v : PlaceIs w ts f) where
-  pub first-there : {i : ℕ} → f ≡ At i → First w ts i
+module _ (w : List ℕ) (ts : List Toggle) {f : Option ℕ} (v : PlaceIs w ts f) where
+  pub first-there : {i : ℕ} → f ≡ Some i → First w ts i
   first-there e = subst (PlaceIs w ts) e v
 
-  pub knows-there : {i : ℕ} → f ≡ At i → true ≡ one_of (is_toggle w) ts
+  knows-there : {i : ℕ} → f ≡ Some i → true ≡ one_of (is_toggle w) ts
   knows-there {i} e = let x = first-there e in sym (one_of-get_d (is_toggle w) ts i no_toggle x.inside x.there)
 
-  none : f ≡ Nothing → one_of (is_toggle w) ts ≡ false
+  none : f ≡ None → one_of (is_toggle w) ts ≡ false
   none e = subst (PlaceIs w ts) e v
 
-  pub knows-none : f ≡ Nothing → false ≡ one_of (is_toggle w) ts
+  knows-none : f ≡ None → false ≡ one_of (is_toggle w) ts
   knows-none e = sym (none e)
 
-  pub off-none : f ≡ Nothing → false ≡ is_on w ts
+  pub off-none : f ≡ None → false ≡ is_on w ts
   off-none e = sym (on_none w ts (none e))
 
-  pub slot-there : {i : ℕ} → f ≡ At i → Slot w ts i
+  slot-there : {i : ℕ} → f ≡ Some i → Slot w ts i
   slot-there e = let x = first-there e in record { inside = omega (arith, x.inside); there = λ _. x.there; before = x.before }
 
-module _ (g : Signs) {src work : List ℕ} {base n : ℕ} (w : List ℕ) {f : Place} (k : Kept g src work base n) (v : PlaceIs w (toggles_in g src work base n) f) where
-  pub slot-behind : f ≡ Nothing → Slot w (toggles_in g src work base n) n
+pub knows-is : (w : List ℕ) (ts : List Toggle) (f : Option ℕ) → PlaceIs w ts f → {t : Bool} → t ≡ is_some f → t ≡ one_of (is_toggle w) ts
+knows-is w ts None v e = e ∙ knows-none w ts v refl
+knows-is w ts (Some i) v e = e ∙ knows-there w ts {f = Some i} v refl
+
+module _ (g : Signs) {src work : List ℕ} {base n : ℕ} (w : List ℕ) {f : Option ℕ} (k : Kept g src work base n) (v : PlaceIs w (toggles_in g src work base n) f) where
+  slot-behind : f ≡ None → Slot w (toggles_in g src work base n) n
   slot-behind e =
       let l = toggles-length g k in
       record {
@@ -110,7 +113,7 @@ module _ (g : Signs) {src work : List ℕ} {base n : ℕ} (w : List ℕ) {f : Pl
         before = ap (one_of (is_toggle w)) (take_all n (toggles_in g src work base n) (omega arith)) ∙ none w (toggles_in g src work base n) v e;
       }
 
-  module _ {i : ℕ} (e : f ≡ At i) where
+  module _ {i : ℕ} (e : f ≡ Some i) where
     pub place-few : i < n
     place-few = let l = toggles-length g k in omega (arith, (first-there w (toggles_in g src work base n) v e).inside)
 
@@ -122,3 +125,8 @@ module _ (g : Signs) {src work : List ℕ} {base n : ℕ} (w : List ℕ) {f : Pl
         let x = first-there w (toggles_in g src work base n) v e in
         let ts = toggles_in g src work base n in
         h ∙ sym (on-first w ts i x.inside x.there x.before ∙ ap (λ (y : Toggle). y.on) (toggles-get_d g k i place-few) ∙ toggle-on g src (get_or work (base + i) 0))
+
+pub slot-is : (g : Signs) (src work : List ℕ) (base n : ℕ) (w : List ℕ) (f : Option ℕ) → Kept g src work base n → PlaceIs w (toggles_in g src work base n) f
+    → {i : ℕ} → i ≡ unwrap_or f n → Slot w (toggles_in g src work base n) i
+slot-is g src work base n w None k v e = rw e (slot-behind g w k v refl)
+slot-is g src work base n w (Some j) k v e = rw e (slot-there w (toggles_in g src work base n) {f = Some j} v refl)

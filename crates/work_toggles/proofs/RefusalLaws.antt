@@ -1,6 +1,6 @@
 -- The refusals of a line that names a toggle.
-use mathlib.Core.Path.{◌≡◌, sym, ◌∙◌}
-use mathlib.Core.Bool.{Bool, true, false, ◌&&◌}
+use mathlib.Core.Path.{◌≡◌, refl, sym, ◌∙◌}
+use mathlib.Core.Bool.{Bool, true, false, not, ◌&&◌}
 use mathlib.Core.List.{List, []}
 use Prim.Native.Nat.{ℕ, ◌≤◌, ◌<◌}
 use native.Mathlib.Omega.{arith}
@@ -50,31 +50,42 @@ refusal-proper w known e =
 
 -- ## The code's, way by way
 
+not-true : {b : Bool} → not b ≡ true → b ≡ false
+not-true {b = true} e = sym e
+not-true {b = false} e = refl
+
+not-false : {b : Bool} → not b ≡ false → b ≡ true
+not-false {b = true} e = refl
+not-false {b = false} e = sym e
+
 module _ (g : Signs) {src work : List ℕ} {base n : ℕ} (w : List ℕ) {s : Shape} (k : Kept g src work base n) (v : ShapeIs w s) where
-  pub refusal-foul : s.clean ≡ false → 3 ≡ refusal_for w (toggles_in g src work base n)
+  pub refusal-foul : not s.clean ≡ true → 3 ≡ refusal_for w (toggles_in g src work base n)
   unfolding refusal_for lowest lower
   refusal-foul c =
-      let f = v.clean ∙ c in
+      let f = v.clean ∙ not-true c in
       let ts = toggles_in g src work base n in
       sym (rw f (by (leb (length w) 32 && is_free w ts) (λ t. rw t) (λ t. rw t)))
 
-  module _ (c : s.clean ≡ true) where
+  module _ (c : not s.clean ≡ false) where
     clean : every is_toggle_byte w ≡ true
-    clean = v.clean ∙ c
+    clean = v.clean ∙ not-false c
 
-    pub refusal-long : s.short ≡ false → 7 ≡ refusal_for w (toggles_in g src work base n)
+    pub refusal-long : not s.short ≡ true → 7 ≡ refusal_for w (toggles_in g src work base n)
     unfolding refusal_for lowest lower
-    refusal-long o = sym (rw (clean, v.short ∙ o))
+    refusal-long o = sym (rw (clean, v.short ∙ not-true o))
 
-    module _ (o : s.short ≡ true) {t : Bool} (e : t ≡ one_of (is_toggle w) (toggles_in g src work base n)) where
+    pub refusal-new : not s.short ≡ false → n < 16 → 0 ≡ refusal_for w (toggles_in g src work base n)
+    unfolding refusal_for lowest lower
+    refusal-new o h =
+        let ts = toggles_in g src work base n in
+        by (one_of (is_toggle w) ts) (λ y. sym (rw (clean, v.short ∙ not-false o, y)))
+        (λ y. sym (rw (clean, v.short ∙ not-false o, y, toggles-length g k, lt-ltb n 16 h)))
+
+    module _ (o : not s.short ≡ false) {t : Bool} (e : t ≡ one_of (is_toggle w) (toggles_in g src work base n)) where
       pub refusal-known : t ≡ true → 0 ≡ refusal_for w (toggles_in g src work base n)
       unfolding refusal_for lowest lower
-      refusal-known y = sym (rw (clean, v.short ∙ o, sym e ∙ y))
-
-      pub refusal-new : t ≡ false → n < 16 → 0 ≡ refusal_for w (toggles_in g src work base n)
-      unfolding refusal_for lowest lower
-      refusal-new y h = sym (rw (clean, v.short ∙ o, sym e ∙ y, toggles-length g k, lt-ltb n 16 h))
+      refusal-known y = sym (rw (clean, v.short ∙ not-false o, sym e ∙ y))
 
       pub refusal-many : t ≡ false → 16 ≤ n → 7 ≡ refusal_for w (toggles_in g src work base n)
       unfolding refusal_for lowest lower
-      refusal-many y h = sym (rw (clean, v.short ∙ o, sym e ∙ y, toggles-length g k, le-ltb n 16 h))
+      refusal-many y h = sym (rw (clean, v.short ∙ not-false o, sym e ∙ y, toggles-length g k, le-ltb n 16 h))

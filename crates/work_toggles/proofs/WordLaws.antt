@@ -1,6 +1,7 @@
 -- Words beside each other, and what a word is like as a toggle's: the turns of the loops.
+use Rattle.std.specs.Prelude.{None, Option, Some, is_some, ℕ}
 use mathlib.Core.Path.{◌≡◌, refl, sym, ◌∙◌, subst}
-use mathlib.Core.Bool.{Bool, true, false, ◌&&◌, and-true}
+use mathlib.Core.Bool.{Bool, true, false, false≢true, not, ◌&&◌, ◌||◌, and-true}
 use mathlib.Core.List.{List, []}
 use Prim.Native.Nat.{ℕ, suc, ◌+◌, ◌-◌, ◌≤◌, ◌<◌}
 use native.Mathlib.Omega.{arith}
@@ -11,30 +12,27 @@ use Rattle.rules.specs.Text.{within, every, same}
 use Rattle.rules.specs.Conditionals.{is_toggle_byte}
 use Rattle.text_lines.specs.declared.Signs.{Signs}
 use Rattle.text_lines.specs.declared.Spot.{Spot}
-use Rattle.text_tokens.specs.declared.WordStep.{WordStep}
-use Rattle.text_tokens.specs.declared.WordStep.TheVariants.{Byte, End}
 use Rattle.text_tokens.specs.Left.{WordByte, WordStops, WordStepIs}
 use Rattle.work_toggles.specs.Kept.{word_left, ShapeIs}
 
 -- ## The next byte
 
-module _ (g : Signs) (src : List ℕ) (q : Spot) {s : WordStep} (w : WordStepIs g src q s) where
-  pub step-byte : {b : ℕ} {r : Spot} → s ≡ Byte b r → WordByte g src q b r
+module _ (g : Signs) (src : List ℕ) (q : Spot) {s : Option (ℕ × Spot)} (w : WordStepIs g src q s) where
+  pub step-byte : {b : ℕ} {r : Spot} → s ≡ Some (b, r) → WordByte g src q b r
   step-byte e = subst (WordStepIs g src q) e w
 
-  pub step_end : s ≡ End → word_left g src q ≡ []
+  pub step_end : s ≡ None → word_left g src q ≡ []
   step_end e = let x : WordStops g src q = subst (WordStepIs g src q) e w in x.bytes
 
-  pub step_less : {b : ℕ} {r : Spot} → s ≡ Byte b r → length src - r.at < length src - q.at
+  pub step_less : {b : ℕ} {r : Spot} → s ≡ Some (b, r) → length src - r.at < length src - q.at
   step_less e = let x = step-byte e in omega (arith, x.on, x.to)
 
-  pub ends-not : {b : ℕ} {r : Spot} → s ≡ Byte b r → false ≡ same [] (word_left g src q)
-  unfolding same
-  ends-not {b} {r} e = let x : WordByte g src q b r = step-byte e in sym (rw x.bytes)
-
-  pub ends-here : s ≡ End → true ≡ same [] (word_left g src q)
-  unfolding same
-  ends-here e = sym (rw (step_end e))
+pub ends-is : (g : Signs) (src : List ℕ) (q : Spot) (s : Option (ℕ × Spot)) → WordStepIs g src q s → (t : Bool) → is_some s ≡ not t → t ≡ same [] (word_left g src q)
+unfolding same
+ends-is g src q None w true e = sym (rw w.bytes)
+ends-is g src q None w false e = absurd (false≢true e)
+ends-is g src q (Some (b, r)) w true e = absurd (false≢true (sym e))
+ends-is g src q (Some (b, r)) w false e = sym (rw w.bytes)
 
 -- ## A word beside another
 
@@ -47,19 +45,19 @@ pub record Agree (g : Signs) (src : List ℕ) (p q i j : Spot) : Type 0 where
 pub agree-none : (g : Signs) (src : List ℕ) (p q : Spot) → p.at ≤ length src → q.at ≤ length src → Agree g src p q p q
 agree-none g src p q h k = record { rest = refl; first = h; second = k }
 
-module _ {g : Signs} {src : List ℕ} {p q i j : Spot} (v : Agree g src p q i j) (s : WordStep) (w : WordStepIs g src i s) where
-  pub agree-end : {t : Bool} → s ≡ End → t ≡ same [] (word_left g src j) → t ≡ same (word_left g src p) (word_left g src q)
+module _ {g : Signs} {src : List ℕ} {p q i j : Spot} (v : Agree g src p q i j) (s : Option (ℕ × Spot)) (w : WordStepIs g src i s) where
+  pub agree-end : {t : Bool} → s ≡ None → t ≡ same [] (word_left g src j) → t ≡ same (word_left g src p) (word_left g src q)
   agree-end e f = f ∙ sym (v.rest ∙ rw (step_end g src i w e))
 
-  module _ {a : ℕ} {k : Spot} (e : s ≡ Byte a k) (t : WordStep) (x : WordStepIs g src j t) where
+  module _ {a : ℕ} {k : Spot} (e : s ≡ Some (a, k)) (t : Option (ℕ × Spot)) (x : WordStepIs g src j t) where
     one : WordByte g src i a k
     one = step-byte g src i w e
 
-    pub agree-longer : t ≡ End → false ≡ same (word_left g src p) (word_left g src q)
+    pub agree-longer : t ≡ None → false ≡ same (word_left g src p) (word_left g src q)
     unfolding same
     agree-longer f = sym (v.rest ∙ rw (one.bytes, step_end g src j x f))
 
-    module _ {b : ℕ} {l : Spot} (f : t ≡ Byte b l) where
+    module _ {b : ℕ} {l : Spot} (f : t ≡ Some (b, l)) where
       two : WordByte g src j b l
       two = step-byte g src j x f
 
@@ -73,20 +71,12 @@ module _ {g : Signs} {src : List ℕ} {p q i j : Spot} (v : Agree g src p q i j)
 
 -- ## The bytes of a toggle's word
 
-module _ (b : ℕ) {t : Bool} (e : t ≡ within 48 57 b) where
-  pub byte-figure : t ≡ true → true ≡ is_toggle_byte b
-  byte-figure h = rw (← e, h)
+-- a test by `||`, from what its first side gave
+pub or-then : {v t x : Bool} (y : Bool) → t ≡ x → t ≡ true → v ≡ t → v ≡ (x || y)
+or-then y e h i = i ∙ h ∙ sym (rw (← e, h))
 
-  module _ (n : t ≡ false) {u : Bool} (f : u ≡ within 65 90 b) where
-    pub byte-capital : u ≡ true → true ≡ is_toggle_byte b
-    byte-capital h = rw (← e, n, ← f, h)
-
-    module _ (o : u ≡ false) {x : Bool} (i : x ≡ within 97 122 b) where
-      pub byte-letter : x ≡ true → true ≡ is_toggle_byte b
-      byte-letter h = rw (← e, n, ← f, o, ← i, h)
-
-      pub byte_last : x ≡ false → eqb b 95 ≡ is_toggle_byte b
-      byte_last h = rw (← e, n, ← f, o, ← i, h)
+pub or-else : {v t u x y : Bool} → t ≡ x → t ≡ false → v ≡ u → u ≡ y → v ≡ (x || y)
+or-else e h i f = i ∙ f ∙ sym (rw (← e, h))
 
 -- ## To the end of the word
 
@@ -100,9 +90,9 @@ pub record InToggle (g : Signs) (src : List ℕ) (p q : Spot) (n : ℕ) (clean :
 pub toggle-none : (g : Signs) (src : List ℕ) (p : Spot) → p.at ≤ length src → InToggle g src p p 0 true
 toggle-none g src p h = record { long = omega arith; all = refl; from = omega arith; to = h }
 
-module _ {g : Signs} {src : List ℕ} {p q : Spot} {n : ℕ} {clean : Bool} {s : WordStep} (v : InToggle g src p q n clean) (w : WordStepIs g src q s) where
+module _ {g : Signs} {src : List ℕ} {p q : Spot} {n : ℕ} {clean : Bool} {s : Option (ℕ × Spot)} (v : InToggle g src p q n clean) (w : WordStepIs g src q s) where
   -- a byte more
-  toggle-on : {b : ℕ} {r : Spot} {t : Bool} → s ≡ Byte b r → (clean && (is_toggle_byte b && every is_toggle_byte (word_left g src r))) ≡ (t && every is_toggle_byte (word_left g src r))
+  toggle-on : {b : ℕ} {r : Spot} {t : Bool} → s ≡ Some (b, r) → (clean && (is_toggle_byte b && every is_toggle_byte (word_left g src r))) ≡ (t && every is_toggle_byte (word_left g src r))
       → InToggle g src p r (n + 1) t
   unfolding every
   toggle-on {b} {r} e f =
@@ -115,13 +105,13 @@ module _ {g : Signs} {src : List ℕ} {p q : Spot} {n : ℕ} {clean : Bool} {s :
         to = x.to;
       }
 
-  pub toggle-more : {b : ℕ} {r : Spot} {t : Bool} → s ≡ Byte b r → clean ≡ true → t ≡ is_toggle_byte b → InToggle g src p r (n + 1) t
+  pub toggle-more : {b : ℕ} {r : Spot} {t : Bool} → s ≡ Some (b, r) → clean ≡ true → t ≡ is_toggle_byte b → InToggle g src p r (n + 1) t
   toggle-more {b} {r} {t} e f h = toggle-on e (rw (f, h))
 
-  pub toggle-foul : {b : ℕ} {r : Spot} → s ≡ Byte b r → clean ≡ false → InToggle g src p r (n + 1) clean
+  pub toggle-foul : {b : ℕ} {r : Spot} → s ≡ Some (b, r) → clean ≡ false → InToggle g src p r (n + 1) clean
   toggle-foul e f = toggle-on e (rw f)
 
-  pub toggle-ends : s ≡ End → ShapeIs (word_left g src p) (record { clean = clean; short = leb n 32 })
+  pub toggle-ends : s ≡ None → ShapeIs (word_left g src p) (record { clean = clean; short = leb n 32 })
   unfolding every
   toggle-ends e =
       let x = step_end g src q w e in

@@ -1,5 +1,5 @@
 -- The toggles of the paper (Rattle.rules.specs.Conditionals) as a lent area keeps them, and what is told of them.
-use Rattle.std.specs.Prelude.{◌≡◌, Bool, true, false, ◌&&◌, ◌||◌, List, [], ◌∷◌, map, ℕ, ◌+◌, ◌*◌, ◌/◌, ◌%◌, ◌≤◌, ◌<◌, length, get_or, take, drop, eqb, leb, ltb, if◌then◌else◌}
+use Rattle.std.specs.Prelude.{◌≡◌, Bool, true, false, ◌&&◌, ◌||◌, List, [], ◌∷◌, map, ℕ, ◌+◌, ◌*◌, ◌/◌, ◌%◌, ◌≤◌, ◌<◌, length, get_or, take, drop, eqb, leb, ltb, if◌then◌else◌, None, Option, Some}
 use Rattle.rules.specs.Text.{every, one_of, ◌unless◌, lowest}
 use Rattle.rules.specs.State.{Toggle}
 use Rattle.rules.specs.Conditionals.{is_toggle_byte, is_toggle, turned}
@@ -8,8 +8,6 @@ use Rattle.text_lines.specs.declared.Spot.{Spot}
 use Rattle.text_lines.specs.Stream.{marks_left, line_start}
 use Rattle.text_tokens.specs.Left.{word_in}
 use Rattle.work_toggles.specs.Candidates.{takes, candidate}
-use Rattle.work_toggles.specs.declared.Place.{Place}
-use Rattle.work_toggles.specs.declared.Place.TheVariants as place
 use Rattle.work_toggles.specs.declared.Shape.{Shape}
 
 -- ## Toggles in an area
@@ -67,9 +65,9 @@ pub record First (w : List ℕ) (ts : List Toggle) (i : ℕ) : Type 0 where
   pub there : is_toggle w (get_or ts i no_toggle) ≡ true
   pub before : one_of (is_toggle w) (take i ts) ≡ false
 
-abbrev pub PlaceIs : List ℕ → List Toggle → Place → Type 0
-PlaceIs w ts (place.At i) = First w ts i
-PlaceIs w ts place.Nothing = one_of (is_toggle w) ts ≡ false
+abbrev pub PlaceIs : List ℕ → List Toggle → Option ℕ → Type 0
+PlaceIs w ts (Some i) = First w ts i
+PlaceIs w ts None = one_of (is_toggle w) ts ≡ false
 
 -- The toggle of a word stands there, or is to be put there, behind the last.
 pub record Slot (w : List ℕ) (ts : List Toggle) (i : ℕ) : Type 0 where

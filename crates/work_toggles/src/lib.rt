@@ -8,19 +8,13 @@ ghost use Rattle.std.specs.Prelude.{◌≡◌, [], ◌+◌, ◌/◌, ◌≤◌, 
 ghost use Rattle.text_lines.specs.Stream.{line_start};
 ghost use Rattle.rules.specs.Text.{same, one_of};
 ghost use Rattle.rules.specs.Conditionals.{is_toggle_byte, is_toggle, is_on};
+ghost use Rattle.base_units.specs.Numbers.{number_or_none};
 ghost use Rattle.work_toggles.specs.Candidates.{decision_for, takes, candidate, Parts, Differ};
 ghost use Rattle.work_toggles.specs.Kept.{word_left, toggle_at, toggles_in, Kept, is_defined, stored_as, PlaceIs, Slot, ShapeIs, refusal_for, IsNew, Decides, MayTurn, Turned};
 
+use base_units::Refusal;
 use text_lines::{IN_PLAIN, Signs, Spot};
-use text_specials::between;
-use text_tokens::{WordStep, copy_word, word_byte};
-
-// Which of the toggles is meant, or none.
-#[derive(Clone, Copy)]
-pub enum Place {
-    At(usize),
-    Nothing,
-}
+use text_tokens::{copy_word, word_byte};
 
 // Of a toggle's word: whether each byte may stand in one, and whether it is short enough.
 #[derive(Clone, Copy)]
@@ -41,11 +35,7 @@ fn word_ends(src: &[u8], g: Signs, p: Spot) -> bool
     requires { p.at ≤ length src.now }
     ensures { result ≡ same [] (word_left g src.now p) }
 {
-    let s = word_byte(src, g, p);
-    match s {
-        WordStep::Byte(_, _) => return false,
-        WordStep::End => return true,
-    }
+    word_byte(src, g, p).is_none()
 }
 
 // Whether the words at two spots have the same bytes.
@@ -55,33 +45,17 @@ fn same_word(src: &[u8], g: Signs, p: Spot, q: Spot) -> bool
 {
     let mut i = p;
     let mut j = q;
-    loop {
-        let s = word_byte(src, g, i);
-        match s {
-            WordStep::Byte(a, k) => {
-                let t = word_byte(src, g, j);
-                match t {
-                    WordStep::Byte(b, l) => {
-                        if a == b {
-                            i = k;
-                            j = l;
-                        } else {
-                            return false;
-                        }
-                    }
-                    WordStep::End => return false,
-                }
-            }
-            WordStep::End => return word_ends(src, g, j),
+    while let Some((a, k)) = word_byte(src, g, i) {
+        let Some((b, l)) = word_byte(src, g, j) else {
+            return false;
+        };
+        if a != b {
+            return false;
         }
+        i = k;
+        j = l;
     }
-}
-
-// Where the word of a toggle begins.
-fn place_of(v: u32) -> usize
-    ensures { result ≡ v / 2 }
-{
-    (v / 2) as usize
+    word_ends(src, g, j)
 }
 
 // Whether a toggle is defined.
@@ -97,19 +71,15 @@ fn stored(at: usize, on: bool) -> u32
     ensures { result ≡ stored_as at on }
 {
     let v = (at * 2) as u32;
-    if on {
-        return v + 1;
-    }
-    v
+    if on { v + 1 } else { v }
 }
 
 // The spot where the word of a toggle begins.
 fn spot_of(v: u32) -> Spot
     ensures { result ≡ line_start (v / 2) }
 {
-    let at = place_of(v);
     Spot {
-        at: at,
+        at: (v / 2) as usize,
         mode: IN_PLAIN,
         fresh: true,
     }
@@ -120,8 +90,7 @@ fn has_label(src: &[u8], g: Signs, v: u32, q: Spot) -> bool
     requires { (v / 2 ≤ length src.now) × (q.at ≤ length src.now) }
     ensures { result ≡ is_toggle (word_left g src.now q) (toggle_at g src.now v) }
 {
-    let p = spot_of(v);
-    same_word(src, g, q, p)
+    same_word(src, g, q, spot_of(v))
 }
 
 // Whether a decision takes the word away from toggle c.
@@ -130,10 +99,7 @@ fn is_taken(word: &[u8], c: usize, d: u32) -> bool
     ensures { result ≡ takes word.now c d }
 {
     let k = (d / 256 % 32) as usize;
-    if (d / 8192) as usize == c {
-        return word[k] == (d % 256) as u8;
-    }
-    false
+    (d / 8192) as usize == c && word[k] == (d % 256) as u8
 }
 
 // The candidate of a word among n toggles, whose decisions stand from a place on.
@@ -142,14 +108,9 @@ fn candidate_among(word: &[u8], work: &[u32], from: usize, n: usize) -> usize
     ensures { result ≡ candidate word.now work.now from n }
 {
     let mut c: usize = 0;
-    let mut i: usize = 0;
-    while i < n {
-        let d = work[from + i];
-        if is_taken(word, c, d) {
+    for i in 0..n {
+        if is_taken(word, c, work[from + i]) {
             c = i;
-            i += 1;
-        } else {
-            i += 1;
         }
     }
     c
@@ -166,19 +127,16 @@ fn candidate_of(src: &[u8], g: Signs, work: &[u32], from: usize, n: usize, q: Sp
 }
 
 // The toggle whose word stands at a spot: its candidate, or none.
-fn find_toggle(src: &[u8], g: Signs, work: &[u32], base: usize, n: usize, q: Spot) -> Place
+fn find_toggle(src: &[u8], g: Signs, work: &[u32], base: usize, n: usize, q: Spot) -> Option<usize>
     requires { Kept g src.now work.now base n × (q.at ≤ length src.now) }
     ensures { PlaceIs (word_left g src.now q) (toggles_in g src.now work.now base n) result }
 {
     let c = candidate_of(src, g, work, base + 16, n, q);
-    if c < n {
-        let v = work[base + c];
-        if has_label(src, g, v, q) {
-            return Place::At(c);
-        }
-        return Place::Nothing;
+    if c < n && has_label(src, g, work[base + c], q) {
+        Some(c)
+    } else {
+        None
     }
-    Place::Nothing
 }
 
 // Whether a toggle of that word is known.
@@ -186,11 +144,7 @@ fn knows(src: &[u8], g: Signs, work: &[u32], base: usize, n: usize, q: Spot) -> 
     requires { Kept g src.now work.now base n × (q.at ≤ length src.now) }
     ensures { result ≡ one_of (is_toggle (word_left g src.now q)) (toggles_in g src.now work.now base n) }
 {
-    let f = find_toggle(src, g, work, base, n, q);
-    match f {
-        Place::At(_) => return true,
-        Place::Nothing => return false,
-    }
+    find_toggle(src, g, work, base, n, q).is_some()
 }
 
 // Whether the toggle of that word is defined.
@@ -198,10 +152,9 @@ pub fn is_on(src: &[u8], g: Signs, work: &[u32], base: usize, n: usize, q: Spot)
     requires { Kept g src.now work.now base n × (q.at ≤ length src.now) }
     ensures { result ≡ is_on (word_left g src.now q) (toggles_in g src.now work.now base n) }
 {
-    let f = find_toggle(src, g, work, base, n, q);
-    match f {
-        Place::At(i) => return is_defined(work[base + i]),
-        Place::Nothing => return false,
+    match find_toggle(src, g, work, base, n, q) {
+        Some(i) => is_defined(work[base + i]),
+        None => false,
     }
 }
 
@@ -210,11 +163,7 @@ fn slot_of(src: &[u8], g: Signs, work: &[u32], base: usize, n: usize, q: Spot) -
     requires { Kept g src.now work.now base n × (q.at ≤ length src.now) }
     ensures { Slot (word_left g src.now q) (toggles_in g src.now work.now base n) result }
 {
-    let f = find_toggle(src, g, work, base, n, q);
-    match f {
-        Place::At(i) => return i,
-        Place::Nothing => return n,
-    }
+    find_toggle(src, g, work, base, n, q).unwrap_or(n)
 }
 
 // The first place where two rooms of 32 bytes differ, if there is one.
@@ -222,15 +171,12 @@ fn first_difference(a: &[u8], b: &[u8]) -> usize
     requires { (length a.now ≡ 32) × (length b.now ≡ 32) }
     ensures { Differ a.now b.now result }
 {
-    let mut i: usize = 0;
-    while i < 31 {
-        if a[i] == b[i] {
-            i += 1;
-        } else {
+    for i in 0..31 {
+        if a[i] != b[i] {
             return i;
         }
     }
-    i
+    31
 }
 
 // Where the word at a spot differs from another, and its byte there.
@@ -254,7 +200,7 @@ fn decision(c: usize, m: Parting) -> u32
     requires { (c < 16) × (m.at < 32) }
     ensures { result ≡ decision_for c m }
 {
-    ((c * 32 + m.at) * 256) as u32 + m.byte as u32
+    ((c * 32 + m.at) * 256) as u32 + u32::from(m.byte)
 }
 
 // The decision for one more toggle, whose word stands at a spot: between it and its candidate among those before. The first needs none.
@@ -264,11 +210,10 @@ fn decide(src: &[u8], g: Signs, work: &[u32], base: usize, n: usize, q: Spot) ->
 {
     let c = candidate_of(src, g, work, base + 16, n, q);
     if c < n {
-        let p = spot_of(work[base + c]);
-        let m = part_words(src, g, q, p);
-        return decision(c, m);
+        decision(c, part_words(src, g, q, spot_of(work[base + c])))
+    } else {
+        0
     }
-    0
 }
 
 // The toggle whose word begins at a place is defined, or not, from now on. How many toggles there are then.
@@ -285,7 +230,7 @@ pub fn turn(
     ensures { Turned g src.now work.old work.new base n result at on }
 {
     let q = Spot {
-        at: at,
+        at,
         mode: IN_PLAIN,
         fresh: true,
     };
@@ -294,8 +239,7 @@ pub fn turn(
         work[base + i] = stored(at, on);
         return n;
     }
-    let d = decide(src, g, work, base, n, q);
-    work[base + 16 + n] = d;
+    work[base + 16 + n] = decide(src, g, work, base, n, q);
     work[base + n] = stored(at, on);
     n + 1
 }
@@ -304,16 +248,7 @@ pub fn turn(
 fn is_toggle_byte(b: u8) -> bool
     ensures { result ≡ is_toggle_byte b }
 {
-    if between(48, 57, b) {
-        return true;
-    }
-    if between(65, 90, b) {
-        return true;
-    }
-    if between(97, 122, b) {
-        return true;
-    }
-    b == 95
+    matches!(b, b'0'..=b'9' | b'A'..=b'Z' | b'a'..=b'z' | b'_')
 }
 
 // What the word at a spot is like, as a toggle's.
@@ -324,43 +259,39 @@ fn word_of_toggle(src: &[u8], g: Signs, p: Spot) -> Shape
     let mut q = p;
     let mut n: usize = 0;
     let mut clean = true;
-    loop {
-        let s = word_byte(src, g, q);
-        match s {
-            WordStep::Byte(b, r) => {
-                n += 1;
-                if clean {
-                    clean = is_toggle_byte(b);
-                }
-                q = r;
-            }
-            WordStep::End => {
-                return Shape {
-                    clean: clean,
-                    short: n <= 32,
-                };
-            }
-        }
+    while let Some((b, r)) = word_byte(src, g, q) {
+        n += 1;
+        clean = clean && is_toggle_byte(b);
+        q = r;
+    }
+    Shape {
+        clean,
+        short: n <= 32,
     }
 }
 
-// The refusal of a line whose one operand is the word at a spot, as a toggle; 0 for none.
-pub fn toggle_refusal(src: &[u8], g: Signs, work: &[u32], base: usize, n: usize, q: Spot) -> u8
+// The refusal of a line whose one operand is the word at a spot, as a toggle.
+pub fn toggle_refusal(
+    src: &[u8],
+    g: Signs,
+    work: &[u32],
+    base: usize,
+    n: usize,
+    q: Spot,
+) -> Option<Refusal>
     requires { Kept g src.now work.now base n × (q.at ≤ length src.now) }
-    ensures { result ≡ refusal_for (word_left g src.now q) (toggles_in g src.now work.now base n) }
+    ensures { number_or_none result ≡ refusal_for (word_left g src.now q) (toggles_in g src.now work.now base n) }
 {
     let s = word_of_toggle(src, g, q);
-    if s.clean {
-        if s.short {
-            if knows(src, g, work, base, n, q) {
-                return 0;
-            }
-            if n < 16 {
-                return 0;
-            }
-            return 7;
-        }
-        return 7;
+    if !s.clean {
+        return Some(Refusal::Malformed);
     }
-    3
+    if !s.short {
+        return Some(Refusal::TooMany);
+    }
+    if n < 16 || knows(src, g, work, base, n, q) {
+        None
+    } else {
+        Some(Refusal::TooMany)
+    }
 }

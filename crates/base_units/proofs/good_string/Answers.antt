@@ -1,17 +1,15 @@
-use Rattle.base_units.proofs.CharLaws.{string-long, sifted-none, sifted-fits, sifted-more, sifted-all}
+use Rattle.base_units.proofs.CharLaws.{string-long, sifted-none, sifted-good, sifted-bad, sifted-all}
 use Rattle.base_units.proofs.good_string.Goals as goal
+use Rattle.base_units.proofs.good_string.Goals.{then-not-is_character, else-not-is_character}
 
 pub returns-then-s-gt4096 : goal.returns-then-s-gt4096
 returns-then-s-gt4096 c = search string-long
 
-pub loop-i-init : goal.loop-i-init
-loop-i-init c = search sifted-none
+pub loop-n-init : goal.loop-n-init
+loop-n-init c = search sifted-none
 
-pub overflow_add-bad : goal.overflow_add-bad
-overflow_add-bad c = search sifted-fits
-
-pub loop-i-preserved : goal.loop-i-preserved
-loop-i-preserved c = search sifted-more
+pub loop-n-preserved : goal.loop-n-preserved
+loop-n-preserved c = elim c.if-not-is_character.branch [ then-not-is_character w ↦ rw w.bad-is (search sifted-bad) | else-not-is_character w ↦ rw w.bad-is (search sifted-good) ]
 
 pub returns : goal.returns
 returns c = search sifted-all

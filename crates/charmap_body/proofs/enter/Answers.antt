@@ -1,16 +1,15 @@
--- `charmap_body::enter` meets its contract: by what the entry gives.
-use Rattle.text_names.specs.Named.{name_left}
+-- `charmap_body::enter` meets its contract: an entry that is not refused is given.
+use Rattle.std.proofs.lemmas.Result.{err_from_is_err_and}
 use Rattle.charmap_body.proofs.OutcomeLaws.{enter-refused, enter-room, enter-gives}
 use Rattle.charmap_body.proofs.enter.Goals as goal
 
-pub returns-in-Refused : goal.returns-in-Refused
-returns-in-Refused c = search enter-refused
+pub returns-in_err-b : goal.returns-in_err-b
+returns-in_err-b c =
+    let p = err_from_is_err_and c.from_residual.result c.from_residual.ensures.1 in
+    rw (p.1, p.2) (enter-refused _ _ _ _ _ c.entry_outcome.ensures c.in_err-b.was)
 
 pub give_range-requires : goal.give_range-requires
-give_range-requires c =
-    let a = c.args in
-    enter-room a.text a.refusal (name_left a.g a.src.now a.first) (name_left a.g a.src.now a.last) a.byte
-    {s = c.entry_outcome-s.result} c.entry_outcome-s.ensures c.in-Gives.is c.requires.0
+give_range-requires c = enter-room _ _ _ _ _ c.entry_outcome.ensures c.in_ok-b.was c.requires.0
 
-pub returns-in-Gives : goal.returns-in-Gives
-returns-in-Gives c = search enter-gives
+pub returns : goal.returns
+returns c = enter-gives _ _ _ _ _ c.entry_outcome.ensures c.in_ok-b.was c.give_range.ensures

@@ -1,18 +1,9 @@
--- `charmap_body::entry_outcome` meets its contract: by its codes, then by what these give.
-use Rattle.charmap_body.proofs.OutcomeLaws.{codes-small, entry_other, entry-refused, entry_gives, entry-before}
+-- `charmap_body::entry_outcome` meets its contract: what the codes give counts where nothing is refused.
+use Rattle.charmap_body.proofs.OutcomeLaws.{entry_gives, entry-refused}
 use Rattle.charmap_body.proofs.entry_outcome.Goals as goal
 
-pub returns-in-Other : goal.returns-in-Other
-returns-in-Other c = search entry_other
+pub returns-in-None : goal.returns-in-None
+returns-in-None c = entry_gives _ _ _ _ _ _ _ _ _ c.codes_outcome-codes.result c.before_codes.ensures c.codes_outcome-codes.ensures c.err.ensures.value c.lower_of.ensures c.in-None.is
 
-pub range_outcome-t-requires : goal.range_outcome-t-requires
-range_outcome-t-requires c = (c.requires.0, search codes-small)
-
-pub returns-in-Refused : goal.returns-in-Refused
-returns-in-Refused c = search entry-refused
-
-pub returns-then-before-eq0 : goal.returns-then-before-eq0
-returns-then-before-eq0 c = search entry_gives
-
-pub returns-in-Gives : goal.returns-in-Gives
-returns-in-Gives c = search entry-before
+pub returns-in-Some : goal.returns-in-Some
+returns-in-Some c = entry-refused _ _ _ _ _ _ _ _ _ c.codes_outcome-codes.result c.before_codes.ensures c.codes_outcome-codes.ensures c.err.ensures.value c.lower_of.ensures c.in-Some.is

@@ -1,4 +1,4 @@
--- `charmap_body::plain_line` meets its contract: by what the line is, then by whether its bytes are text.
+-- `charmap_body::plain_line` meets its contract: by what the line is, and whether its bytes are text.
 use Rattle.charmap_body.proofs.PlainLaws.{plain-blank, plain_end, plain-end-bad, plain_other, plain-other-bad}
 use Rattle.charmap_body.proofs.plain_line.Goals as goal
 
@@ -8,11 +8,11 @@ returns-in-Blank c = search plain-blank
 pub returns-then-e : goal.returns-then-e
 returns-then-e c = search plain_end
 
-pub returns-in-End : goal.returns-in-End
-returns-in-End c = search plain-end-bad
+pub returns-else-e : goal.returns-else-e
+returns-else-e c = search plain-end-bad
 
 pub returns-then-e-2 : goal.returns-then-e-2
 returns-then-e-2 c = search plain_other
 
-pub returns-in-Other : goal.returns-in-Other
-returns-in-Other c = search plain-other-bad
+pub returns-else-e-2 : goal.returns-else-e-2
+returns-else-e-2 c = search plain-other-bad

@@ -1,9 +1,8 @@
--- `charmap_coding::check_area` meets its contract: one law for each return.
 use Rattle.charmap_coding.proofs.AcceptLaws.{check-accepted, check-refused}
 use Rattle.charmap_coding.proofs.check_area.Goals as goal
 
-pub returns-then-ok : goal.returns-then-ok
-returns-then-ok c = search check-accepted
+pub returns-then-accepts : goal.returns-then-accepts
+returns-then-accepts c = search check-accepted
 
-pub returns : goal.returns
-returns c = search check-refused
+pub returns-else-accepts : goal.returns-else-accepts
+returns-else-accepts c = search check-refused

@@ -1,13 +1,8 @@
-use native.Mathlib.Omega.{arith}
-use Prim.Native.Nat.{◌-◌}
 use Rattle.charmap_coding.proofs.CountLaws.{counting-none, counting-one, counting-past, counting-fits, counting_more, counting-all}
 use Rattle.charmap_coding.proofs.count_ones.Goals as goal
 
 pub loop-i-init : goal.loop-i-init
 loop-i-init c = search counting-none
-
-pub overflow_cast-d : goal.overflow_cast-d
-overflow_cast-d c = omega (arith, c.type_inv.codes (c.loop-i.i - 1))
 
 pub overflow_cast-counts : goal.overflow_cast-counts
 overflow_cast-counts c = search counting-one

@@ -1,13 +1,8 @@
-use native.Mathlib.Omega.{arith}
-use Prim.Native.Nat.{◌-◌}
 use Rattle.charmap_coding.proofs.ByteLaws.{indexing-none, indexing-fits, indexing-unmarked, indexing-past, indexing-marked, indexing-all}
 use Rattle.charmap_coding.proofs.index_bytes.Goals as goal
 
 pub loop-i-init : goal.loop-i-init
 loop-i-init c = search indexing-none
-
-pub overflow_cast-d : goal.overflow_cast-d
-overflow_cast-d c = omega (arith, c.type_inv.codes (c.loop-i.i - 1))
 
 pub overflow_cast-index : goal.overflow_cast-index
 overflow_cast-index c = search indexing-fits

@@ -1,17 +1,8 @@
-use Rattle.charmap_coding.proofs.OnesLaws.{each_none, each-uncoded, each-one, each-other, each_all}
+use Rattle.std.proofs.Common.{rules, tests}
+use Rattle.std.proofs.lemmas.Iterator.{YieldsList-from_slice}
+use Rattle.std.proofs.lemmas.Iterator.Search.{all_from_yields_List}
+use Rattle.charmap_coding.proofs.OnesLaws.{has_one, each_all}
 use Rattle.charmap_coding.proofs.one_each_by.Goals as goal
 
-pub loop-i-init : goal.loop-i-init
-loop-i-init c = search each_none
-
-pub loop-i-preserved-then-c-eq1114112 : goal.loop-i-preserved-then-c-eq1114112
-loop-i-preserved-then-c-eq1114112 c = search each-uncoded
-
-pub returns-then-n-ne1 : goal.returns-then-n-ne1
-returns-then-n-ne1 c = search each-other
-
-pub loop-i-preserved : goal.loop-i-preserved
-loop-i-preserved c = search each-one
-
 pub returns : goal.returns
-returns c = search each_all
+returns c = each_all _ _ (all_from_yields_List (has_one c.args.codes.now c.args.ones.now) _ _ _ c.all.ensures.ran (YieldsList-from_slice c.args.codes.now c.iter.ensures.rest) (λ x b q k. search (rules, tests)))

@@ -1,20 +1,10 @@
-use Rattle.charmap_coding.proofs.OnesLaws.{ones_none, ones-zero, ones-large, ones-uncoded, ones-one, ones-all}
+use Rattle.std.proofs.Common.{rules, tests}
+use Rattle.std.proofs.lemmas.Iterator.{YieldsList-from_slice, YieldsList-from_zip}
+use Rattle.std.proofs.lemmas.Iterator.Search.{all_from_yields_List}
+use Prim.Native.Nat.{ℕ}
+use Rattle.charmap_coding.specs.Tables.{is_one}
+use Rattle.charmap_coding.proofs.OnesLaws.{ones-all}
 use Rattle.charmap_coding.proofs.ones_pass.Goals as goal
 
-pub loop-i-init : goal.loop-i-init
-loop-i-init c = search ones_none
-
-pub loop-i-preserved-then-o-eq0 : goal.loop-i-preserved-then-o-eq0
-loop-i-preserved-then-o-eq0 c = search ones-zero
-
-pub returns-then-o-ne1 : goal.returns-then-o-ne1
-returns-then-o-ne1 c = search ones-large
-
-pub returns-then-c-eq1114112 : goal.returns-then-c-eq1114112
-returns-then-c-eq1114112 c = search ones-uncoded
-
-pub loop-i-preserved : goal.loop-i-preserved
-loop-i-preserved c = search ones-one
-
 pub returns : goal.returns
-returns c = search ones-all
+returns c = ones-all _ _ c.requires (all_from_yields_List (λ (q : ℕ × ℕ). is_one q.0 q.1) c.all.new.self _ _ c.all.ensures.ran (YieldsList-from_zip {s = c.zip.result} (YieldsList-from_slice c.args.codes.now (cc)) (YieldsList-from_slice c.args.ones.now (cc))) (λ x b q k. search (rules, tests)))

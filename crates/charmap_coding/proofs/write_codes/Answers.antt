@@ -6,9 +6,6 @@ use Rattle.charmap_coding.proofs.write_codes.Goals as goal
 pub loop-i-init : goal.loop-i-init
 loop-i-init c = search putting-none
 
-pub overflow_cast-b : goal.overflow_cast-b
-overflow_cast-b c = omega (arith, c.type_inv.bytes c.loop-i.i)
-
 pub offset_bounds-area-b : goal.offset_bounds-area-b
 offset_bounds-area-b c = omega (arith, c.type_inv.bytes c.loop-i.i)
 

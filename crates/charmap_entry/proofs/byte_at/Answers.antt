@@ -1,21 +1,16 @@
 -- `charmap_entry::byte_at` meets its contract: blanks, and the pair behind them.
-use Rattle.charmap_entry.proofs.ByteLaws.{gap-end, gap_other, gap-space, gap-tab, gap-space-byte, gap-tab-byte}
+use Rattle.charmap_entry.proofs.ByteLaws.{gap-end, gap_other, gap-plain, gap-byte}
 use Rattle.charmap_entry.proofs.byte_at.Goals as goal
 
-pub returns-in-End : goal.returns-in-End
-returns-in-End c = search gap-end
+pub returns-in_err-m : goal.returns-in_err-m
+returns-in_err-m c = rw c.from_residual.ensures (gap-end c.args.g c.args.src.now c.args.p c.requires.1 c.next_mark.ensures c.in_err-m.was)
 
 pub skip_gaps-requires : goal.skip_gaps-requires
-skip_gaps-requires c = gap-space c.args.g c.args.src.now c.args.p c.requires.1 {s = c.next_mark-s.result} c.next_mark-s.ensures c.in-Mark.is c.if-m-eq32.true
-
-pub returns-then-m-eq32 : goal.returns-then-m-eq32
-returns-then-m-eq32 c = search gap-space-byte
-
-pub skip_gaps-requires-then-m-eq9 : goal.skip_gaps-requires-then-m-eq9
-skip_gaps-requires-then-m-eq9 c = gap-tab c.args.g c.args.src.now c.args.p c.requires.1 {s = c.next_mark-s.result} c.next_mark-s.ensures c.in-Mark.is c.if-m-eq9.true
+skip_gaps-requires c = gap-plain c.args.g c.args.src.now c.args.p c.requires.1 c.next_mark.ensures c.in_ok-m.was c.if-m-eq9.either
 
 pub returns-then-m-eq9 : goal.returns-then-m-eq9
-returns-then-m-eq9 c = search gap-tab-byte
+returns-then-m-eq9 c =
+    gap-byte c.args.g c.args.src.now c.args.p c.requires.1 c.next_mark.ensures c.in_ok-m.was c.if-m-eq9.either c.skip_gaps.ensures _ c.escaped_byte.ensures
 
-pub returns-in-Mark : goal.returns-in-Mark
-returns-in-Mark c = search gap_other
+pub returns-else-m-eq9 : goal.returns-else-m-eq9
+returns-else-m-eq9 c = gap_other c.args.g c.args.src.now c.args.p c.requires.1 c.next_mark.ensures c.in_ok-m.was c.if-m-eq9.false

@@ -2,17 +2,19 @@
 use Rattle.charmap_entry.proofs.EntryLaws.{entry-plain, entry-no-name, entry_next, entry-no-byte, entry_whole}
 use Rattle.charmap_entry.proofs.entry_at.Goals as goal
 
-pub names_at-n-requires : goal.names_at-n-requires
-names_at-n-requires c = search entry-plain
+pub names_at-requires : goal.names_at-requires
+names_at-requires c = entry-plain c.args.g c.args.src.now c.args.at c.skip_gaps-q.ensures
 
-pub returns-in-No : goal.returns-in-No
-returns-in-No c = search entry-no-name
+pub returns-in_err-h : goal.returns-in_err-h
+returns-in_err-h c = rw c.from_residual.ensures (entry-no-name c.args.g c.args.src.now c.args.at c.skip_gaps-q.ensures c.names_at.ensures c.in_err-h.was)
 
-pub byte_at-b-requires : goal.byte_at-b-requires
-byte_at-b-requires c = entry_next c.args.g c.args.src.now c.args.at c.skip_gaps-q.ensures {n = c.names_at-n.result} c.names_at-n.ensures c.in-Found.is
+pub byte_at-requires : goal.byte_at-requires
+byte_at-requires c = entry_next c.args.g c.args.src.now c.args.at c.skip_gaps-q.ensures c.names_at.ensures c.in_ok-h.was
 
-pub returns-in-No-b : goal.returns-in-No-b
-returns-in-No-b c = search entry-no-byte
+pub returns-in_err-v : goal.returns-in_err-v
+returns-in_err-v c =
+    rw c.from_residual-in_err-v.ensures
+    (entry-no-byte c.args.g c.args.src.now c.args.at c.skip_gaps-q.ensures c.names_at.ensures c.in_ok-h.was c.byte_at.ensures c.in_err-v.was)
 
 pub parts_of-requires : goal.parts_of-requires
-parts_of-requires c = search entry_whole
+parts_of-requires c = entry_whole c.args.g c.args.src.now c.args.at c.skip_gaps-q.ensures c.names_at.ensures c.in_ok-h.was c.byte_at.ensures c.requires c.in_ok-v.was

@@ -2,23 +2,29 @@
 use Rattle.charmap_entry.proofs.ByteLaws.{pair_end, pair-other, pair-plain, pair-no-digits, pair-to, pair-glued, pair_found}
 use Rattle.charmap_entry.proofs.escaped_byte.Goals as goal
 
-pub returns-in-End : goal.returns-in-End
-returns-in-End c = search pair_end
+pub returns-in_err-m : goal.returns-in_err-m
+returns-in_err-m c = rw c.from_residual.ensures (pair_end c.args.g c.args.src.now c.args.p c.requires.1 c.next_mark.ensures c.in_err-m.was)
 
-pub two_digits-d-requires : goal.two_digits-d-requires
-two_digits-d-requires c = pair-plain c.args.g c.args.src.now c.args.p c.requires.1 {s = c.next_mark-s.result} c.next_mark-s.ensures c.in-Mark.is c.if-m-eq632.true
+pub returns-then-m-ne632 : goal.returns-then-m-ne632
+returns-then-m-ne632 c = pair-other c.args.g c.args.src.now c.args.p c.requires.1 c.next_mark.ensures c.in_ok-m.was c.if-m-ne632.true
 
-pub returns-in-No : goal.returns-in-No
-returns-in-No c = search pair-no-digits
+pub two_digits-requires : goal.two_digits-requires
+two_digits-requires c = pair-plain c.args.g c.args.src.now c.args.p c.requires.1 c.next_mark.ensures c.in_ok-m.was c.if-m-ne632.false
 
-pub tail_at-t-requires : goal.tail_at-t-requires
-tail_at-t-requires c = search pair-to
+pub returns-in_err-v : goal.returns-in_err-v
+returns-in_err-v c =
+    rw c.from_residual-in_err-v.ensures
+    (pair-no-digits c.args.g c.args.src.now c.args.p c.requires.1 c.next_mark.ensures c.in_ok-m.was c.if-m-ne632.false c.two_digits.ensures c.in_err-v.was)
 
-pub returns-in-Ends : goal.returns-in-Ends
-returns-in-Ends c = search pair_found
+pub tail_at-requires : goal.tail_at-requires
+tail_at-requires c =
+    pair-to c.args.g c.args.src.now c.args.p c.requires.1 c.next_mark.ensures c.in_ok-m.was c.if-m-ne632.false c.two_digits.ensures c.in_ok-v.was
 
-pub returns-in-Glued : goal.returns-in-Glued
-returns-in-Glued c = search pair-glued
+pub returns-in_err-i : goal.returns-in_err-i
+returns-in_err-i c =
+    rw c.from_residual-in_err-i.ensures
+    (pair-glued c.args.g c.args.src.now c.args.p c.requires.1 c.next_mark.ensures c.in_ok-m.was c.if-m-ne632.false c.two_digits.ensures c.in_ok-v.was c.tail_at.ensures c.in_err-i.was)
 
-pub returns-in-Mark : goal.returns-in-Mark
-returns-in-Mark c = search pair-other
+pub returns : goal.returns
+returns c =
+    pair_found c.args.g c.args.src.now c.args.p c.requires.1 c.next_mark.ensures c.in_ok-m.was c.if-m-ne632.false c.two_digits.ensures c.in_ok-v.was c.tail_at.ensures c.in_ok-i.was

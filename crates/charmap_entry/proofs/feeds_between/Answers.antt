@@ -1,14 +1,16 @@
-use Rattle.charmap_entry.proofs.FeedLaws.{counted_none, counted-end, counted-feed, counted-other}
+-- `charmap_entry::feeds_between` meets its contract: the library's count of the bytes between the two places.
+use Rattle.std.specs.Prelude.{◌≡◌}
+use mathlib.Core.Path.{◌∙◌}
+use native.Mathlib.Omega.{arith}
+use lib.ListN.{take, drop}
+use lib.Dec.{eqb}
+use Prim.Native.Nat.{◌-◌}
+use Rattle.std.specs.List.{count_by}
+use Rattle.std.proofs.lemmas.Grind.{common_steps}
+use Rattle.charmap_entry.proofs.FeedLaws.{feeds-between}
 use Rattle.charmap_entry.proofs.feeds_between.Goals as goal
 
-pub loop-i-init : goal.loop-i-init
-loop-i-init c = search counted_none
-
-pub loop-i-preserved-then-src-i-eq10 : goal.loop-i-preserved-then-src-i-eq10
-loop-i-preserved-then-src-i-eq10 c = search counted-feed
-
-pub loop-i-preserved : goal.loop-i-preserved
-loop-i-preserved c = search counted-other
-
 pub returns : goal.returns
-returns c = search counted-end
+returns c =
+    let e : c.count.result ≡ count_by (λ b. eqb b 10) (take (c.args.end - c.args.from) (drop c.args.from c.args.src.now)) = grind (arith, common_steps) in
+    e ∙ feeds-between c.args.src.now c.args.from c.args.end

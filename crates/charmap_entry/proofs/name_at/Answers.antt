@@ -2,17 +2,20 @@
 use Rattle.charmap_entry.proofs.HeadLaws.{name-end, name-other, name-inside, name-left-open, name-found}
 use Rattle.charmap_entry.proofs.name_at.Goals as goal
 
-pub returns-in-End : goal.returns-in-End
-returns-in-End c = search name-end
+pub returns-in_err-m : goal.returns-in_err-m
+returns-in_err-m c = rw c.from_residual.ensures (name-end c.args.g c.args.src.now c.args.p c.requires.1 c.next_mark.ensures c.in_err-m.was)
 
-pub end_of_name-c-requires : goal.end_of_name-c-requires
-end_of_name-c-requires c = name-inside c.args.g c.args.src.now c.args.p c.requires.1 {s = c.next_mark-s.result} c.next_mark-s.ensures c.in-Mark.is c.if-m-eq60.true
+pub returns-then-m-ne60 : goal.returns-then-m-ne60
+returns-then-m-ne60 c = name-other c.args.g c.args.src.now c.args.p c.requires.1 c.next_mark.ensures c.in_ok-m.was c.if-m-ne60.true
 
-pub returns-in-Closed : goal.returns-in-Closed
-returns-in-Closed c = search name-found
+pub end_of_name-requires : goal.end_of_name-requires
+end_of_name-requires c = name-inside c.args.g c.args.src.now c.args.p c.requires.1 c.next_mark.ensures c.in_ok-m.was c.if-m-ne60.false
 
-pub returns-in-Open : goal.returns-in-Open
-returns-in-Open c = search name-left-open
+pub returns-in_err-f : goal.returns-in_err-f
+returns-in_err-f c =
+    rw c.from_residual-in_err-f.ensures
+    (name-left-open c.args.g c.args.src.now c.args.p c.requires.1 c.next_mark.ensures c.in_ok-m.was c.if-m-ne60.false c.end_of_name.ensures c.in_err-f.was)
 
-pub returns-in-Mark : goal.returns-in-Mark
-returns-in-Mark c = search name-other
+pub returns : goal.returns
+returns c =
+    name-found c.args.g c.args.src.now c.args.p c.requires.1 c.next_mark.ensures c.in_ok-m.was c.if-m-ne60.false c.end_of_name.ensures c.in_ok-f.was

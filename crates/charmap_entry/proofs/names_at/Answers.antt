@@ -2,23 +2,27 @@
 use Rattle.charmap_entry.proofs.HeadLaws.{head-none, head-to, head-end, head-other, head-dot, head-no-range, head-range}
 use Rattle.charmap_entry.proofs.names_at.Goals as goal
 
-pub returns-in-No : goal.returns-in-No
-returns-in-No c = search head-none
+pub returns-in_err-refusal : goal.returns-in_err-refusal
+returns-in_err-refusal c = rw c.from_residual.ensures (head-none c.args.g c.args.src.now c.args.p c.name_at.ensures c.in_err-refusal.was)
 
-pub next_mark-s-requires : goal.next_mark-s-requires
-next_mark-s-requires c = search head-to
+pub next_mark-requires : goal.next_mark-requires
+next_mark-requires c = head-to c.args.g c.args.src.now c.args.p c.name_at.ensures c.in_ok-refusal.was
 
-pub returns-in-End : goal.returns-in-End
-returns-in-End c = search head-end
+pub returns-in_default : goal.returns-in_default
+returns-in_default c = head-end c.args.g c.args.src.now c.args.p c.name_at.ensures c.in_ok-refusal.was c.next_mark.ensures c.in_default.is
 
-pub second_name-d-requires : goal.second_name-d-requires
-second_name-d-requires c = head-dot c.args.g c.args.src.now c.args.p {n = c.name_at-n.result} c.name_at-n.ensures c.in-Found.is {s = c.next_mark-s.result} c.next_mark-s.ensures c.in-Mark.is c.if-m-eq46.true
+pub returns-then-m-ne46 : goal.returns-then-m-ne46
+returns-then-m-ne46 c =
+    head-other c.args.g c.args.src.now c.args.p c.name_at.ensures c.in_ok-refusal.was c.next_mark.ensures c.in-Some.is c.if-m-ne46.true
 
-pub returns-in-No-d : goal.returns-in-No-d
-returns-in-No-d c = search head-no-range
+pub second_name-requires : goal.second_name-requires
+second_name-requires c = head-dot c.args.g c.args.src.now c.args.p c.name_at.ensures c.in_ok-refusal.was c.next_mark.ensures c.in-Some.is c.if-m-ne46.false
 
-pub returns-in-Found-d : goal.returns-in-Found-d
-returns-in-Found-d c = search head-range
+pub returns-in_err-f : goal.returns-in_err-f
+returns-in_err-f c =
+    rw c.from_residual-in_err-f.ensures
+    (head-no-range c.args.g c.args.src.now c.args.p c.name_at.ensures c.in_ok-refusal.was c.next_mark.ensures c.in-Some.is c.if-m-ne46.false c.second_name.ensures c.in_err-f.was)
 
-pub returns-in-Mark : goal.returns-in-Mark
-returns-in-Mark c = search head-other
+pub returns : goal.returns
+returns c =
+    head-range c.args.g c.args.src.now c.args.p c.name_at.ensures c.in_ok-refusal.was c.next_mark.ensures c.in-Some.is c.if-m-ne46.false c.second_name.ensures c.in_ok-f.was c.lower_of.ensures

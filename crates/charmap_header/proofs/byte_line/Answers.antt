@@ -2,8 +2,8 @@
 use Rattle.charmap_header.proofs.NameLaws.{opened-to, opened-start, opened-less, opened_nothing, opened-fits, opened-byte}
 use Rattle.charmap_header.proofs.byte_line.Goals as goal
 
-pub after_blanks-f-requires : goal.after_blanks-f-requires
-after_blanks-f-requires c = search opened-to
+pub after_blanks-requires : goal.after_blanks-requires
+after_blanks-requires c = search opened-to
 
 pub malformed-requires : goal.malformed-requires
 malformed-requires c = search opened_nothing

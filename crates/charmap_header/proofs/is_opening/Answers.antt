@@ -7,6 +7,6 @@ pub returns-then-word_is : goal.returns-then-word_is
 unfolding bytes
 returns-then-word_is c = search opening-word
 
-pub returns : goal.returns
+pub returns-else-word_is : goal.returns-else-word_is
 unfolding bytes
-returns c = search opening-other
+returns-else-word_is c = search opening-other

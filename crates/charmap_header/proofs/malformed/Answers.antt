@@ -8,5 +8,5 @@ line_at-e-requires c = search malformed-start
 pub returns-then-e : goal.returns-then-e
 returns-then-e c = search malformed-form
 
-pub returns : goal.returns
-returns c = search malformed-bytes
+pub returns-else-e : goal.returns-else-e
+returns-else-e c = search malformed-bytes

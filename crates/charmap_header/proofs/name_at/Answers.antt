@@ -10,8 +10,8 @@ returns-then-name_is c = same_true _ _ (sym c.name_is.ensures ∙ c.if-name_is.t
 
 pub returns-then-name_is-2 : goal.returns-then-name_is-2
 unfolding bytes
-returns-then-name_is-2 c = same_true _ _ (sym c.name_is-2.ensures ∙ c.if-name_is-2.true)
+returns-then-name_is-2 c = same_true _ _ (sym c.name_is-else-name_is.ensures ∙ c.if-name_is-2.true)
 
-pub returns : goal.returns
+pub returns-else-name_is-2 : goal.returns-else-name_is-2
 unfolding bytes
-returns c = (sym c.name_is.ensures ∙ c.if-name_is.false, sym c.name_is-2.ensures ∙ c.if-name_is-2.false)
+returns-else-name_is-2 c = (sym c.name_is.ensures ∙ c.if-name_is.false, sym c.name_is-else-name_is.ensures ∙ c.if-name_is-2.false)

@@ -8,14 +8,14 @@ line_end-e-requires c = search set_to
 pub overflow_add-result : goal.overflow_add-result
 overflow_add-result c = record { fits = search set-fits }
 
-pub returns-then-may_set : goal.returns-then-may_set
-returns-then-may_set c = search set-good
+pub returns-then-not-all_text : goal.returns-then-not-all_text
+returns-then-not-all_text c = search set-foul
 
-pub returns-then-ends : goal.returns-then-ends
-returns-then-ends c = search set-refused
+pub returns-then-not-ends : goal.returns-then-not-ends
+returns-then-not-ends c = search set_more
 
-pub returns-then-all_text : goal.returns-then-all_text
-returns-then-all_text c = search set_more
+pub returns-then-not-may_set : goal.returns-then-not-may_set
+returns-then-not-may_set c = search set-refused
 
 pub returns : goal.returns
-returns c = search set-foul
+returns c = search set-good

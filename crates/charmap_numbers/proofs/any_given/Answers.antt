@@ -1,14 +1,13 @@
-use Rattle.charmap_numbers.proofs.SeekLaws.{taken_start, taken-hit, taken-miss, taken-end}
+-- `charmap_numbers::any_given` meets its contract: whether any of the bytes' numbers is a code.
+use Rattle.std.proofs.Common.{◌≡◌, ◌+◌, ◌-◌, ◌∙◌, ap, arith, ℕ, List, take, drop, rules, tests}
+use Rattle.std.proofs.lemmas.Iterator.{YieldsList-from_slice}
+use Rattle.std.proofs.lemmas.Iterator.Search.{any_from_yields_List}
+use Rattle.charmap_numbers.specs.Giving.{is_taken}
+use Rattle.charmap_numbers.proofs.SeekLaws.{any-taken}
 use Rattle.charmap_numbers.proofs.any_given.Goals as goal
 
-pub loop-i-init : goal.loop-i-init
-loop-i-init c = search taken_start
-
-pub loop-i-preserved : goal.loop-i-preserved
-loop-i-preserved c = search taken-miss
-
-pub returns-else-c-eq1114112 : goal.returns-else-c-eq1114112
-returns-else-c-eq1114112 c = search taken-hit
-
 pub returns : goal.returns
-returns c = search taken-end
+returns c =
+    let xs : List ℕ = take c.args.n (drop c.args.byte c.args.area.now) in
+    let whole : c.args.byte + c.args.n - c.args.byte ≡ c.args.n = omega arith in
+    any-taken _ _ _ (any_from_yields_List is_taken _ _ _ c.any.ensures.ran (YieldsList-from_slice xs (c.iter.ensures.rest ∙ ap (λ (m : ℕ). take m (drop c.args.byte c.args.area.now)) whole)) (λ x b q k. search (rules, tests)))

@@ -1,11 +1,10 @@
-use Rattle.charmap_numbers.proofs.SeekLaws.{copied-start, copied_more, copied-end}
+-- `charmap_numbers::copy_area` meets its contract.
+use Rattle.charmap_numbers.proofs.SeekLaws.{front-count, copied}
+use mathlib.Core.Path.{sym, ◌∙◌}
 use Rattle.charmap_numbers.proofs.copy_area.Goals as goal
 
-pub loop-i-init : goal.loop-i-init
-loop-i-init c = search copied-start
-
-pub loop-i-preserved : goal.loop-i-preserved
-loop-i-preserved c = search copied_more
+pub copy_from_slice-requires : goal.copy_from_slice-requires
+copy_from_slice-requires c = front-count _ c.requires.1 ∙ sym c.requires.0
 
 pub returns : goal.returns
-returns c = search copied-end
+returns c = search copied

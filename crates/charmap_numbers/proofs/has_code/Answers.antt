@@ -1,14 +1,9 @@
-use Rattle.charmap_numbers.proofs.SeekLaws.{code-start, code-hit, code-miss, code-end}
+-- `charmap_numbers::has_code` meets its contract.
+use Rattle.charmap_numbers.proofs.SeekLaws.{codes-count, code-contained}
 use Rattle.charmap_numbers.proofs.has_code.Goals as goal
 
-pub loop-i-init : goal.loop-i-init
-loop-i-init c = search code-start
-
-pub returns-then-area-i : goal.returns-then-area-i
-returns-then-area-i c = search code-hit
-
-pub loop-i-preserved : goal.loop-i-preserved
-loop-i-preserved c = search code-miss
+pub slice_bounds-contains-end : goal.slice_bounds-contains-end
+slice_bounds-contains-end c = search codes-count
 
 pub returns : goal.returns
-returns c = search code-end
+returns c = search code-contained

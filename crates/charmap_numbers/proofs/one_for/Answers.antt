@@ -5,5 +5,5 @@ use Rattle.charmap_numbers.proofs.one_for.Goals as goal
 pub returns-then-has_code : goal.returns-then-has_code
 returns-then-has_code c = search one-taken
 
-pub returns : goal.returns
-returns c = search one-first
+pub returns-else-has_code : goal.returns-else-has_code
+returns-else-has_code c = search one-first

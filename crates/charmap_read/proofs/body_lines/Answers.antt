@@ -1,6 +1,38 @@
--- `charmap_read::body_lines` meets its contract: what the reading answers.
-use Rattle.charmap_read.proofs.EntryLaws.{reading_begins}
+-- `charmap_read::body_lines` meets its contract: what a line leaves the run with.
+use mathlib.Core.Path.{refl, sym, ◌∙◌}
+use borrow.Author.Tests.{leb-true}
+use Rattle.text_reader.proofs.HeldLaws.{inside}
+use Rattle.charmap_read.proofs.HoldsLaws.{held_at}
+use Rattle.charmap_read.proofs.EntryLaws.{reads-start, body-used, body-asks, body-refused, body-fits, body-closed, body-more, body-nearer}
 use Rattle.charmap_read.proofs.body_lines.Goals as goal
 
-pub body_turns-t-requires : goal.body_turns-t-requires
-body_turns-t-requires c = search reading_begins
+pub loop-g-init : goal.loop-g-init
+loop-g-init c = held_at _ refl refl (reads-start c.requires) c.reader_at-q.ensures
+
+pub body_line-requires : goal.body_line-requires
+body_line-requires c = body-asks c.loop-g.invariant (inside _ _ c.used_up.ensures c.loop-g-test.true)
+
+pub returns-in-Err : goal.returns-in-Err
+returns-in-Err c = body-refused c.loop-g.invariant (inside _ _ c.used_up.ensures c.loop-g-test.true) _ _ c.body_line.ensures c.in-Err.is
+
+pub overflow_add-number : goal.overflow_add-number
+overflow_add-number c = record {
+  fits = body-fits c.loop-g.invariant (inside _ _ c.used_up.ensures c.loop-g-test.true) _ _ c.body_line.ensures c.in-Ok.is c.requires.short;
+}
+
+pub returns-then-closed : goal.returns-then-closed
+returns-then-closed c =
+    body-closed c.loop-g.invariant (inside _ _ c.used_up.ensures c.loop-g-test.true) _ _ c.body_line.ensures c.in-Ok.is c.if-closed.true
+
+pub loop-g-preserved : goal.loop-g-preserved
+loop-g-preserved c =
+    held_at _ c.loop-g.invariant.same refl
+    (body-more c.loop-g.invariant (inside _ _ c.used_up.ensures c.loop-g-test.true) _ _ c.body_line.ensures c.in-Ok.is c.if-closed.false)
+    c.reader_at-q-in-Ok.ensures
+
+pub loop-g-smaller : goal.loop-g-smaller
+loop-g-smaller c =
+    body-nearer c.loop-g.invariant (inside _ _ c.used_up.ensures c.loop-g-test.true) _ _ c.body_line.ensures c.in-Ok.is c.reader_at-q-in-Ok.ensures.1
+
+pub returns : goal.returns
+returns c = body-used c.loop-g.invariant (leb-true _ _ (sym c.used_up.ensures ∙ c.loop-g-test.false))

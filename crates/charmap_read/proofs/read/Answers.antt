@@ -2,5 +2,5 @@
 use Rattle.charmap_read.proofs.ReadLaws.{too_long}
 use Rattle.charmap_read.proofs.read.Goals as goal
 
-pub returns-then-src-gt1048576 : goal.returns-then-src-gt1048576
-returns-then-src-gt1048576 c = search too_long
+pub returns-then-src-gt-LONGEST_SOURCE : goal.returns-then-src-gt-LONGEST_SOURCE
+returns-then-src-gt-LONGEST_SOURCE c = search too_long

@@ -21,9 +21,9 @@ invariant-block-loop-i l = Going l.g l.src l.initial.work l.initial.s l.initial.
 abbrev pub decreases-block-loop-i : goal.decreases-block-loop-i
 decreases-block-loop-i l = length l.src - l.i
 
-abbrev pub invariant-chain-loop-r : goal.invariant-chain-loop-r
-invariant-chain-loop-r l =
+abbrev pub invariant-chain-loop-x : goal.invariant-chain-loop-x
+invariant-chain-loop-x l =
     Chaining l.g l.src l.initial.work l.initial.s l.initial.i l.initial.n l.depth l.initial.taken l.work l.s l.i l.n l.taken l.used l.closed
 
-abbrev pub decreases-chain-loop-r : goal.decreases-chain-loop-r
-decreases-chain-loop-r l = length l.src - l.i
+abbrev pub decreases-chain-loop-x : goal.decreases-chain-loop-x
+decreases-chain-loop-x l = length l.src - l.i

@@ -2,8 +2,8 @@
 use Rattle.locale_compile.proofs.CallLaws.{source-whole, refused-line}
 use Rattle.locale_compile.proofs.compile_lines.Goals as goal
 
-pub returns-in-Refused : goal.returns-in-Refused
-returns-in-Refused c = search refused-line
+pub returns-in-Err : goal.returns-in-Err
+returns-in-Err c = search refused-line
 
 pub finish-requires : goal.finish-requires
 finish-requires c = search source-whole

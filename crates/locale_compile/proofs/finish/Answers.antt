@@ -8,8 +8,8 @@ give_ranks-requires c = (search source_lines, search source-few)
 pub measure_lines-s-requires : goal.measure_lines-s-requires
 measure_lines-s-requires c = search source-ready
 
-pub returns-in-Unranked : goal.returns-in-Unranked
-returns-in-Unranked c = search unranked-after
+pub returns-in-Err : goal.returns-in-Err
+returns-in-Err c = search unranked-after
 
 pub put_table-requires : goal.put_table-requires
 put_table-requires c = (search source-ranks, search whole-sums)

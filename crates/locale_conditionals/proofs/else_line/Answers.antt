@@ -5,11 +5,11 @@ use Rattle.locale_conditionals.proofs.else_line.Goals as goal
 pub returns-then-l : goal.returns-then-l
 returns-then-l c = λ w. search (else-late)
 
+pub returns-then-not-no_operand : goal.returns-then-not-no_operand
+returns-then-not-no_operand c = λ w. search else-more
+
 pub returns-then-l-2 : goal.returns-then-l-2
 returns-then-l-2 c = λ w. search else-goes
 
-pub returns-then-no_operand : goal.returns-then-no_operand
-returns-then-no_operand c = λ w. search else-foul
-
-pub returns : goal.returns
-returns c = λ w. search else-more
+pub returns-else-l-2 : goal.returns-else-l-2
+returns-else-l-2 c = λ w. search else-foul

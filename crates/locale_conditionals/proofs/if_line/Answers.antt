@@ -1,21 +1,22 @@
 -- `locale_conditionals::if_line` meets its contract: a law for each answer.
-use Rattle.locale_conditionals.proofs.StepLaws.{toggled-low, toggled-high, may-name, foul-line, if-opens, if-deep, if-refuses}
+use borrow.Author.Tests.{not-true, not-false}
+use Rattle.locale_conditionals.proofs.StepLaws.{may-name, toggled-low, foul-line, if-opens, if-deep, if-refuses}
 use Rattle.locale_conditionals.proofs.if_line.Goals as goal
 
-pub named_at-t-requires : goal.named_at-t-requires
-named_at-t-requires c = search may-name
+pub named_at-requires : goal.named_at-requires
+named_at-requires c = search may-name
 
 pub refusal_with-requires : goal.refusal_with-requires
-refusal_with-requires c = (search toggled-low, search toggled-high)
+refusal_with-requires c = search toggled-low
 
-pub returns-in-Refused : goal.returns-in-Refused
-returns-in-Refused c = search if-refuses
+pub returns-in-Err : goal.returns-in-Err
+returns-in-Err c = search if-refuses
+
+pub returns-then-not-l : goal.returns-then-not-l
+returns-then-not-l c = let e = not-true _ c.if-not-l.true in search foul-line
 
 pub returns-then-l-lt8 : goal.returns-then-l-lt8
-returns-then-l-lt8 c = search if-opens
+returns-then-l-lt8 c = let e = not-false _ c.if-not-l.false in search if-opens
 
-pub returns-then-l : goal.returns-then-l
-returns-then-l c = search if-deep
-
-pub returns-in-Named : goal.returns-in-Named
-returns-in-Named c = search foul-line
+pub returns-else-l-lt8 : goal.returns-else-l-lt8
+returns-else-l-lt8 c = let e = not-false _ c.if-not-l.false in search if-deep

@@ -3,12 +3,12 @@ use Rattle.locale_declarations.proofs.EndLaws.{collate-none, collate-word, colla
 use Rattle.rules.specs.Text.{bytes}
 use Rattle.locale_declarations.proofs.collate_alone.Goals as goal
 
-pub returns-in-Other : goal.returns-in-Other
-returns-in-Other c = search collate-none
+pub returns-in-None : goal.returns-in-None
+returns-in-None c = search collate-none
 
 pub word_is-requires : goal.word_is-requires
 word_is-requires c = search collate-to
 
-pub returns-in-Word : goal.returns-in-Word
+pub returns-in-Some : goal.returns-in-Some
 unfolding bytes
-returns-in-Word c = search collate-word
+returns-in-Some c = search collate-word

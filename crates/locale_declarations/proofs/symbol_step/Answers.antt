@@ -1,19 +1,20 @@
 -- `locale_declarations::symbol_step` meets its contract: a law for each answer.
-use Rattle.locale_declarations.proofs.DeclaringLaws.{foul-step, refused-low, refused-high, misplaced-step, refused-step}
+use Rattle.std.proofs.Common.{◌≡◌, Ok, Err}
+use Rattle.std.proofs.lemmas.Result.{err_from_is_err_and}
+use Rattle.locale_declarations.proofs.DeclaringLaws.{foul-step, misplaced-step, refused-step}
 use Rattle.locale_declarations.proofs.SymbolLaws.{symbol-declaring, symbol-done}
 use Rattle.locale_declarations.proofs.symbol_step.Goals as goal
 
-pub returns-in-Declared : goal.returns-in-Declared
-returns-in-Declared c = search symbol-done
+pub returns-in_err-symbol_line : goal.returns-in_err-symbol_line
+returns-in_err-symbol_line c =
+    let p = err_from_is_err_and c.from_residual.result c.from_residual.ensures.1 in
+    rw (p.1, p.2) (refused-step symbol-declaring _ _ _ _ _ c.requires.opened _ _ _ c.may_declare.ensures c.if-may_declare.true c.if-l.true c.symbol_line.ensures c.in_err-symbol_line.was)
 
-pub refusal_of-requires : goal.refusal_of-requires
-refusal_of-requires c = (search (refused-low symbol-declaring), search (refused-high symbol-declaring))
+pub returns-in_ok-symbol_line : goal.returns-in_ok-symbol_line
+returns-in_ok-symbol_line c = symbol-done _ _ _ _ _ c.requires.opened _ _ _ c.may_declare.ensures c.if-may_declare.true c.if-l.true c.symbol_line.ensures c.in_ok-symbol_line.was
 
-pub returns-in-Refused : goal.returns-in-Refused
-returns-in-Refused c = search (refused-step symbol-declaring)
+pub returns-else-l : goal.returns-else-l
+returns-else-l c = search foul-step
 
-pub returns-then-may_declare : goal.returns-then-may_declare
-returns-then-may_declare c = search foul-step
-
-pub returns : goal.returns
-returns c = search (misplaced-step symbol-declaring)
+pub returns-else-may_declare : goal.returns-else-may_declare
+returns-else-may_declare c = search (misplaced-step symbol-declaring)

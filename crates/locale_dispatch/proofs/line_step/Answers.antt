@@ -2,8 +2,8 @@
 use Rattle.locale_dispatch.proofs.StepLaws.{step-blank, step-foul, step-word, step-name, line-some, line-few, line-in}
 use Rattle.locale_dispatch.proofs.line_step.Goals as goal
 
-pub open_line-o-requires : goal.open_line-o-requires
-open_line-o-requires c = search line-in
+pub open_line-requires : goal.open_line-requires
+open_line-requires c = search line-in
 
 pub returns-in-Blank : goal.returns-in-Blank
 returns-in-Blank c = search step-blank

@@ -4,14 +4,14 @@ use Rattle.locale_elements.proofs.all_characters.Goals as goal
 pub loop-i-init : goal.loop-i-init
 loop-i-init c = search passed_none
 
-pub returns-in-Close : goal.returns-in-Close
-returns-in-Close c = search passed-end
+pub returns : goal.returns
+returns c = search passed-end
 
 pub is_char_name-requires : goal.is_char_name-requires
 is_char_name-requires c = search passed_to
 
-pub end_of_name-c-requires : goal.end_of_name-c-requires
-end_of_name-c-requires c = (search passed_to, search passed-inside)
+pub end_of_name-requires : goal.end_of_name-requires
+end_of_name-requires c = (search passed_to, search passed-inside)
 
 pub loop-i-smaller : goal.loop-i-smaller
 loop-i-smaller c = search passed-less
@@ -19,8 +19,8 @@ loop-i-smaller c = search passed-less
 pub loop-i-preserved : goal.loop-i-preserved
 loop-i-preserved c = search passed-more
 
-pub returns-in-Open : goal.returns-in-Open
-returns-in-Open c = search passed-open
+pub returns-in_default-end_of_name : goal.returns-in_default-end_of_name
+returns-in_default-end_of_name c = search passed-open
 
-pub returns-else-is_char_name : goal.returns-else-is_char_name
-returns-else-is_char_name c = search passed-not
+pub returns-then-not-is_char_name : goal.returns-then-not-is_char_name
+returns-then-not-is_char_name c = search passed-not

@@ -2,8 +2,8 @@
 use Rattle.locale_elements.proofs.CharacterLaws.{char_is, char-not}
 use Rattle.locale_elements.proofs.is_char_name.Goals as goal
 
-pub returns-in-Char : goal.returns-in-Char
-returns-in-Char c = search char_is
+pub returns-in-Some : goal.returns-in-Some
+returns-in-Some c = search char_is
 
-pub returns-in-Other : goal.returns-in-Other
-returns-in-Other c = search char-not
+pub returns-in-None : goal.returns-in-None
+returns-in-None c = search char-not

@@ -5,8 +5,8 @@ use Rattle.locale_levels.proofs.count_refusal.Goals as goal
 pub returns-then-n-le8 : goal.returns-then-n-le8
 returns-then-n-le8 c = search count-good
 
-pub returns-then-known : goal.returns-then-known
-returns-then-known c = search count-many
+pub returns-else-n-le8 : goal.returns-else-n-le8
+returns-else-n-le8 c = search count-many
 
-pub returns : goal.returns
-returns c = search count-unknown
+pub returns-else-known : goal.returns-else-known
+returns-else-known c = search count-unknown

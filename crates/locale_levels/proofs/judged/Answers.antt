@@ -1,11 +1,13 @@
 -- `locale_levels::judged` meets its contract.
+use mathlib.Core.Path.{refl, ap, ◌∙◌}
+use native.Mathlib.Omega.{arith}
+use Rattle.base_units.specs.Numbers.{number_or_none}
+use Rattle.base_units.proofs.NumberLaws.{number_of-some}
 use Rattle.locale_levels.proofs.CountLaws.{judged-lowest}
-use mathlib.Core.Path.{refl, ◌∙◌}
-use borrow.Author.Rules.{rules}
 use Rattle.locale_levels.proofs.judged.Goals as goal
 
-pub returns-then-lowest-eq0 : goal.returns-then-lowest-eq0
-returns-then-lowest-eq0 c = (search judged-lowest ∙ c.if-lowest-eq0.true, refl)
+pub returns-in-None : goal.returns-in-None
+returns-in-None c = (search judged-lowest ∙ ap number_or_none c.in-None.is, refl)
 
-pub returns : goal.returns
-returns c = (search judged-lowest, search rules)
+pub returns-in-Some : goal.returns-in-Some
+returns-in-Some c = (search judged-lowest ∙ ap number_or_none c.in-Some.is, let a = number_of-some c.in-Some.lowest in omega (arith, a))

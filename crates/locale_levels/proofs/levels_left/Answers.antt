@@ -5,8 +5,8 @@ use Rattle.locale_levels.proofs.levels_left.Goals as goal
 pub returns-then-none_left : goal.returns-then-none_left
 returns-then-none_left c = search left-none
 
-pub returns-in-Broken : goal.returns-in-Broken
-returns-in-Broken c = search left-broken
+pub returns-in_default : goal.returns-in_default
+returns-in_default c = search left-broken
 
-pub returns-in-Rules : goal.returns-in-Rules
-returns-in-Rules c = search left-judged
+pub returns : goal.returns
+returns c = search left-judged

@@ -8,7 +8,7 @@ pub returns-then-t-eq-SEMI : goal.returns-then-t-eq-SEMI
 returns-then-t-eq-SEMI c = search rule-more
 
 pub symbol_at-requires : goal.symbol_at-requires
-symbol_at-requires c = rule-token _ _ _ _ _ _ {o = c.next_operand-o.result} c.loop-r.invariant c.next_operand-o.ensures c.in-Token.is
+symbol_at-requires c = rule-token _ _ _ _ _ _ {o = c.next_operand.result} c.loop-r.invariant c.next_operand.ensures c.in-Token.is
 
 pub loop-r-smaller : goal.loop-r-smaller
 loop-r-smaller c = search rule-less
@@ -16,8 +16,8 @@ loop-r-smaller c = search rule-less
 pub loop-r-preserved : goal.loop-r-preserved
 loop-r-preserved c = search begun_more
 
-pub returns-else-well_placed : goal.returns-else-well_placed
-returns-else-well_placed c = search rule-ill
+pub returns-then-not-well_placed : goal.returns-then-not-well_placed
+returns-then-not-well_placed c = search rule-ill
 
 pub returns-in-Broken : goal.returns-in-Broken
 returns-in-Broken c = search rule-broken

@@ -4,8 +4,8 @@ use lib.ListN.{length}
 use Rattle.locale_levels.proofs.CountLaws.{Passed}
 use Rattle.locale_levels.proofs.rules_left.Given as goal
 
-abbrev pub invariant-loop-code : goal.invariant-loop-code
-invariant-loop-code l = Passed l.g l.src l.initial.q l.q l.n l.known
+abbrev pub invariant-loop-rule : goal.invariant-loop-rule
+invariant-loop-rule l = Passed l.g l.src l.initial.q l.q l.n l.known
 
-abbrev pub decreases-loop-code : goal.decreases-loop-code
-decreases-loop-code l = length l.src - l.q.at
+abbrev pub decreases-loop-rule : goal.decreases-loop-rule
+decreases-loop-rule l = length l.src - l.q.at

@@ -8,5 +8,5 @@ returns-then-kind-eq-QUOTE c = search placed-quote
 pub returns-then-held : goal.returns-then-held
 returns-then-held c = search placed-after
 
-pub returns : goal.returns
-returns c = search placed-free
+pub returns-else-held : goal.returns-else-held
+returns-else-held c = search placed-free

@@ -1,17 +1,17 @@
 use Rattle.locale_levels.proofs.WriteLaws.{writing-none, writing_more, writing-less, writing-inside, writing-last, writing-last-inside, writing-broken}
 use Rattle.locale_levels.proofs.write_left.Goals as goal
 
-pub loop-code-init : goal.loop-code-init
-loop-code-init c = search writing-none
+pub loop-rule-init : goal.loop-rule-init
+loop-rule-init c = search writing-none
 
 pub bounds-area-i : goal.bounds-area-i
 bounds-area-i c = search writing-inside
 
-pub loop-code-smaller : goal.loop-code-smaller
-loop-code-smaller c = search writing-less
+pub loop-rule-smaller : goal.loop-rule-smaller
+loop-rule-smaller c = search writing-less
 
-pub loop-code-preserved : goal.loop-code-preserved
-loop-code-preserved c = search writing_more
+pub loop-rule-preserved : goal.loop-rule-preserved
+loop-rule-preserved c = search writing_more
 
 pub bounds-area-i-in-Last : goal.bounds-area-i-in-Last
 bounds-area-i-in-Last c = search writing-last-inside

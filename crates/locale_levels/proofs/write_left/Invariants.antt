@@ -4,8 +4,8 @@ use lib.ListN.{length}
 use Rattle.locale_levels.proofs.WriteLaws.{Writing}
 use Rattle.locale_levels.proofs.write_left.Given as goal
 
-abbrev pub invariant-loop-code : goal.invariant-loop-code
-invariant-loop-code l = Writing l.g l.src l.initial.q l.initial.area l.at l.q l.area l.i
+abbrev pub invariant-loop-rule : goal.invariant-loop-rule
+invariant-loop-rule l = Writing l.g l.src l.initial.q l.initial.area l.at l.q l.area l.i
 
-abbrev pub decreases-loop-code : goal.decreases-loop-code
-decreases-loop-code l = length l.src - l.q.at
+abbrev pub decreases-loop-rule : goal.decreases-loop-rule
+decreases-loop-rule l = length l.src - l.q.at

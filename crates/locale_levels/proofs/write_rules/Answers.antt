@@ -13,7 +13,7 @@ pub returns-in-Broken : goal.returns-in-Broken
 returns-in-Broken c = search rules-broken
 
 pub none_left-requires : goal.none_left-requires
-none_left-requires c = after-plain _ _ _ {a = c.after_first-a.result} c.after_first-a.ensures c.in-Operands.is
+none_left-requires c = after-plain _ _ _ {a = c.after_first.result} c.after_first.ensures c.in-Operands.is
 
 pub bounds-area-at-then-none_left : goal.bounds-area-at-then-none_left
 bounds-area-at-then-none_left c = search rules-empty-inside
@@ -22,7 +22,7 @@ pub returns-then-none_left : goal.returns-then-none_left
 returns-then-none_left c = search rules-empty
 
 pub write_left-requires : goal.write_left-requires
-write_left-requires c = record { at_in_bounds = after-plain _ _ _ {a = c.after_first-a.result} c.after_first-a.ensures c.in-Operands.is; left_fits = search rules-fit }
+write_left-requires c = record { at_in_bounds = after-plain _ _ _ {a = c.after_first.result} c.after_first.ensures c.in-Operands.is; left_fits = search rules-fit }
 
-pub returns-in-Operands : goal.returns-in-Operands
-returns-in-Operands c = search rules-written
+pub returns-else-none_left : goal.returns-else-none_left
+returns-else-none_left c = search rules-written

@@ -1,16 +1,16 @@
 -- `locale_moves::line_of` meets its contract: a law for each answer.
-use Rattle.locale_moves.proofs.NamedLaws.{found-row, line-none, line-unlisted, line_at}
 use borrow.Author.Rules.{rules}
+use Rattle.locale_moves.proofs.NamedLaws.{found-row, line-none, line-unlisted, line_at}
 use Rattle.locale_moves.proofs.line_of.Goals as goal
 
 pub told-requires : goal.told-requires
 told-requires c = (search rules, search found-row)
 
-pub returns-then-told-eq0 : goal.returns-then-told-eq0
-returns-then-told-eq0 c = search line-unlisted
+pub returns-in-Some : goal.returns-in-Some
+returns-in-Some c = search line_at
 
-pub returns-in-At : goal.returns-in-At
-returns-in-At c = search line_at
+pub returns-in_default : goal.returns-in_default
+returns-in_default c = search line-unlisted
 
-pub returns-in-Nothing : goal.returns-in-Nothing
-returns-in-Nothing c = search line-none
+pub returns-in_default-2 : goal.returns-in_default-2
+returns-in_default-2 c = search line-none

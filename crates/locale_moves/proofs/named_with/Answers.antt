@@ -1,12 +1,9 @@
 -- `locale_moves::named_with` meets its contract: a law for each answer.
-use Rattle.locale_moves.proofs.NamedLaws.{with_none, with-stands, with-refused}
+use Rattle.locale_moves.proofs.NamedLaws.{with_none, with-refused}
 use Rattle.locale_moves.proofs.named_with.Goals as goal
 
-pub returns-then-r-eq0 : goal.returns-then-r-eq0
-returns-then-r-eq0 c = search with-stands
+pub returns-in-None : goal.returns-in-None
+returns-in-None c = with_none c.args.r c.lower_of.result c.in-None.is c.lower_of.ensures c.unwrap_or.ensures
 
-pub returns-in-At : goal.returns-in-At
-returns-in-At c = search with-refused
-
-pub returns-in-Nothing : goal.returns-in-Nothing
-returns-in-Nothing c = search with_none
+pub returns-in-Some-r : goal.returns-in-Some-r
+returns-in-Some-r c = with-refused c.args.r c.in-Some.is c.in-Some-r.is

@@ -5,5 +5,5 @@ use Rattle.locale_opening.proofs.line_refusal.Goals as goal
 pub returns-then-text : goal.returns-then-text
 returns-then-text c = search with-text
 
-pub returns : goal.returns
-returns c = search with-foul
+pub returns-else-text : goal.returns-else-text
+returns-else-text c = search with-foul

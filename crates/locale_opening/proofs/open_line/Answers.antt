@@ -8,11 +8,11 @@ returns-in-End c = search begins-blank
 pub returns-in-Broken : goal.returns-in-Broken
 returns-in-Broken c = search begins-broken
 
-pub returns-then-t-eq-WORD : goal.returns-then-t-eq-WORD
-returns-then-t-eq-WORD c = search begins-word
-
-pub returns-then-t-eq-NAME : goal.returns-then-t-eq-NAME
-returns-then-t-eq-NAME c = search begins-name
-
 pub returns-in-Token : goal.returns-in-Token
-returns-in-Token c = search begins-other
+returns-in-Token c = search begins-word
+
+pub returns-in-Token-2 : goal.returns-in-Token-2
+returns-in-Token-2 c = search begins-name
+
+pub returns-in-Token-3 : goal.returns-in-Token-3
+returns-in-Token-3 c = search begins-other

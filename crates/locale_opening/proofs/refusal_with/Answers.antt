@@ -1,10 +1,9 @@
--- `locale_opening::refusal_with` meets its contract.
-use mathlib.Core.Path.{◌∙◌}
-use Rattle.locale_opening.proofs.OpenLaws.{with-within}
+-- `locale_opening::refusal_with` meets its contract: a law for each way.
+use Rattle.locale_opening.proofs.OpenLaws.{with-text, with-byte}
 use Rattle.locale_opening.proofs.refusal_with.Goals as goal
 
-pub refusal_of-requires : goal.refusal_of-requires
-refusal_of-requires c = with-within c.args.text _ c.line_refusal-x.ensures c.requires
+pub returns-then-text : goal.returns-then-text
+returns-then-text c = search with-text
 
-pub returns : goal.returns
-returns c = search (◌∙◌)
+pub returns-else-text : goal.returns-else-text
+returns-else-text c = search with-byte

@@ -2,8 +2,8 @@
 use Rattle.locale_order_lines.proofs.FactLaws.{told_char, told-other}
 use Rattle.locale_order_lines.proofs.name_facts.Goals as goal
 
-pub returns-in-Char : goal.returns-in-Char
-returns-in-Char c = search told_char
+pub returns-in-Some : goal.returns-in-Some
+returns-in-Some c = search told_char
 
-pub returns-in-Other : goal.returns-in-Other
-returns-in-Other c = search told-other
+pub returns-in-None : goal.returns-in-None
+returns-in-None c = search told-other

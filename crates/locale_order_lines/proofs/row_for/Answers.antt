@@ -2,8 +2,8 @@
 use Rattle.locale_order_lines.proofs.RowLaws.{row-found, row_new}
 use Rattle.locale_order_lines.proofs.row_for.Goals as goal
 
-pub returns-in-At : goal.returns-in-At
-returns-in-At c = search row-found
+pub returns-in-Some : goal.returns-in-Some
+returns-in-Some c = search row-found
 
-pub returns-in-Nothing : goal.returns-in-Nothing
-returns-in-Nothing c = search row_new
+pub returns-in-None : goal.returns-in-None
+returns-in-None c = search row_new

@@ -5,5 +5,5 @@ use Rattle.locale_order_lines.proofs.takes_lines.Goals as goal
 pub returns-then-phase-eq-IN_ORDER : goal.returns-then-phase-eq-IN_ORDER
 returns-then-phase-eq-IN_ORDER c = search takes-order
 
-pub returns : goal.returns
-returns c = search takes-block
+pub returns-else-phase-eq-IN_ORDER : goal.returns-else-phase-eq-IN_ORDER
+returns-else-phase-eq-IN_ORDER c = search takes-block

@@ -2,5 +2,5 @@
 use Rattle.locale_outside.proofs.StretchLaws.{reading_begins}
 use Rattle.locale_outside.proofs.outer_lines.Goals as goal
 
-pub outer_stretches-t-requires : goal.outer_stretches-t-requires
-outer_stretches-t-requires c = search reading_begins
+pub outer_stretches-requires : goal.outer_stretches-requires
+outer_stretches-requires c = search reading_begins

@@ -4,8 +4,8 @@ use Prim.Native.Nat.{◌-◌}
 use lib.ListN.{length}
 use Rattle.locale_skips.proofs.skip_blanks.Given as goal
 
-abbrev pub invariant-loop-q : goal.invariant-loop-q
-invariant-loop-q l = InBlanks l.g l.src l.initial.q l.q
+abbrev pub invariant-loop-m : goal.invariant-loop-m
+invariant-loop-m l = InBlanks l.g l.src l.initial.q l.q
 
-abbrev pub decreases-loop-q : goal.decreases-loop-q
-decreases-loop-q l = length l.src - l.q.at
+abbrev pub decreases-loop-m : goal.decreases-loop-m
+decreases-loop-m l = length l.src - l.q.at

@@ -2,5 +2,5 @@
 use Rattle.locale_skips.proofs.BranchLaws.{reading_begins}
 use Rattle.locale_skips.proofs.skip_branch.Goals as goal
 
-pub branch_lines-t-requires : goal.branch_lines-t-requires
-branch_lines-t-requires c = search reading_begins
+pub branch_lines-requires : goal.branch_lines-requires
+branch_lines-requires c = search reading_begins

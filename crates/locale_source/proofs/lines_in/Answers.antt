@@ -6,8 +6,8 @@ use Rattle.locale_source.proofs.lines_in.Goals as goal
 pub lines_after-requires : goal.lines_after-requires
 lines_after-requires c = (search after-begins, search rules)
 
-pub returns-in-Closed : goal.returns-in-Closed
-returns-in-Closed c = search inside-after
+pub returns-in-Ok : goal.returns-in-Ok
+returns-in-Ok c = search inside-after
 
-pub returns-in-Refused : goal.returns-in-Refused
-returns-in-Refused c = search inside-refused
+pub returns-in-Err : goal.returns-in-Err
+returns-in-Err c = search inside-refused

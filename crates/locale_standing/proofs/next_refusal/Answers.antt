@@ -9,8 +9,8 @@ returns-in-Bad c = search turn-bad
 pub returns-then-more : goal.returns-then-more
 returns-then-more c = search turn-empty
 
-pub returns-in-Empty : goal.returns-in-Empty
-returns-in-Empty c = search turn_end
+pub returns-else-more : goal.returns-else-more
+returns-else-more c = search turn_end
 
 pub one_refusal-f-requires : goal.one_refusal-f-requires
 one_refusal-f-requires c = record { at_in_bounds = (search turn-to, search turn-token); sound = search rules }
@@ -18,5 +18,5 @@ one_refusal-f-requires c = record { at_in_bounds = (search turn-to, search turn-
 pub returns-then-more-2 : goal.returns-then-more-2
 returns-then-more-2 c = search turn_one
 
-pub returns-in-One : goal.returns-in-One
-returns-in-One c = search turn_last
+pub returns-else-more-2 : goal.returns-else-more-2
+returns-else-more-2 c = search turn_last

@@ -18,5 +18,5 @@ returns-then-none_left c = search counts-empty
 pub weights_left-requires : goal.weights_left-requires
 weights_left-requires c = record { at_in_bounds = (search counts-to, search counts-mode); sound = search rules }
 
-pub returns-in-Operands : goal.returns-in-Operands
-returns-in-Operands c = search counts-from
+pub returns-else-none_left : goal.returns-else-none_left
+returns-else-none_left c = search counts-from

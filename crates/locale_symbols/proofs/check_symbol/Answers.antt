@@ -1,10 +1,15 @@
 -- `locale_symbols::check_symbol` meets its contract: a law for each answer.
-use Rattle.locale_symbols.proofs.SymbolLaws.{symbol-other, head-to, head_plain, head-within, head-fits, head-inside, symbol-more, symbol-twice, symbol-long, symbol-at}
+use mathlib.Core.Path.{◌≡◌, refl, ap}
 use borrow.Author.Rules.{rules}
+use Rattle.rules.specs.Text.{◌unless◌}
+use Rattle.base_units.specs.Numbers.{number_or_none}
+use Rattle.base_units.proofs.NumberLaws.{number_of-some}
+use Rattle.locale_symbols.proofs.SymbolLaws.{symbol-other, head-to, head_plain, head-within, head-fits, head-inside, symbol-more, symbol-fault, symbol-at}
 use Rattle.locale_symbols.proofs.check_symbol.Goals as goal
+use Rattle.locale_symbols.proofs.check_symbol.Goals.{then-is_new, else-is_new}
 
-pub returns-in-Other : goal.returns-in-Other
-returns-in-Other c = search symbol-other
+pub returns-in_default : goal.returns-in_default
+returns-in_default c = search symbol-other
 
 pub none_left-requires : goal.none_left-requires
 none_left-requires c = (search head-to, search head_plain)
@@ -15,14 +20,24 @@ is_new-requires c = record { at_in_bounds = (search head-within, search head-ins
 pub overflow_mul-result : goal.overflow_mul-result
 overflow_mul-result c = search head-fits
 
-pub returns-then-r-eq0 : goal.returns-then-r-eq0
-returns-then-r-eq0 c = search symbol-at
+pub returns-then-not-none_left : goal.returns-then-not-none_left
+returns-then-not-none_left c = search symbol-more
 
-pub returns-then-is_new : goal.returns-then-is_new
-returns-then-is_new c = search symbol-long
+pub returns-in-None : goal.returns-in-None
+returns-in-None c =
+    let e : number_or_none c.if-is_new.fault ≡ (5 unless c.is_new.result) = elim c.if-is_new.branch [
+      | then-is_new w ↦ rw (w.fault-is, w.if-is_new.true) refl
+      | else-is_new w ↦ rw (w.fault-is, w.if-is_new.false) refl
+    ] in
+    let z : number_or_none c.lower_of.result ≡ 0 = ap number_or_none c.in-None.is in
+    search symbol-at
 
-pub returns-then-none_left : goal.returns-then-none_left
-returns-then-none_left c = search symbol-twice
-
-pub returns-in-Name : goal.returns-in-Name
-returns-in-Name c = search symbol-more
+pub returns-in-Some-lower_of : goal.returns-in-Some-lower_of
+returns-in-Some-lower_of c =
+    let e : number_or_none c.if-is_new.fault ≡ (5 unless c.is_new.result) = elim c.if-is_new.branch [
+      | then-is_new w ↦ rw (w.fault-is, w.if-is_new.true) refl
+      | else-is_new w ↦ rw (w.fault-is, w.if-is_new.false) refl
+    ] in
+    let m = c.in-Some-lower_of.ensures in
+    let a = number_of-some c.in-Some-lower_of.r in
+    search symbol-fault

@@ -11,5 +11,5 @@ returns-in-Broken c = search tail-broken
 pub returns-then-t-eq-SEMI : goal.returns-then-t-eq-SEMI
 returns-then-t-eq-SEMI c = search tail_more
 
-pub returns-in-Token : goal.returns-in-Token
-returns-in-Token c = search tail-two
+pub returns-else-t-eq-SEMI : goal.returns-else-t-eq-SEMI
+returns-else-t-eq-SEMI c = search tail-two

@@ -13,8 +13,8 @@ returns-in-Broken c = search weight-broken
 pub returns-then-t-eq-SEMI : goal.returns-then-t-eq-SEMI
 returns-then-t-eq-SEMI c = search weight-empty
 
-pub after_token-u-requires : goal.after_token-u-requires
-after_token-u-requires c = next-plain c.args.g c.args.src.now false c.args.p {o = c.next_operand-o.result} c.next_operand-o.ensures c.in-Token.is
+pub after_token-requires : goal.after_token-requires
+after_token-requires c = next-plain c.args.g c.args.src.now false c.args.p {o = c.next_operand.result} c.next_operand.ensures c.in-Token.is
 
 pub returns-in-Last : goal.returns-in-Last
 returns-in-Last c = search weight-last

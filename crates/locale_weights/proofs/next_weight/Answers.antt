@@ -3,11 +3,11 @@ use Rattle.locale_weights.proofs.NamedLaws.{named-open, named-last, named_more}
 use Rattle.text_tokens.proofs.AheadLaws.{ahead-inside}
 use Rattle.locale_weights.proofs.next_weight.Goals as goal
 
-pub end_of_name-c-requires : goal.end_of_name-c-requires
-end_of_name-c-requires c = let a = c.args in search (ahead-inside a.g a.src.now a.p)
+pub end_of_name-requires : goal.end_of_name-requires
+end_of_name-requires c = let a = c.args in search (ahead-inside a.g a.src.now a.p)
 
-pub returns-in-Open : goal.returns-in-Open
-returns-in-Open c = search named-open
+pub returns-in_default : goal.returns-in_default
+returns-in_default c = search named-open
 
 pub returns-then-src-e-eq10 : goal.returns-then-src-e-eq10
 returns-then-src-e-eq10 c = search named-last

@@ -1,4 +1,4 @@
-use Rattle.order_compare.proofs.LevelLaws.{placed-level, levels-none, levels-more, level-less, level-greater, levels-all}
+use Rattle.order_compare.proofs.LevelLaws.{placed-level, levels-none, levels-more, level-settled, levels-all}
 use Rattle.order_compare.proofs.compare_from.Goals as goal
 
 pub loop-k-init : goal.loop-k-init
@@ -7,11 +7,8 @@ loop-k-init c = search levels-none
 pub compare_level-seen-requires : goal.compare_level-seen-requires
 compare_level-seen-requires c = search placed-level
 
-pub returns-in-Less : goal.returns-in-Less
-returns-in-Less c = search level-less
-
-pub returns-in-Greater : goal.returns-in-Greater
-returns-in-Greater c = search level-greater
+pub returns-in_default : goal.returns-in_default
+returns-in_default c = search level-settled
 
 pub loop-k-preserved : goal.loop-k-preserved
 loop-k-preserved c = search levels-more

@@ -1,12 +1,8 @@
--- `order_compare::order_of` meets its contract: one law for each return.
-use Rattle.order_compare.proofs.CodeLaws.{code-less, code-greater, code-equal}
+-- `order_compare::order_of` meets its contract: the codes decide.
+use mathlib.Core.Path.{ap, ◌∙◌}
+use Rattle.base_units.specs.Numbers.{sign_of}
+use Rattle.order_entries.proofs.CompareLaws.{sign_nat}
 use Rattle.order_compare.proofs.order_of.Goals as goal
 
-pub returns-then-x-y : goal.returns-then-x-y
-returns-then-x-y c = search code-less
-
-pub returns-then-y-x : goal.returns-then-y-x
-returns-then-y-x c = search code-greater
-
 pub returns : goal.returns
-returns c = search code-equal
+returns c = ap sign_of c.cmp.ensures ∙ sign_nat c.args.x.0 c.args.y.0

@@ -1,18 +1,12 @@
-use native.Mathlib.Omega.{arith}
-use Rattle.order_directory.proofs.HeadingLaws.{halving-start, halving-inside, halving-up, halving-down, halving-end}
+-- `order_directory::heading` meets its contract: the weights rise, so that those not above w stand in front of those that are.
+use Rattle.std.proofs.lemmas.List.Sorted.{IsPartitionPoint-from_clause}
+use borrow.Author.Rules.{rules}
+use lib.Dec.{leb}
+use Rattle.order_directory.proofs.HeadingLaws.{weights-parted, heading-parted}
 use Rattle.order_directory.proofs.heading.Goals as goal
 
-pub loop-lo-init : goal.loop-lo-init
-loop-lo-init c = search halving-start
-
-pub bounds-weights-mid : goal.bounds-weights-mid
-bounds-weights-mid c = search halving-inside
-
-pub loop-lo-preserved-then-weights-mid : goal.loop-lo-preserved-then-weights-mid
-loop-lo-preserved-then-weights-mid c = halving-up c.loop-lo.invariant (omega arith) (omega arith)
-
-pub loop-lo-preserved : goal.loop-lo-preserved
-loop-lo-preserved c = search halving-down
-
 pub returns : goal.returns
-returns c = search halving-end
+returns c =
+    heading-parted c.args.w c.requires
+    (IsPartitionPoint-from_clause (λ y. leb y c.args.w) _ _ c.partition_point.ensures.partitioned (weights-parted c.args.w c.requires) (λ x b f' k. search rules))
+    c.partition_point.ensures.bound

@@ -2,8 +2,8 @@
 use Rattle.order_directory.proofs.PartLaws.{begins-outside, begins-inside}
 use Rattle.order_directory.proofs.inside.Goals as goal
 
-pub returns-then-n-p : goal.returns-then-n-p
-returns-then-n-p c = search begins-outside
+pub returns-else-p-run : goal.returns-else-p-run
+returns-else-p-run c = search begins-outside
 
-pub returns : goal.returns
-returns c = search begins-inside
+pub returns-then-p-run : goal.returns-then-p-run
+returns-then-p-run c = search begins-inside

@@ -14,8 +14,8 @@ offset_bounds-run-start c = let h = ends-inside c.args.run.now c.args.p.start c.
 pub slice_bounds-first_weight-end : goal.slice_bounds-first_weight-end
 slice_bounds-first_weight-end c = search (rules, ends-inside)
 
-pub first_weight-w-requires : goal.first_weight-w-requires
-first_weight-w-requires c = search part-ready
+pub first_weight-requires : goal.first_weight-requires
+first_weight-requires c = search part-ready
 
 pub returns : goal.returns
 returns c = search part-weight

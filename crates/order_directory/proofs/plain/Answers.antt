@@ -5,8 +5,8 @@ use Rattle.order_directory.proofs.plain.Goals as goal
 pub rule_of-rule-requires : goal.rule_of-rule-requires
 rule_of-rule-requires c = search first-level
 
-pub returns-then-rule : goal.returns-then-rule
-returns-then-rule c = search backward-first
+pub returns-else-not-rule : goal.returns-else-not-rule
+returns-else-not-rule c = search backward-first
 
-pub returns : goal.returns
-returns c = search forward-first
+pub returns-then-not-rule : goal.returns-then-not-rule
+returns-then-not-rule c = search forward-first

@@ -3,10 +3,10 @@ use Rattle.order_elements.proofs.CommonLaws.{Going}
 use Prim.Native.Nat.{◌-◌}
 use Rattle.order_elements.proofs.both.Given as goal
 
-abbrev pub invariant-loop-size : goal.invariant-loop-size
-invariant-loop-size l =
-    Going l.t l.a l.b l.initial.first l.initial.second l.first l.second l.i l.j l.n l.k l.skipped l.agreed l.end l.size l.many l.passed l.blank
+abbrev pub invariant-loop-c : goal.invariant-loop-c
+invariant-loop-c l =
+    Going l.t l.a l.b l.initial.first l.initial.second l.first l.second l.fn.x.at l.fn.y.at l.fn.x.many l.fn.y.many l.fn.x.skipped l.agreed l.end l.c.size l.c.many l.c.agreed l.c.skipped
 
-abbrev pub decreases-loop-size : goal.decreases-loop-size
-decreases-loop-size l =
-    l.end - l.size
+abbrev pub decreases-loop-c : goal.decreases-loop-c
+decreases-loop-c l =
+    l.end - l.c.size

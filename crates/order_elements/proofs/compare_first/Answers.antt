@@ -11,25 +11,25 @@ together-pair-requires c =
     let v = c.loop-n.invariant in
     record { ready = v.first.ready; ready_2 = v.second.ready; sound = v.first.sound; sound_2 = v.second.sound; agreed_bound = omega (arith, v.few) }
 
-pub next_meeting-met-requires : goal.next_meeting-met-requires
-next_meeting-met-requires c =
+pub next_meeting-requires : goal.next_meeting-requires
+next_meeting-requires c =
     let v = comparing-on c.loop-n.invariant (search rules) (search rules) c.together-pair.ensures in
     record { ready = v.first.ready; ready_2 = v.second.ready; sound = v.first.sound; sound_2 = v.second.sound }
 
 pub returns-in-Before : goal.returns-in-Before
 returns-in-Before c =
     let v = comparing-on c.loop-n.invariant (search rules) (search rules) c.together-pair.ensures in
-    first-before _ _ c.next_meeting-met.result v c.next_meeting-met.ensures (search rules)
+    first-before _ _ c.next_meeting.result v c.next_meeting.ensures (search rules)
 
 pub returns-in-After : goal.returns-in-After
 returns-in-After c =
     let v = comparing-on c.loop-n.invariant (search rules) (search rules) c.together-pair.ensures in
-    first-after _ _ c.next_meeting-met.result v c.next_meeting-met.ensures (search rules)
+    first-after _ _ c.next_meeting.result v c.next_meeting.ensures (search rules)
 
 pub returns-in-Over : goal.returns-in-Over
 returns-in-Over c =
     let v = comparing-on c.loop-n.invariant (search rules) (search rules) c.together-pair.ensures in
-    first-same _ _ c.next_meeting-met.result v c.next_meeting-met.ensures (search rules)
+    first-same _ _ c.next_meeting.result v c.next_meeting.ensures (search rules)
 
 pub overflow_add-agreed : goal.overflow_add-agreed
 overflow_add-agreed c =
@@ -39,9 +39,9 @@ overflow_add-agreed c =
 pub loop-n-smaller : goal.loop-n-smaller
 loop-n-smaller c =
     let v = comparing-on c.loop-n.invariant (search rules) (search rules) c.together-pair.ensures in
-    fewer-on _ _ c.together-pair.ensures (search (comparing-fewer _ _ c.next_meeting-met.result v c.next_meeting-met.ensures))
+    fewer-on _ _ c.together-pair.ensures (search (comparing-fewer _ _ c.next_meeting.result v c.next_meeting.ensures))
 
 pub loop-n-preserved : goal.loop-n-preserved
 loop-n-preserved c =
     let v = comparing-on c.loop-n.invariant (search rules) (search rules) c.together-pair.ensures in
-    comparing-more _ _ c.next_meeting-met.result v c.next_meeting-met.ensures (search rules) (search rules) (search rules)
+    comparing-more _ _ c.next_meeting.result v c.next_meeting.ensures (search rules) (search rules) (search rules)

@@ -3,8 +3,8 @@ use Rattle.order_elements.proofs.FirstLaws.{uncut, leading_at, leading-none}
 use borrow.Author.Rules.{rules}
 use Rattle.order_elements.proofs.first_weight.Goals as goal
 
-pub next_element-ahead-requires : goal.next_element-ahead-requires
-next_element-ahead-requires c = search (rules, uncut)
+pub next_element-requires : goal.next_element-requires
+next_element-requires c = search (rules, uncut)
 
 pub returns-in-One : goal.returns-in-One
 returns-in-One c = search leading_at

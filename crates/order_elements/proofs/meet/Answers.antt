@@ -2,8 +2,8 @@
 use Rattle.order_elements.proofs.CompareLaws.{meet-over, meet-before, meet-after, meet-on}
 use Rattle.order_elements.proofs.meet.Goals as goal
 
-pub returns-in-End-q : goal.returns-in-End-q
-returns-in-End-q c = search meet-over
+pub returns-in-End-End : goal.returns-in-End-End
+returns-in-End-End c = search meet-over
 
 pub returns-in-Less : goal.returns-in-Less
 returns-in-Less c = search meet-before

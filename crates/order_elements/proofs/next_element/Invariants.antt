@@ -5,7 +5,7 @@ use lib.ListN.{length}
 use Rattle.order_elements.proofs.next_element.Given as goal
 
 abbrev pub invariant-loop-i : goal.invariant-loop-i
-invariant-loop-i l = Passing l.t l.s l.initial.places l.position l.at l.skipped l.places l.i l.k l.n
+invariant-loop-i l = Passing l.t l.s l.initial.places l.position l.fn.c.at l.fn.c.skipped l.places l.i l.k l.n
 
 abbrev pub decreases-loop-i : goal.decreases-loop-i
 decreases-loop-i l = length l.s - l.i

@@ -7,8 +7,8 @@ loop-n-init c = search matching-none
 pub loop-n-preserved : goal.loop-n-preserved
 loop-n-preserved c = search matching-more
 
-pub returns-else-a-i : goal.returns-else-a-i
-returns-else-a-i c = search matching-some
+pub returns-then-a-i : goal.returns-then-a-i
+returns-then-a-i c = search matching-some
 
 pub returns : goal.returns
 returns c = search matching-all

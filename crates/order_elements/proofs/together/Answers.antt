@@ -5,9 +5,9 @@ use Rattle.order_elements.proofs.together.Goals as goal
 pub both-c-requires : goal.both-c-requires
 both-c-requires c = search together-level
 
-pub returns-then-level : goal.returns-then-level
-returns-then-level c =
-    together-on _ _ c.level_with-level.ensures c.if-level.true c.both-c.ensures
+pub returns-then-level_with : goal.returns-then-level_with
+returns-then-level_with c =
+    together-on _ _ c.level_with.ensures c.if-level_with.true c.both-c.ensures
 
 pub returns : goal.returns
 returns c = search together-stay

@@ -1,4 +1,4 @@
-use Rattle.order_entries.proofs.BothLaws.{alike-none, alike-there, alike-first, alike-second, alike-within, alike-more}
+use Rattle.order_entries.proofs.BothLaws.{alike-none, alike-there, alike-over, alike-first, alike-second, alike-within, alike-more}
 use Rattle.order_entries.proofs.both.Goals as goal
 
 pub loop-i-init : goal.loop-i-init
@@ -23,4 +23,4 @@ loop-i-preserved c =
     c.place_at-other.ensures c.if-place-other.false c.count_at-count.ensures c.skipped_after-skipped.ensures
 
 pub returns : goal.returns
-returns c = search alike-there
+returns c = search alike-over

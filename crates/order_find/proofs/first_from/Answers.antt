@@ -15,8 +15,8 @@ start_in-hi-requires c = let w = c.requires in record { indexed = w; b_bound = n
 pub loop-lo-init : goal.loop-lo-init
 loop-lo-init c = search halving-start
 
-pub loop-lo-preserved-then-less : goal.loop-lo-preserved-then-less
-loop-lo-preserved-then-less c = search halving-up
+pub loop-lo-preserved-then-before_key : goal.loop-lo-preserved-then-before_key
+loop-lo-preserved-then-before_key c = search halving-up
 
 pub loop-lo-preserved : goal.loop-lo-preserved
 loop-lo-preserved c = search halving-down

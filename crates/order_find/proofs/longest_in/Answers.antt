@@ -3,8 +3,8 @@ use Rattle.order_find.proofs.QuickLaws.{shaped-indexed, quick-character, quick-s
 use borrow.Author.Rules.{rules}
 use Rattle.order_find.proofs.longest_in.Goals as goal
 
-pub quick_in-place-requires : goal.quick_in-place-requires
-quick_in-place-requires c = search (rules, quick-character, shaped-indexed)
+pub quick_in-requires : goal.quick_in-requires
+quick_in-requires c = search (rules, quick-character, shaped-indexed)
 
-pub returns-then-place-gt0 : goal.returns-then-place-gt0
-returns-then-place-gt0 c = search quick-stands
+pub returns-in-Some : goal.returns-in-Some
+returns-in-Some c = quick-stands _ _ c.requires.at_in_bounds c.in-Some.ensures

@@ -5,5 +5,5 @@ use Rattle.order_find.proofs.number.Goals as goal
 pub returns-then-i-size : goal.returns-then-i-size
 returns-then-i-size c = search number-inside
 
-pub returns : goal.returns
-returns c = search number_past
+pub returns-else-i-size : goal.returns-else-i-size
+returns-else-i-size c = search number_past

@@ -1,7 +1,7 @@
 -- `order_find::quick_in` meets its contract: the item that is listed first in the character's bucket, if it is that character alone.
 use native.Mathlib.Omega.{arith}
 use Rattle.order_find.proofs.SearchLaws.{next-bucket}
-use Rattle.order_find.proofs.QuickLaws.{quick-inside, quick-found, quick-none}
+use Rattle.order_find.proofs.QuickLaws.{quick-inside, quick-found}
 use Rattle.order_find.proofs.quick_in.Goals as goal
 
 pub start_in-k-requires : goal.start_in-k-requires
@@ -18,9 +18,3 @@ pub returns-then-t-from-eq1114112 : goal.returns-then-t-from-eq1114112
 returns-then-t-from-eq1114112 c =
     let w = c.requires.indexed in
     search (quick-found w _ c.bucket_in.ensures c.start_in-k.ensures)
-
-pub returns-else-t-from-eq1114112 : goal.returns-else-t-from-eq1114112
-returns-else-t-from-eq1114112 c = quick-none _ _
-
-pub returns-else-t-from : goal.returns-else-t-from
-returns-else-t-from c = quick-none _ _

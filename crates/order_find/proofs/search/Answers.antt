@@ -6,8 +6,8 @@ use Rattle.order_find.proofs.search.Goals as goal
 pub loop-size-init : goal.loop-size-init
 loop-size-init c = search seeking-start
 
-pub look-near-requires : goal.look-near-requires
-look-near-requires c = let v = c.loop-size.invariant in record { indexed = v.indexed; ahead = seeking-ahead v c.loop-size-test.true }
+pub look-requires : goal.look-requires
+look-requires c = let v = c.loop-size.invariant in record { indexed = v.indexed; ahead = seeking-ahead v c.loop-size-test.true }
 
 pub returns-in-Element : goal.returns-in-Element
 returns-in-Element c = search seeking-found

@@ -9,8 +9,8 @@ count_entries-requires c = search (rules, eight-blank)
 pub returns-then-room-width : goal.returns-then-room-width
 returns-then-room-width c = search key-unroomed
 
-pub write_key-n-requires : goal.write_key-n-requires
-write_key-n-requires c = search (rules, key-room)
+pub write_key-requires : goal.write_key-requires
+write_key-requires c = search (rules, key-room)
 
 pub returns : goal.returns
 returns c = search key-written

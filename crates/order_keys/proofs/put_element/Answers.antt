@@ -14,5 +14,5 @@ returns-then-many-eq1 c = search element-one
 pub put_later-requires : goal.put_later-requires
 put_later-requires c = search others-fit
 
-pub returns : goal.returns
-returns c = search element-all
+pub returns-else-many-eq1 : goal.returns-else-many-eq1
+returns-else-many-eq1 c = search element-all

@@ -12,8 +12,8 @@ put_two-requires c = search weight-fits
 pub returns-then-position : goal.returns-then-position
 returns-then-position c = search entry-positioned
 
-pub put_two-requires-2 : goal.put_two-requires-2
-put_two-requires-2 c = search weight-fits-alone
+pub put_two-requires-else-position : goal.put_two-requires-else-position
+put_two-requires-else-position c = search weight-fits-alone
 
-pub returns : goal.returns
-returns c = search entry-plain
+pub returns-else-position : goal.returns-else-position
+returns-else-position c = search entry-plain

@@ -21,8 +21,8 @@ loop-i-preserved-then-run-eq0 c = search backward-skip
 pub put_before-from-requires : goal.put_before-from-requires
 put_before-from-requires c = kept-fits c.loop-i.invariant (search rules)
 
-pub overflow_add-i-else-run-eq0 : goal.overflow_add-i-else-run-eq0
-overflow_add-i-else-run-eq0 c = search piece-fits
+pub overflow_add-i : goal.overflow_add-i
+overflow_add-i c = search piece-fits
 
 pub loop-i-preserved : goal.loop-i-preserved
 loop-i-preserved c = search backward-element

@@ -19,5 +19,5 @@ returns-then-rule c = search backward-put
 pub write_forward-requires : goal.write_forward-requires
 write_forward-requires c = search (rules, forward-room)
 
-pub returns : goal.returns
-returns c = search forward-put
+pub returns-else-rule : goal.returns-else-rule
+returns-else-rule c = search forward-put

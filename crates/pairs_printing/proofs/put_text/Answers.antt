@@ -1,14 +1,9 @@
-use Rattle.pairs_printing.proofs.TextLaws.{texts-none, byte_fits, texts-more, texts-all}
+-- `pairs_printing::put_text` meets its contract: the bytes stand in the room, the rest of it stays.
+use Rattle.pairs_printing.proofs.TextLaws.{text-length, text-put}
 use Rattle.pairs_printing.proofs.put_text.Goals as goal
 
-pub loop-i-init : goal.loop-i-init
-loop-i-init c = search texts-none
-
-pub put_one-next-requires : goal.put_one-next-requires
-put_one-next-requires c = search byte_fits
-
-pub loop-i-preserved : goal.loop-i-preserved
-loop-i-preserved c = search texts-more
+pub copy_from_slice-requires : goal.copy_from_slice-requires
+copy_from_slice-requires c = search text-length
 
 pub returns : goal.returns
-returns c = search texts-all
+returns c = search text-put

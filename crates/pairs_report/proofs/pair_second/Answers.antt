@@ -3,14 +3,14 @@ use borrow.Author.Rules.{rules}
 use Rattle.pairs_report.proofs.PairLaws.{text-inside, text-length, text-string, second-granted, second-refused}
 use Rattle.pairs_report.proofs.pair_second.Goals as goal
 
-pub returns-in-Refused : goal.returns-in-Refused
-returns-in-Refused c = search second-refused
+pub returns-in-Err : goal.returns-in-Err
+returns-in-Err c = search second-refused
 
 pub slice_bounds-pair_strings-end : goal.slice_bounds-pair_strings-end
 slice_bounds-pair_strings-end c = search text-inside
 
-pub slice_bounds-pair_strings-end-in-Written : goal.slice_bounds-pair_strings-end-in-Written
-slice_bounds-pair_strings-end-in-Written c = search text-length
+pub slice_bounds-pair_strings-end-in-Ok : goal.slice_bounds-pair_strings-end-in-Ok
+slice_bounds-pair_strings-end-in-Ok c = search text-length
 
 pub pair_strings-requires : goal.pair_strings-requires
 pair_strings-requires c = record {
@@ -18,5 +18,5 @@ pair_strings-requires c = record {
   a_value = search (rules, text-string);
 }
 
-pub returns-in-Written : goal.returns-in-Written
-returns-in-Written c = search second-granted
+pub returns-in-Ok : goal.returns-in-Ok
+returns-in-Ok c = search second-granted

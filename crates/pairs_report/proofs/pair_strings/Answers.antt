@@ -2,8 +2,8 @@
 use Rattle.pairs_report.proofs.PairLaws.{decided-prints, refused-never}
 use Rattle.pairs_report.proofs.pair_strings.Goals as goal
 
-pub returns-in-Decided : goal.returns-in-Decided
-returns-in-Decided c = search decided-prints
+pub returns-in-Ok : goal.returns-in-Ok
+returns-in-Ok c = search decided-prints
 
-pub returns-in-Refused : goal.returns-in-Refused
-returns-in-Refused c = search refused-never
+pub returns-in-Err : goal.returns-in-Err
+returns-in-Err c = search refused-never

@@ -1,4 +1,4 @@
-use Rattle.pairs_report.proofs.RunLaws.{taking-none, taking-more, taken-feed, taken-all}
+use Rattle.pairs_report.proofs.RunLaws.{taking-none, taking-more, taken-feed, taken-end}
 use Rattle.pairs_report.proofs.take_run.Goals as goal
 
 pub loop-i-init : goal.loop-i-init
@@ -11,4 +11,4 @@ pub loop-i-preserved : goal.loop-i-preserved
 loop-i-preserved c = search taking-more
 
 pub returns : goal.returns
-returns c = search taken-all
+returns c = search taken-end

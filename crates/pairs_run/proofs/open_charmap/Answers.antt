@@ -2,8 +2,8 @@
 use Rattle.pairs_run.proofs.OpenLaws.{charmap-closed, charmap-opens}
 use Rattle.pairs_run.proofs.open_charmap.Goals as goal
 
-pub returns-in-Refused : goal.returns-in-Refused
-returns-in-Refused c = search charmap-closed
+pub returns-in-Err : goal.returns-in-Err
+returns-in-Err c = search charmap-closed
 
-pub returns-in-Done : goal.returns-in-Done
-returns-in-Done c = search charmap-opens
+pub returns-in-Ok : goal.returns-in-Ok
+returns-in-Ok c = search charmap-opens

@@ -2,8 +2,8 @@
 use Rattle.pairs_run.proofs.OpenLaws.{files-closed, files-open}
 use Rattle.pairs_run.proofs.open_files.Goals as goal
 
-pub returns-in-Refused : goal.returns-in-Refused
-returns-in-Refused c = search files-closed
+pub returns-in-Err : goal.returns-in-Err
+returns-in-Err c = search files-closed
 
-pub returns-in-Done : goal.returns-in-Done
-returns-in-Done c = search files-open
+pub returns-in-Ok : goal.returns-in-Ok
+returns-in-Ok c = search files-open

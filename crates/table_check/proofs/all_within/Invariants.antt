@@ -1,10 +1,7 @@
--- `table_check::all_within` meets its contract. The loop's invariant: there are no faults exactly if the numbers before i passed. The measure is how many are left.
-use Rattle.std.proofs.Common.{◌-◌}
-use Rattle.table_check.proofs.WithinLaws.{Within}
+-- `table_check::all_within` meets its contract. The loop's invariant: all is good exactly if the numbers so far passed.
+use Rattle.rules.specs.Text.{within}
+use Rattle.table_check.proofs.WithinLaws.{Passing}
 use Rattle.table_check.proofs.all_within.Given as goal
 
-abbrev pub invariant-loop-i : goal.invariant-loop-i
-invariant-loop-i l = Within l.t l.from l.n l.low l.high l.end l.i l.faults
-
-abbrev pub decreases-loop-i : goal.decreases-loop-i
-decreases-loop-i l = l.end - l.i
+abbrev pub invariant-loop-x : goal.invariant-loop-x
+invariant-loop-x l = Passing (within l.low l.high) l.numbers l.x-index l.good

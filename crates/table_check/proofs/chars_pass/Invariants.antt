@@ -1,10 +1,7 @@
--- `table_check::chars_pass` meets its contract. The loop's invariant: there are no faults exactly if the items before k passed. The measure is how many are left.
-use Rattle.std.proofs.Common.{◌-◌}
+-- `table_check::chars_pass` meets its contract. The loop's invariant: all is good exactly if the items before the rest passed.
+use Rattle.std.specs.Slice.Iter.{chunks_exact_rest, chunks_exact_size}
 use Rattle.table_check.proofs.CharLaws.{Chars}
 use Rattle.table_check.proofs.chars_pass.Given as goal
 
-abbrev pub invariant-loop-k : goal.invariant-loop-k
-invariant-loop-k l = Chars l.t l.from l.items l.k l.faults
-
-abbrev pub decreases-loop-k : goal.decreases-loop-k
-decreases-loop-k l = l.items - l.k
+abbrev pub invariant-loop-four : goal.invariant-loop-four
+invariant-loop-four l = Chars l.items l.numbers (chunks_exact_rest l.four-iterator) (chunks_exact_size l.four-iterator) l.good

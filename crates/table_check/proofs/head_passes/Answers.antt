@@ -1,43 +1,50 @@
--- `table_check::head_passes` meets its contract: one law for each return.
-use Rattle.std.proofs.Common.{get_or, arith, rules}
+-- `table_check::head_passes` meets its contract: one law for each way out.
+use Rattle.std.proofs.Common.{◌≡◌, get_or, arith, rules}
+use Rattle.std.proofs.lemmas.Grind.{common_steps}
+use Rattle.rules.specs.Text.{within}
 use Rattle.table_layout.proofs.LayoutLaws.{end_fits}
-use Rattle.table_check.proofs.HeadLaws.{head-short, head-no-level, head-many-levels, head-no-item, head-many-items, head-mask, head-spare, head-room}
+use Rattle.table_check.proofs.HeadLaws.{head-short, head-levels, head-items, head-mask, head-spare, head-room, in-range}
 use Rattle.table_check.proofs.head_passes.Goals as goal
+use Rattle.table_check.proofs.head_passes.Goals.{then-not-contains-via-then-not-contains, then-not-contains-via-else-not-contains+then-not-contains-2, then-not-contains-via-else-not-contains+else-not-contains-2+then-t-mask_for}
 
 pub returns-then-t-lt16 : goal.returns-then-t-lt16
 returns-then-t-lt16 c = search head-short
 
-pub overflow_cast-levels : goal.overflow_cast-levels
-overflow_cast-levels c = omega (arith, c.type_inv.t 0)
-
-pub overflow_cast-items : goal.overflow_cast-items
-overflow_cast-items c = omega (arith, c.type_inv.t 1)
-
-pub overflow_cast-weights : goal.overflow_cast-weights
-overflow_cast-weights c = omega (arith, c.type_inv.t 2)
-
-pub returns-then-levels-eq0 : goal.returns-then-levels-eq0
-returns-then-levels-eq0 c = search head-no-level
-
-pub returns-then-levels-gt8 : goal.returns-then-levels-gt8
-returns-then-levels-gt8 c = search head-many-levels
-
-pub returns-then-items-eq0 : goal.returns-then-items-eq0
-returns-then-items-eq0 c = search head-no-item
-
-pub returns-then-items-gt32768 : goal.returns-then-items-gt32768
-returns-then-items-gt32768 c = search head-many-items
-
-pub returns-then-t-buckets : goal.returns-then-t-buckets
-returns-then-t-buckets c = search head-mask
-
-pub overflow_add-end : goal.overflow_add-end
-overflow_add-end c =
+pub returns-then-not-contains : goal.returns-then-not-contains
+returns-then-not-contains c =
     let t = c.args.t.now in
-    end_fits (get_or t 0 0) (get_or t 1 0) c.weights_part.ensures (search rules) (search rules) (c.type_inv.t 2)
+    let l : c.contains.result ≡ within 1 8 (get_or t 0 0) = grind (arith, common_steps, c.contains.ensures.cases) in
+    elim c.then-not-contains.branch [
+      | then-not-contains-via-then-not-contains w ↦ head-levels t c.if-t-lt16.false l w.if-not-contains.true
+      | then-not-contains-via-else-not-contains+then-not-contains-2 w ↦
+          let n : w.contains-else-not-contains.result ≡ within 1 32768 (get_or t 1 0) = grind (arith, common_steps, w.contains-else-not-contains.ensures.cases) in
+          head-items t c.if-t-lt16.false l w.if-not-contains.false n w.if-not-contains-2.true
+      | then-not-contains-via-else-not-contains+else-not-contains-2+then-t-mask_for w ↦
+          let n : w.contains-else-not-contains.result ≡ within 1 32768 (get_or t 1 0) = grind (arith, common_steps, w.contains-else-not-contains.ensures.cases) in
+          head-mask t c.if-t-lt16.false l w.if-not-contains.false n w.if-not-contains-2.false w.mask_for.ensures w.if-t-mask_for.true
+    ]
 
-pub returns-then-spare : goal.returns-then-spare
-returns-then-spare c = search head-room
+pub overflow_add-result : goal.overflow_add-result
+overflow_add-result c =
+    let t = c.args.t.now in
+    let l : c.contains.result ≡ within 1 8 (get_or t 0 0) = grind (arith, common_steps, c.contains.ensures.cases) in
+    let n : c.contains-else-not-contains.result ≡ within 1 32768 (get_or t 1 0) = grind (arith, common_steps, c.contains-else-not-contains.ensures.cases) in
+    let a = in-range 1 8 (get_or t 0 0) l c.if-not-contains.false in
+    let b = in-range 1 32768 (get_or t 1 0) n c.if-not-contains-2.false in
+    end_fits (get_or t 0 0) (get_or t 1 0) c.weights_part.ensures (omega arith) (omega arith) (c.type_inv.t 2)
 
-pub returns : goal.returns
-returns c = search head-spare
+pub returns-then-all_within : goal.returns-then-all_within
+returns-then-all_within c =
+    let t = c.args.t.now in
+    let l : c.contains.result ≡ within 1 8 (get_or t 0 0) = grind (arith, common_steps, c.contains.ensures.cases) in
+    let n : c.contains-else-not-contains.result ≡ within 1 32768 (get_or t 1 0) = grind (arith, common_steps, c.contains-else-not-contains.ensures.cases) in
+    head-room t c.if-t-lt16.false l c.if-not-contains.false n c.if-not-contains-2.false c.mask_for.ensures c.if-t-mask_for.false
+    c.all_within.ensures c.if-all_within.true c.weights_part.ensures
+
+pub returns-else-all_within : goal.returns-else-all_within
+returns-else-all_within c =
+    let t = c.args.t.now in
+    let l : c.contains.result ≡ within 1 8 (get_or t 0 0) = grind (arith, common_steps, c.contains.ensures.cases) in
+    let n : c.contains-else-not-contains.result ≡ within 1 32768 (get_or t 1 0) = grind (arith, common_steps, c.contains-else-not-contains.ensures.cases) in
+    head-spare t c.if-t-lt16.false l c.if-not-contains.false n c.if-not-contains-2.false c.mask_for.ensures c.if-t-mask_for.false
+    c.all_within.ensures c.if-all_within.false

@@ -2,8 +2,8 @@
 use Rattle.table_check.proofs.PairLaws.{starts_more, starts-no}
 use Rattle.table_check.proofs.starts_are.Goals as goal
 
-pub returns-then-s-k : goal.returns-then-s-k
-returns-then-s-k c = search starts_more
+pub returns-then-start_of-k : goal.returns-then-start_of-k
+returns-then-start_of-k c = search starts_more
 
-pub returns : goal.returns
-returns c = search starts-no
+pub returns-else-start_of-k : goal.returns-else-start_of-k
+returns-else-start_of-k c = search starts-no

@@ -2,5 +2,5 @@
 use Rattle.table_items.proofs.SumLaws.{least-here}
 use Rattle.table_items.proofs.least_line.Goals as goal
 
-pub returns : goal.returns
-returns c = search least-here
+pub returns-else-ranked : goal.returns-else-ranked
+returns-else-ranked c = search least-here

@@ -11,5 +11,5 @@ returns-then-b-eq0 c = search lower-second-none
 pub returns-then-a-b : goal.returns-then-a-b
 returns-then-a-b c = search lower-first
 
-pub returns : goal.returns
-returns c = search lower-second
+pub returns-else-a-b : goal.returns-else-a-b
+returns-else-a-b c = search lower-second

@@ -5,5 +5,5 @@ use Rattle.table_layout.proofs.bucket_of.Goals as goal
 pub returns-then-c-eq1114112 : goal.returns-then-c-eq1114112
 returns-then-c-eq1114112 c = search bucket-pad
 
-pub returns : goal.returns
-returns c = search bucket-low
+pub returns-else-c-eq1114112 : goal.returns-else-c-eq1114112
+returns-else-c-eq1114112 c = search bucket-low

@@ -1,14 +1,16 @@
 use Rattle.table_layout.proofs.BucketLaws.{grown-none, grown-double, grown-same, grown-all}
 use Rattle.table_layout.proofs.mask_for.Goals as goal
+use Rattle.table_layout.proofs.mask_for.Goals.{then-p-items, else-p-items}
 
-pub loop-k-init : goal.loop-k-init
-loop-k-init c = search grown-none
+pub loop-init : goal.loop-init
+loop-init c = search grown-none
 
-pub loop-k-preserved-then-p-items : goal.loop-k-preserved-then-p-items
-loop-k-preserved-then-p-items c = search grown-double
-
-pub loop-k-preserved : goal.loop-k-preserved
-loop-k-preserved c = search grown-same
+pub loop-preserved : goal.loop-preserved
+loop-preserved c =
+    elim c.if-p-items.branch [
+      | then-p-items w ↦ grown-double c.loop.invariant c.loop-test.true w.if-p-items.true w.p-is
+      | else-p-items w ↦ grown-same c.loop.invariant c.loop-test.true w.if-p-items.false w.p-is
+    ]
 
 pub returns : goal.returns
 returns c = search grown-all

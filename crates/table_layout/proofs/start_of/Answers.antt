@@ -5,5 +5,5 @@ use Rattle.table_layout.proofs.start_of.Goals as goal
 pub returns-then-b-eq0 : goal.returns-then-b-eq0
 returns-then-b-eq0 c = search start-low
 
-pub returns : goal.returns
-returns c = search start-high
+pub returns-else-b-eq0 : goal.returns-else-b-eq0
+returns-else-b-eq0 c = search start-high

@@ -2,8 +2,8 @@
 use Rattle.table_records.proofs.ItemLaws.{code-next, code-end}
 use Rattle.table_records.proofs.next_code.Goals as goal
 
-pub returns-in-Char : goal.returns-in-Char
-returns-in-Char c = search code-next
+pub returns-in-Some : goal.returns-in-Some
+returns-in-Some c = search code-next
 
-pub returns-in-End : goal.returns-in-End
-returns-in-End c = search code-end
+pub returns-in-None : goal.returns-in-None
+returns-in-None c = search code-end

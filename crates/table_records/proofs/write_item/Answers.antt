@@ -7,8 +7,8 @@ use Rattle.table_records.proofs.write_item.Goals as goal
 pub told-requires : goal.told-requires
 told-requires c = search (rules, row_inside)
 
-pub told-requires-2 : goal.told-requires-2
-told-requires-2 c = search (rules, row_inside)
+pub told-place-requires : goal.told-place-requires
+told-place-requires c = search (rules, row_inside)
 
 pub write_chars-requires : goal.write_chars-requires
 write_chars-requires c = search (rules, item-chars)

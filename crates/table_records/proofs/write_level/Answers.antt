@@ -3,11 +3,11 @@ use Rattle.table_records.proofs.LineLaws.{level-from, level-small, level-long, l
 use borrow.Author.Rules.{rules}
 use Rattle.table_records.proofs.write_level.Goals as goal
 
-pub overflow_sub-end : goal.overflow_sub-end
-overflow_sub-end c = search (rules, level-from)
+pub overflow_sub-area : goal.overflow_sub-area
+overflow_sub-area c = search (rules, level-from)
 
-pub narrow-requires : goal.narrow-requires
-narrow-requires c = search (rules, level-small)
+pub overflow_cast-area : goal.overflow_cast-area
+overflow_cast-area c = search (rules, level-small)
 
 pub bounds-area-slot : goal.bounds-area-slot
 bounds-area-slot c = search (rules, level-slot)

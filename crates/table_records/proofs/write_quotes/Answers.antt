@@ -14,5 +14,5 @@ loop-r-smaller c = search quoting-less
 pub loop-r-preserved : goal.loop-r-preserved
 loop-r-preserved c = search quoting-more
 
-pub returns-in-End : goal.returns-in-End
-returns-in-End c = search quoting-all
+pub returns : goal.returns
+returns c = search quoting-all

@@ -6,8 +6,8 @@ use Rattle.table_weights.proofs.measure_item.Goals as goal
 pub told-requires : goal.told-requires
 told-requires c = search (rules, row_inside)
 
-pub told-requires-2 : goal.told-requires-2
-told-requires-2 c = search (rules, row_inside)
+pub told-place-requires : goal.told-place-requires
+told-place-requires c = search (rules, row_inside)
 
 pub measure_line-requires : goal.measure_line-requires
 measure_line-requires c = record { readable = search row_line; sound = search rules }

@@ -14,5 +14,5 @@ loop-r-smaller c = search counting-less
 pub loop-r-preserved : goal.loop-r-preserved
 loop-r-preserved c = search counting_more
 
-pub returns-in-End : goal.returns-in-End
-returns-in-End c = search counting-all
+pub returns : goal.returns
+returns c = search counting-all

@@ -11,5 +11,5 @@ returns-in-One c = search turn_one
 pub returns-in-Bad : goal.returns-in-Bad
 returns-in-Bad c = search turn-bad
 
-pub returns : goal.returns
-returns c = search turn_end
+pub returns-else-c : goal.returns-else-c
+returns-else-c c = search turn_end

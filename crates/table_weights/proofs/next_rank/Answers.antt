@@ -9,8 +9,8 @@ rank_at-r-requires c = search (rules, name-to, name-inside)
 pub after_name-e-requires : goal.after_name-e-requires
 after_name-e-requires c = search (rules, name-to, name-inside)
 
-pub returns-in-Name : goal.returns-in-Name
-returns-in-Name c = search rank-next
+pub returns : goal.returns
+returns c = search rank-next
 
-pub returns-in-Close : goal.returns-in-Close
-returns-in-Close c = search rank-end
+pub returns-in_default : goal.returns-in_default
+returns-in_default c = search rank-end

@@ -6,14 +6,14 @@ use Rattle.table_weights.proofs.rank_at.Goals as goal
 pub overflow_mul-p : goal.overflow_mul-p
 overflow_mul-p c = search (rules, mark-small)
 
-pub find-f-requires : goal.find-f-requires
-find-f-requires c = search (rules, mark-in)
+pub find-requires : goal.find-requires
+find-requires c = search (rules, mark-in)
 
 pub told-requires : goal.told-requires
 told-requires c = search (rules, found-row)
 
-pub returns-in-At : goal.returns-in-At
-returns-in-At c = search rank-found
+pub returns-in-Some : goal.returns-in-Some
+returns-in-Some c = search rank-found
 
-pub returns-in-Nothing : goal.returns-in-Nothing
-returns-in-Nothing c = search rank-none
+pub returns-in-None : goal.returns-in-None
+returns-in-None c = search rank-none

@@ -5,5 +5,5 @@ use Rattle.table_whole.proofs.all_items.Goals as goal
 pub returns-then-supplied : goal.returns-then-supplied
 returns-then-supplied c = search all-items-more
 
-pub returns : goal.returns
-returns c = search all-items-same
+pub returns-else-supplied : goal.returns-else-supplied
+returns-else-supplied c = search all-items-same

@@ -1,11 +1,5 @@
-use Rattle.table_whole.proofs.FrontLaws.{repeating-none, repeating-more, repeating-all}
+use Rattle.table_whole.proofs.FrontLaws.{filled}
 use Rattle.table_whole.proofs.fill.Goals as goal
 
-pub loop-left-init : goal.loop-left-init
-loop-left-init c = search repeating-none
-
-pub loop-left-preserved : goal.loop-left-preserved
-loop-left-preserved c = search repeating-more
-
 pub returns : goal.returns
-returns c = search repeating-all
+returns c = filled c.args.area.now c.args.at c.args.n c.args.x c.requires (c.fill.ensures.after (λ y e. e))

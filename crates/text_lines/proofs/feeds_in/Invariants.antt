@@ -1,10 +1,6 @@
--- `text_lines::feeds_in` meets its contract. The loop's invariant: the bytes passed hold no LF if none was counted. The measure is how many are left.
+-- `text_lines::feeds_in` meets its contract. The loop's invariant: the bytes passed hold no LF if none was counted.
 use Rattle.text_lines.proofs.DullLaws.{Counted}
-use Prim.Native.Nat.{◌-◌}
 use Rattle.text_lines.proofs.feeds_in.Given as goal
 
 abbrev pub invariant-loop-k : goal.invariant-loop-k
 invariant-loop-k l = Counted l.src l.at l.n l.k
-
-abbrev pub decreases-loop-k : goal.decreases-loop-k
-decreases-loop-k l = 32 - l.k

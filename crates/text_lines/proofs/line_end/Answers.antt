@@ -1,11 +1,8 @@
-use Rattle.text_lines.proofs.WalkLaws.{reads_none, dull-within, reads-mark, reads-foul, reads-join, reads-hidden, reads-less-mark, reads-less-join, reads-less-hidden, reads-fits, reads_end}
+use Rattle.text_lines.proofs.WalkLaws.{dull-within, reads-mark, reads-foul, reads-join, reads-hidden, reads-less-mark, reads-less-join, reads-less-hidden, reads_end}
 use Rattle.text_lines.proofs.line_end.Goals as goal
 
-pub loop-m-init : goal.loop-m-init
-loop-m-init c = search reads_none
-
-pub next_item-i-requires : goal.next_item-i-requires
-next_item-i-requires c = search dull-within
+pub next_item-requires : goal.next_item-requires
+next_item-requires c = search dull-within
 
 pub loop-m-smaller-then-text : goal.loop-m-smaller-then-text
 loop-m-smaller-then-text c = search reads-less-mark
@@ -30,9 +27,6 @@ loop-m-smaller c = search reads-less-hidden
 
 pub loop-m-preserved : goal.loop-m-preserved
 loop-m-preserved c = search reads-hidden
-
-pub overflow_add-result : goal.overflow_add-result
-overflow_add-result c = record { fits = search reads-fits }
 
 pub returns-in-End : goal.returns-in-End
 returns-in-End c = search reads_end

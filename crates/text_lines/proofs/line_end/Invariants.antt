@@ -1,11 +1,10 @@
 -- `text_lines::line_end` meets its contract. The invariant: what is passed so far, and what is to come, make up the line. The measure is what
 -- is left of the source.
-use Rattle.text_lines.proofs.LineLaws.{spot}
 use Rattle.text_lines.proofs.WalkLaws.{Reads, left_at}
 use Rattle.text_lines.proofs.line_end.Given as goal
 
 abbrev pub invariant-loop-m : goal.invariant-loop-m
-invariant-loop-m l = Reads l.g l.src (spot l.initial.at l.initial.mode l.initial.fresh) (spot l.at l.mode l.fresh) l.feeds l.text
+invariant-loop-m l = Reads l.g l.src l.initial.q l.q l.feeds l.text
 
 abbrev pub decreases-loop-m : goal.decreases-loop-m
-decreases-loop-m l = left_at l.src (spot l.at l.mode l.fresh)
+decreases-loop-m l = left_at l.src l.q

@@ -1,11 +1,6 @@
--- `text_names::name_is` meets its contract. The invariant: the name and the bytes agree so far. The measure is what is left of the source.
+-- `text_names::name_is` meets its contract. The invariant: the name and the bytes agree so far.
 use Rattle.text_names.proofs.CompareLaws.{Beside}
-use Prim.Native.Nat.{◌-◌}
-use lib.ListN.{length}
 use Rattle.text_names.proofs.name_is.Given as goal
 
 abbrev pub invariant-loop-b : goal.invariant-loop-b
-invariant-loop-b l = Beside l.g l.src l.w l.initial.q l.q l.i
-
-abbrev pub decreases-loop-b : goal.decreases-loop-b
-decreases-loop-b l = length l.src - l.q.at
+invariant-loop-b l = Beside l.g l.src l.w l.initial.q l.q l.b-index

@@ -1,4 +1,4 @@
-use Rattle.text_names.proofs.PackLaws.{inside-none, inside-rest, inside-close, inside-more}
+use Rattle.text_names.proofs.PackLaws.{inside-none, inside-close, inside-more, inside-rest}
 use Rattle.text_names.proofs.InsideLaws.{test-within, test-less}
 use Rattle.text_names.proofs.pack_inside.Goals as goal
 
@@ -17,5 +17,5 @@ loop-b-smaller c = search test-less
 pub loop-b-preserved : goal.loop-b-preserved
 loop-b-preserved c = search inside-more
 
-pub returns-else-stands_at : goal.returns-else-stands_at
-returns-else-stands_at c = search inside-rest
+pub returns : goal.returns
+returns c = search inside-rest

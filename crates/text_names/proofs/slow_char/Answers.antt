@@ -1,20 +1,12 @@
 -- `text_names::slow_char` meets its contract: a U, and digits after it.
-use Rattle.text_names.proofs.CompareLaws.{step-byte}
-use Rattle.text_names.proofs.CodeLaws.{char-digits, char-other, char-close, char-open}
+use Rattle.text_names.proofs.CodeLaws.{char-end, char-digits, char-other}
 use Rattle.text_names.proofs.slow_char.Goals as goal
 
-pub digits-requires : goal.digits-requires
-digits-requires c = let a = c.args in
-    (step-byte a.g a.src.now a.p {s = c.name_byte-s.result} c.name_byte-s.ensures c.in-Byte.is).to
+pub returns-in_err-b : goal.returns-in_err-b
+returns-in_err-b c = rw c.from_residual.ensures (char-end c.args.g c.args.src.now c.args.p c.in_err-b.ensures)
 
 pub returns-then-b-eq85 : goal.returns-then-b-eq85
-returns-then-b-eq85 c = search char-digits
+returns-then-b-eq85 c = search (char-digits, c.in_ok-b.ensures)
 
-pub returns-in-Byte : goal.returns-in-Byte
-returns-in-Byte c = search char-other
-
-pub returns-in-Close : goal.returns-in-Close
-returns-in-Close c = search char-close
-
-pub returns-in-Open : goal.returns-in-Open
-returns-in-Open c = search char-open
+pub returns-else-b-eq85 : goal.returns-else-b-eq85
+returns-else-b-eq85 c = search (char-other, c.in_ok-b.ensures)

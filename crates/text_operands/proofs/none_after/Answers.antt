@@ -1,12 +1,6 @@
 -- `text_operands::none_after` meets its contract.
-use Rattle.text_operands.proofs.AfterLaws.{left-some, left-broken, left-none}
+use Rattle.text_operands.proofs.AfterLaws.{left-any}
 use Rattle.text_operands.proofs.none_after.Goals as goal
 
-pub returns-in-Token : goal.returns-in-Token
-returns-in-Token c = search left-some
-
-pub returns-in-Broken : goal.returns-in-Broken
-returns-in-Broken c = search left-broken
-
-pub returns-in-End : goal.returns-in-End
-returns-in-End c = search left-none
+pub returns-in_default : goal.returns-in_default
+returns-in_default c = left-any c.args.g c.args.src.now c.args.glued c.args.p c.next_operand.result c.next_operand.ensures c.in_default.not-End

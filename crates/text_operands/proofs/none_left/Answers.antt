@@ -2,5 +2,5 @@
 use Rattle.text_operands.proofs.AfterLaws.{left-solid}
 use Rattle.text_operands.proofs.none_left.Goals as goal
 
-pub returns-then-plain_at-gt32 : goal.returns-then-plain_at-gt32
-returns-then-plain_at-gt32 c = search left-solid
+pub returns-else-plain_at-le32 : goal.returns-else-plain_at-le32
+returns-else-plain_at-le32 c = search left-solid

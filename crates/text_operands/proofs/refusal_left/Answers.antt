@@ -1,17 +1,11 @@
-use Rattle.text_operands.proofs.LoweredLaws.{lowered_none, lowered-less, lowered-more, lowered-broken, lowered-end}
+use Rattle.text_operands.proofs.LoweredLaws.{lowered_none, lowered-more, lowered-broken}
 use Rattle.text_operands.proofs.refusal_left.Goals as goal
 
 pub loop-t-init : goal.loop-t-init
 loop-t-init c = search lowered_none
-
-pub loop-t-smaller : goal.loop-t-smaller
-loop-t-smaller c = search lowered-less
 
 pub loop-t-preserved : goal.loop-t-preserved
 loop-t-preserved c = search lowered-more
 
 pub returns-in-Broken : goal.returns-in-Broken
 returns-in-Broken c = search lowered-broken
-
-pub returns-in-End : goal.returns-in-End
-returns-in-End c = search lowered-end

@@ -10,8 +10,8 @@ returns-then-word_is c = same_true _ _ (sym c.word_is.ensures ∙ c.if-word_is.t
 
 pub returns-then-word_is-2 : goal.returns-then-word_is-2
 unfolding bytes
-returns-then-word_is-2 c = same_true _ _ (sym c.word_is-2.ensures ∙ c.if-word_is-2.true)
+returns-then-word_is-2 c = same_true _ _ (sym c.word_is-else-word_is.ensures ∙ c.if-word_is-2.true)
 
-pub returns : goal.returns
+pub returns-else-word_is-2 : goal.returns-else-word_is-2
 unfolding bytes
-returns c = (sym c.word_is.ensures ∙ c.if-word_is.false, sym c.word_is-2.ensures ∙ c.if-word_is-2.false)
+returns-else-word_is-2 c = (sym c.word_is.ensures ∙ c.if-word_is.false, sym c.word_is-else-word_is.ensures ∙ c.if-word_is-2.false)

@@ -1,62 +1,48 @@
 -- `text_tokens::any_token` meets its contract: a law for each kind of token.
-use Rattle.text_tokens.proofs.NextLaws.{next-end, next-semi, next-comma, next-space, next-tab, next-dead, dead-byte, next-word-plain, next_word, next-name-inside, next-name-open, next-name, next-quote-inside, next-quote-broken, next-quote-empty, next-quote}
+use Rattle.text_tokens.proofs.NextLaws.{next-end, next-semi, next-comma, next-gap, next-dead, next-word-plain, next_word, next-name-inside, next-name-open, next-name, next-quote-inside, next-quote-broken, next-quote-empty, next-quote}
+use borrow.Author.Rules.{rules}
 use Rattle.text_tokens.proofs.any_token.Goals as goal
 
-pub returns-in-End : goal.returns-in-End
-returns-in-End c = search next-end
+pub returns-in_default : goal.returns-in_default
+returns-in_default c = search next-end
 
-pub end_of_name-c-requires : goal.end_of_name-c-requires
-end_of_name-c-requires c = next-name-inside c.args.g c.args.src.now c.args.p {s = c.next_mark-s.result} c.requires.1 c.next_mark-s.ensures
-    c.in-Mark.is c.if-m-eq60.true
+pub end_of_name-requires : goal.end_of_name-requires
+end_of_name-requires c = next-name-inside c.args.g c.args.src.now c.args.p {s = c.next_mark.result} c.requires.1 c.next_mark.ensures c.in-Some.is c.in-60.is
 
-pub returns-in-Closed : goal.returns-in-Closed
-returns-in-Closed c = search next-name
+pub returns-in-Some-end_of_name : goal.returns-in-Some-end_of_name
+returns-in-Some-end_of_name c = search next-name
 
-pub returns-in-Open : goal.returns-in-Open
-returns-in-Open c = search next-name-open
+pub returns-in-None : goal.returns-in-None
+returns-in-None c = search next-name-open
 
-pub end_of_quotes-c-requires : goal.end_of_quotes-c-requires
-end_of_quotes-c-requires c = next-quote-inside c.args.g c.args.src.now c.args.p {s = c.next_mark-s.result} c.requires.1 c.next_mark-s.ensures
-    c.in-Mark.is c.if-m-eq34.true
+pub end_of_quotes-requires : goal.end_of_quotes-requires
+end_of_quotes-requires c = next-quote-inside c.args.g c.args.src.now c.args.p {s = c.next_mark.result} c.requires.1 c.next_mark.ensures c.in-Some.is c.in-34.is
 
-pub returns-then-n-eq0 : goal.returns-then-n-eq0
-returns-then-n-eq0 c = search next-quote-empty
+pub returns-in-59 : goal.returns-in-59
+returns-in-59 c = search next-semi
 
-pub returns-in-Closed-c : goal.returns-in-Closed-c
-returns-in-Closed-c c = search next-quote
+pub returns-in-44 : goal.returns-in-44
+returns-in-44 c = search next-comma
 
-pub returns-in-Broken : goal.returns-in-Broken
-returns-in-Broken c = search next-quote-broken
+pub returns-in-32 : goal.returns-in-32
+returns-in-32 c = search next-gap
 
-pub overflow_sub-result : goal.overflow_sub-result
-overflow_sub-result c = (dead-byte c.args.g c.args.src.now c.args.p {s = c.next_mark-s.result} c.requires.1 c.next_mark-s.ensures
-    c.in-Mark.is c.if-m-ge256.true).0
+pub returns-in-Some-end_of_quotes : goal.returns-in-Some-end_of_quotes
+returns-in-Some-end_of_quotes c = search next-quote
 
-pub overflow_cast-result : goal.overflow_cast-result
-overflow_cast-result c = record {
-  fits = (dead-byte c.args.g c.args.src.now c.args.p {s = c.next_mark-s.result} c.requires.1 c.next_mark-s.ensures
-      c.in-Mark.is c.if-m-ge256.true).1;
-}
+pub returns-in_default-end_of_quotes : goal.returns-in_default-end_of_quotes
+returns-in_default-end_of_quotes c = search next-quote-empty
 
-pub returns-then-m-ge256 : goal.returns-then-m-ge256
-returns-then-m-ge256 c = search next-dead
+pub returns-in_default-end_of_quotes-2 : goal.returns-in_default-end_of_quotes-2
+returns-in_default-end_of_quotes-2 c = search next-quote-broken
 
-pub returns-then-m-eq59 : goal.returns-then-m-eq59
-returns-then-m-eq59 c = search next-semi
-
-pub returns-then-m-eq44 : goal.returns-then-m-eq44
-returns-then-m-eq44 c = search next-comma
-
-pub returns-then-m-eq32 : goal.returns-then-m-eq32
-returns-then-m-eq32 c = search next-space
-
-pub returns-then-m-eq9 : goal.returns-then-m-eq9
-returns-then-m-eq9 c = search next-tab
+pub returns-in-256-to-65535 : goal.returns-in-256-to-65535
+returns-in-256-to-65535 c = search next-dead
 
 pub end_of_word-requires : goal.end_of_word-requires
-end_of_word-requires c = next-word-plain c.args.g c.args.src.now c.args.p {s = c.next_mark-s.result} c.requires.1 c.next_mark-s.ensures
-    c.in-Mark.is c.if-m-ge256.false c.if-m-eq32.false c.if-m-eq9.false c.if-m-eq59.false
-    c.if-m-eq44.false c.if-m-eq60.false c.if-m-eq34.false
+end_of_word-requires c = next-word-plain c.args.g c.args.src.now c.args.p {s = c.next_mark.result} c.requires.1 c.next_mark.ensures c.in-Some.is
+    (search rules) (search rules) (search rules) (search rules) (search rules) (search rules) (search rules)
 
-pub returns-in-Mark : goal.returns-in-Mark
-returns-in-Mark c = search next_word
+pub returns-in_default-m : goal.returns-in_default-m
+returns-in_default-m c = next_word c.args.g c.args.src.now c.args.p {s = c.next_mark.result} c.requires.1 c.next_mark.ensures c.in-Some.is
+    (search rules) (search rules) (search rules) (search rules) (search rules) (search rules) (search rules) c.end_of_word.ensures c.bare-in_default-m.ensures

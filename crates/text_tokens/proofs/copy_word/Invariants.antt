@@ -1,6 +1,4 @@
--- `text_tokens::copy_word` meets its contract. The invariant: the word so far stands in the area. The measure is how much room is left.
-use Prim.Native.Nat.{◌-◌}
-use lib.ListN.{length}
+-- `text_tokens::copy_word` meets its contract. The invariant: the word so far stands in the area.
 use Rattle.text_lines.specs.Stream.{marks_left}
 use Rattle.text_tokens.specs.Left.{word_in}
 use Rattle.text_tokens.proofs.CopyLaws.{Copying}
@@ -8,6 +6,3 @@ use Rattle.text_tokens.proofs.copy_word.Given as goal
 
 abbrev pub invariant-loop-i : goal.invariant-loop-i
 invariant-loop-i l = Copying l.g l.src (word_in (marks_left l.g l.src l.initial.q)) l.initial.area l.area l.q l.i
-
-abbrev pub decreases-loop-i : goal.decreases-loop-i
-decreases-loop-i l = length l.area - l.i

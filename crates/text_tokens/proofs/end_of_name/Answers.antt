@@ -1,12 +1,9 @@
 -- `text_tokens::end_of_name` meets its contract: a law for each answer.
-use Rattle.text_tokens.proofs.PlainLaws.{plain-mode, plain-none, plain_closed, plain_then}
+use Rattle.text_tokens.proofs.PlainLaws.{plain-none, plain_closed, plain_then}
 use Rattle.text_tokens.proofs.end_of_name.Goals as goal
 
 pub returns-then-at-p : goal.returns-then-at-p
 returns-then-at-p c = search plain-none
-
-pub overflow_sub-result : goal.overflow_sub-result
-overflow_sub-result c = search plain-mode
 
 pub returns-then-g-ne62 : goal.returns-then-g-ne62
 returns-then-g-ne62 c = search plain_closed

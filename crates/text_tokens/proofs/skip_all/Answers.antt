@@ -1,23 +1,12 @@
-use Rattle.text_tokens.proofs.GapLaws.{blanks-none, blanks-end, blanks-less, blanks-space, blanks-tab, blanks-stop, no-blank}
+use Rattle.text_tokens.proofs.GapLaws.{blanks-end, blanks-more, blanks-other}
+use borrow.Author.Rules.{rules}
 use Rattle.text_tokens.proofs.skip_all.Goals as goal
 
-pub loop-q-init : goal.loop-q-init
-loop-q-init c = search blanks-none
+pub loop-r-preserved : goal.loop-r-preserved
+loop-r-preserved c = search (blanks-more, c.in-Some-eq32-default.ensures)
 
-pub returns-in-End : goal.returns-in-End
-returns-in-End c = search blanks-end
+pub returns-in_default : goal.returns-in_default
+returns-in_default c = blanks-other c.loop-r.invariant {s = c.next_mark.result} c.next_mark.ensures c.in_default.field-0 c.in_default.is (search rules) (search rules)
 
-pub loop-q-smaller-then-m-eq32 : goal.loop-q-smaller-then-m-eq32
-loop-q-smaller-then-m-eq32 c = search blanks-less
-
-pub loop-q-preserved-then-m-eq32 : goal.loop-q-preserved-then-m-eq32
-loop-q-preserved-then-m-eq32 c = search blanks-space
-
-pub loop-q-smaller : goal.loop-q-smaller
-loop-q-smaller c = search blanks-less
-
-pub loop-q-preserved : goal.loop-q-preserved
-loop-q-preserved c = search blanks-tab
-
-pub returns-else-m-eq9 : goal.returns-else-m-eq9
-returns-else-m-eq9 c = search (blanks-stop, no-blank)
+pub returns-in_default-2 : goal.returns-in_default-2
+returns-in_default-2 c = search blanks-end

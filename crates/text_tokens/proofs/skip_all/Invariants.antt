@@ -4,8 +4,8 @@ use Prim.Native.Nat.{◌-◌}
 use lib.ListN.{length}
 use Rattle.text_tokens.proofs.skip_all.Given as goal
 
-abbrev pub invariant-loop-q : goal.invariant-loop-q
-invariant-loop-q l = InBlanks l.g l.src l.initial.q l.q
+abbrev pub invariant-loop-r : goal.invariant-loop-r
+invariant-loop-r l = InBlanks l.g l.src l.initial.q l.q
 
-abbrev pub decreases-loop-q : goal.decreases-loop-q
-decreases-loop-q l = length l.src - l.q.at
+abbrev pub decreases-loop-r : goal.decreases-loop-r
+decreases-loop-r l = length l.src - l.q.at

@@ -5,5 +5,5 @@ use Rattle.work_order.proofs.where_none.Goals as goal
 pub returns-then-n-eq0 : goal.returns-then-n-eq0
 returns-then-n-eq0 c = search none_first
 
-pub returns : goal.returns
-returns c = search none-second
+pub returns-else-n-eq0 : goal.returns-else-n-eq0
+returns-else-n-eq0 c = search none-second

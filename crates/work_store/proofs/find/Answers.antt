@@ -9,5 +9,5 @@ find_from-requires c = record { some_sought = search sought-some; h_in_bounds = 
 pub returns-then-k : goal.returns-then-k
 returns-then-k c = search sought-found
 
-pub returns : goal.returns
-returns c = search strange-nowhere
+pub returns-else-k : goal.returns-else-k
+returns-else-k c = search strange-nowhere

@@ -5,5 +5,5 @@ use Rattle.work_store.proofs.linked.Goals as goal
 pub returns-then-slot-eq2 : goal.returns-then-slot-eq2
 returns-then-slot-eq2 c = search linked-shared
 
-pub returns : goal.returns
-returns c = search linked-plain
+pub returns-else-slot-eq2 : goal.returns-else-slot-eq2
+returns-else-slot-eq2 c = search linked-plain

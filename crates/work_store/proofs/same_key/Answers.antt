@@ -2,8 +2,8 @@
 use Rattle.work_store.proofs.SlotLaws.{kind-same, kind-other}
 use Rattle.work_store.proofs.same_key.Goals as goal
 
-pub returns-then-tag-kind : goal.returns-then-tag-kind
-returns-then-tag-kind c = search kind-same
+pub returns-then-tag-number : goal.returns-then-tag-number
+returns-then-tag-number c = search kind-same
 
-pub returns : goal.returns
-returns c = search kind-other
+pub returns-else-tag-number : goal.returns-else-tag-number
+returns-else-tag-number c = search kind-other

@@ -6,8 +6,8 @@ use Rattle.work_store.proofs.side_at.Goals as goal
 pub returns-then-x-eq0 : goal.returns-then-x-eq0
 returns-then-x-eq0 c = (search side_left, search rules)
 
-pub returns-then-i-lt8 : goal.returns-then-i-lt8
-returns-then-i-lt8 c = (search side_right, search rules)
+pub returns-else-x-eq0 : goal.returns-else-x-eq0
+returns-else-x-eq0 c = (search side_right, search rules)
 
-pub returns : goal.returns
-returns c = (search side-past, search rules)
+pub returns-else-i-lt8 : goal.returns-else-i-lt8
+returns-else-i-lt8 c = (search side-past, search rules)

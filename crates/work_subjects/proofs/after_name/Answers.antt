@@ -2,8 +2,8 @@
 use Rattle.work_subjects.proofs.CharsLaws.{after-closed, after_open}
 use Rattle.work_subjects.proofs.after_name.Goals as goal
 
-pub returns-in-Closed : goal.returns-in-Closed
-returns-in-Closed c = search after-closed
+pub returns-in-Some : goal.returns-in-Some
+returns-in-Some c = search after-closed
 
-pub returns-in-Open : goal.returns-in-Open
-returns-in-Open c = search after_open
+pub returns-in-None : goal.returns-in-None
+returns-in-None c = search after_open

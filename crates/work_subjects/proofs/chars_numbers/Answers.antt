@@ -11,5 +11,5 @@ loop-c-smaller c = search step_less
 pub loop-c-preserved : goal.loop-c-preserved
 loop-c-preserved c = search numbering-more
 
-pub returns-in-End : goal.returns-in-End
-returns-in-End c = search numbering-end
+pub returns : goal.returns
+returns c = search numbering-end

@@ -2,12 +2,10 @@
 use Rattle.work_subjects.proofs.NumberLaws.{eight-long, numbers-code, numbers-strange}
 use native.Mathlib.Omega.{arith}
 use Rattle.work_subjects.proofs.code_numbers.Goals as goal
+use Rattle.work_subjects.proofs.code_numbers.Goals.{then-plain, else-plain}
 
 pub bounds-key-0 : goal.bounds-key-0
 bounds-key-0 c = let e = eight-long c.requires in omega (arith, e)
 
-pub returns-then-x-lt1114112 : goal.returns-then-x-lt1114112
-returns-then-x-lt1114112 c = search numbers-code
-
 pub returns : goal.returns
-returns c = search numbers-strange
+returns c = elim c.if-plain.branch [ then-plain w ↦ rw w.key-is (search numbers-code) | else-plain w ↦ rw w.key-is (search numbers-strange) ]

@@ -13,5 +13,5 @@ returns-then-v-eq0 c = search numbers-item
 pub chars_numbers-requires : goal.chars_numbers-requires
 chars_numbers-requires c = (search quote-in, search quote-mode, search rules)
 
-pub returns : goal.returns
-returns c = search numbers-quotes
+pub returns-else-v-eq0 : goal.returns-else-v-eq0
+returns-else-v-eq0 c = search numbers-quotes

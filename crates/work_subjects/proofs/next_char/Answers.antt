@@ -2,14 +2,14 @@
 use Rattle.work_subjects.proofs.CharsLaws.{next-none, next-to, next-inside, next-char}
 use Rattle.work_subjects.proofs.next_char.Goals as goal
 
-pub char_at-c-requires : goal.char_at-c-requires
-char_at-c-requires c = search next-to
+pub char_at-requires : goal.char_at-requires
+char_at-requires c = let e = c.in_ok-q.was in search next-to
 
-pub after_name-r-requires : goal.after_name-r-requires
-after_name-r-requires c = (search next-to, search next-inside)
+pub after_name-requires : goal.after_name-requires
+after_name-requires c = let e = c.in_ok-q.was in (search next-to, search next-inside)
 
-pub returns-in-Name : goal.returns-in-Name
-returns-in-Name c = search next-char
+pub returns : goal.returns
+returns c = let e = c.in_ok-q.was in search next-char
 
-pub returns-in-Close : goal.returns-in-Close
-returns-in-Close c = search next-none
+pub returns-in_err-q : goal.returns-in_err-q
+returns-in_err-q c = let e = c.in_err-q.was in rw c.from_residual.ensures (search next-none)

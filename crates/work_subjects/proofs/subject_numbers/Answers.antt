@@ -2,8 +2,8 @@
 use Rattle.work_subjects.proofs.NumberLaws.{numbers-char, numbers-name}
 use Rattle.work_subjects.proofs.subject_numbers.Goals as goal
 
-pub returns-in-Char : goal.returns-in-Char
-returns-in-Char c = search numbers-char
+pub returns-in-Some : goal.returns-in-Some
+returns-in-Some c = search numbers-char
 
-pub returns-in-Other : goal.returns-in-Other
-returns-in-Other c = search numbers-name
+pub returns-in-None : goal.returns-in-None
+returns-in-None c = search numbers-name

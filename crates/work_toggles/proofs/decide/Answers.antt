@@ -3,11 +3,11 @@ use Rattle.work_toggles.proofs.DecideLaws.{decide-inside, decide_by, decide-firs
 use borrow.Author.Rules.{rules}
 use Rattle.work_toggles.proofs.decide.Goals as goal
 
-pub part_words-m-requires : goal.part_words-m-requires
-part_words-m-requires c = (search rules, search decide-inside)
+pub part_words-requires : goal.part_words-requires
+part_words-requires c = (search rules, search decide-inside)
 
 pub returns-then-c-n : goal.returns-then-c-n
 returns-then-c-n c = search decide_by
 
-pub returns : goal.returns
-returns c = search decide-first
+pub returns-else-c-n : goal.returns-else-c-n
+returns-else-c-n c = search decide-first

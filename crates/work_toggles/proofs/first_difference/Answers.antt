@@ -7,8 +7,8 @@ loop-i-init c = search compare-start
 pub loop-i-preserved : goal.loop-i-preserved
 loop-i-preserved c = search compare-more
 
-pub returns-else-a-i : goal.returns-else-a-i
-returns-else-a-i c = search compare-differ
+pub returns-then-a-i : goal.returns-then-a-i
+returns-then-a-i c = search compare-differ
 
 pub returns : goal.returns
 returns c = search compare-end

@@ -5,5 +5,5 @@ use Rattle.work_toggles.proofs.is_taken.Goals as goal
 pub returns-then-d-c : goal.returns-then-d-c
 returns-then-d-c c = search taken_here
 
-pub returns : goal.returns
-returns c = search taken-elsewhere
+pub returns-else-d-c : goal.returns-else-d-c
+returns-else-d-c c = search taken-elsewhere

@@ -10,11 +10,11 @@ loop-a-smaller c = search step_less
 pub loop-a-preserved : goal.loop-a-preserved
 loop-a-preserved c = search agree-more
 
-pub returns-else-a-b : goal.returns-else-a-b
-returns-else-a-b c = search agree-not
+pub returns-then-a-b : goal.returns-then-a-b
+returns-then-a-b c = search agree-not
 
-pub returns-in-End-t : goal.returns-in-End-t
-returns-in-End-t c = search agree-longer
+pub returns-in_default-word_byte : goal.returns-in_default-word_byte
+returns-in_default-word_byte c = search agree-longer
 
-pub returns-in-End : goal.returns-in-End
-returns-in-End c = search agree-end
+pub returns : goal.returns
+returns c = search agree-end

@@ -5,5 +5,5 @@ use Rattle.work_toggles.proofs.stored.Goals as goal
 pub returns-then-on : goal.returns-then-on
 returns-then-on c = search stored_on
 
-pub returns : goal.returns
-returns c = search stored-off
+pub returns-else-on : goal.returns-else-on
+returns-else-on c = search stored-off

@@ -5,8 +5,8 @@ use Rattle.work_toggles.proofs.turn.Goals as goal
 pub returns-then-i-n : goal.returns-then-i-n
 returns-then-i-n c = search turn-again
 
-pub decide-d-requires : goal.decide-d-requires
-decide-d-requires c = search turn-is-new
+pub decide-requires : goal.decide-requires
+decide-requires c = search turn-is-new
 
 pub bounds-work-base-2 : goal.bounds-work-base-2
 bounds-work-base-2 c = search decision-room

@@ -16,5 +16,5 @@ loop-b-smaller c = search step_less
 pub loop-b-preserved : goal.loop-b-preserved
 loop-b-preserved c = search toggle-foul
 
-pub returns-in-End : goal.returns-in-End
-returns-in-End c = search toggle-ends
+pub returns : goal.returns
+returns c = search toggle-ends

@@ -2,8 +2,8 @@
 use Rattle.zeharmeku.proofs.AnswerLaws.{area-accepted, area-refused}
 use Rattle.zeharmeku.proofs.zeharmeku_area.Goals as goal
 
-pub returns-in-Accepted : goal.returns-in-Accepted
-returns-in-Accepted c = search area-accepted
+pub returns-in-Ok : goal.returns-in-Ok
+returns-in-Ok c = search area-accepted
 
-pub returns-in-Refused : goal.returns-in-Refused
-returns-in-Refused c = search area-refused
+pub returns-in-Err : goal.returns-in-Err
+returns-in-Err c = search area-refused

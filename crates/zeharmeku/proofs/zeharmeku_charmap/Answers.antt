@@ -2,8 +2,8 @@
 use Rattle.zeharmeku.proofs.AnswerLaws.{map-done, map-refused}
 use Rattle.zeharmeku.proofs.zeharmeku_charmap.Goals as goal
 
-pub returns-in-Done : goal.returns-in-Done
-returns-in-Done c = search map-done
+pub returns-in-Ok : goal.returns-in-Ok
+returns-in-Ok c = search map-done
 
-pub returns-in-Refused : goal.returns-in-Refused
-returns-in-Refused c = search map-refused
+pub returns-in-Err : goal.returns-in-Err
+returns-in-Err c = search map-refused

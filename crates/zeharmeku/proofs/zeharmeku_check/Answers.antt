@@ -2,8 +2,8 @@
 use Rattle.zeharmeku.proofs.AnswerLaws.{check-accepted, check-refused}
 use Rattle.zeharmeku.proofs.zeharmeku_check.Goals as goal
 
-pub returns-in-Accepted : goal.returns-in-Accepted
-returns-in-Accepted c = search check-accepted
+pub returns-in-Ok : goal.returns-in-Ok
+returns-in-Ok c = search check-accepted
 
-pub returns-in-Refused : goal.returns-in-Refused
-returns-in-Refused c = search check-refused
+pub returns-in-Err : goal.returns-in-Err
+returns-in-Err c = search check-refused

@@ -2,8 +2,8 @@
 use Rattle.zeharmeku.proofs.AnswerLaws.{compare-decided, compare-refused}
 use Rattle.zeharmeku.proofs.zeharmeku_compare.Goals as goal
 
-pub returns-in-Decided : goal.returns-in-Decided
-returns-in-Decided c = search compare-decided
+pub returns-in-Ok : goal.returns-in-Ok
+returns-in-Ok c = search compare-decided
 
-pub returns-in-Refused : goal.returns-in-Refused
-returns-in-Refused c = search compare-refused
+pub returns-in-Err : goal.returns-in-Err
+returns-in-Err c = search compare-refused

@@ -2,8 +2,8 @@
 use Rattle.zeharmeku.proofs.AnswerLaws.{compile-done, compile-refused}
 use Rattle.zeharmeku.proofs.zeharmeku_compile.Goals as goal
 
-pub returns-in-Done : goal.returns-in-Done
-returns-in-Done c = search compile-done
+pub returns-in-Ok : goal.returns-in-Ok
+returns-in-Ok c = search compile-done
 
-pub returns-in-Refused : goal.returns-in-Refused
-returns-in-Refused c = search compile-refused
+pub returns-in-Err : goal.returns-in-Err
+returns-in-Err c = search compile-refused

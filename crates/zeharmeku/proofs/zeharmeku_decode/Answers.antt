@@ -2,8 +2,8 @@
 use Rattle.zeharmeku.proofs.AnswerLaws.{coded-written, coded-refused}
 use Rattle.zeharmeku.proofs.zeharmeku_decode.Goals as goal
 
-pub returns-in-Written : goal.returns-in-Written
-returns-in-Written c = search coded-written
+pub returns-in-Ok : goal.returns-in-Ok
+returns-in-Ok c = search coded-written
 
-pub returns-in-Refused : goal.returns-in-Refused
-returns-in-Refused c = search coded-refused
+pub returns-in-Err : goal.returns-in-Err
+returns-in-Err c = search coded-refused

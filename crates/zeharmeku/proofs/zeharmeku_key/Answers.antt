@@ -2,8 +2,8 @@
 use Rattle.zeharmeku.proofs.AnswerLaws.{key-written, key-refused}
 use Rattle.zeharmeku.proofs.zeharmeku_key.Goals as goal
 
-pub returns-in-Written : goal.returns-in-Written
-returns-in-Written c = search key-written
+pub returns-in-Ok : goal.returns-in-Ok
+returns-in-Ok c = search key-written
 
-pub returns-in-Refused : goal.returns-in-Refused
-returns-in-Refused c = search key-refused
+pub returns-in-Err : goal.returns-in-Err
+returns-in-Err c = search key-refused

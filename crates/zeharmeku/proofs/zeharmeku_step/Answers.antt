@@ -2,8 +2,8 @@
 use Rattle.zeharmeku.proofs.AnswerLaws.{step-found, step-refused}
 use Rattle.zeharmeku.proofs.zeharmeku_step.Goals as goal
 
-pub returns-in-At : goal.returns-in-At
-returns-in-At c = search step-found
+pub returns-in-Ok : goal.returns-in-Ok
+returns-in-Ok c = search step-found
 
-pub returns-in-Refused : goal.returns-in-Refused
-returns-in-Refused c = search step-refused
+pub returns-in-Err : goal.returns-in-Err
+returns-in-Err c = search step-refused
