@@ -16,7 +16,7 @@ ghost use Rattle.charmap_body.specs.Plain.{sole_word, is_end_line, KindIs, Plain
 use base_units::{CodePoint, Refusal, is_character, lower_of};
 use charmap_entry::{Parts, entry_at};
 use charmap_numbers::{any_given, give_range};
-use text_lines::{IN_PLAIN, Signs, Spot, next_mark};
+use text_lines::{IN_PLAIN, Source, Spot, next_mark};
 use text_names::name_char;
 use text_reader::line_at;
 use text_tokens::{Next, end_of_word, next_token, skip_gaps, word_is};
@@ -30,11 +30,11 @@ pub enum Kind {
 }
 
 // The code of a name that is a character's.
-fn char_code(src: &[u8], g: Signs, p: Spot) -> Option<CodePoint>
-    requires { p.at ≤ length src.now }
-    ensures { CharIs (name_left g src.now p) result }
+fn char_code(src: Source, p: Spot) -> Option<CodePoint>
+    requires { p.at ≤ length src.bytes.now }
+    ensures { CharIs (name_left src.entry.signs src.entry.bytes.now p) result }
 {
-    let c = name_char(src, g, p)?;
+    let c = name_char(src, p)?;
     if is_character(c) { Some(c) } else { None }
 }
 
@@ -46,12 +46,12 @@ fn spans(low: CodePoint, high: CodePoint) -> bool
 }
 
 // The codes of an entry's first and last name.
-fn codes_of(src: &[u8], g: Signs, first: Spot, last: Spot) -> Option<(CodePoint, CodePoint)>
-    requires { (first.at ≤ length src.now) × (last.at ≤ length src.now) }
-    ensures { CodesAre (name_left g src.now first) (name_left g src.now last) result }
+fn codes_of(src: Source, first: Spot, last: Spot) -> Option<(CodePoint, CodePoint)>
+    requires { (first.at ≤ length src.bytes.now) × (last.at ≤ length src.bytes.now) }
+    ensures { CodesAre (name_left src.entry.signs src.entry.bytes.now first) (name_left src.entry.signs src.entry.bytes.now last) result }
 {
-    let low = char_code(src, g, first)?;
-    let high = char_code(src, g, last)?;
+    let low = char_code(src, first)?;
+    let high = char_code(src, last)?;
     if spans(low, high) {
         None
     } else {
@@ -85,16 +85,11 @@ fn range_outcome(
 }
 
 // What the names and the byte of an entry give, whatever else is wrong with it.
-fn codes_outcome(
-    src: &[u8],
-    g: Signs,
-    p: Parts,
-    area: &[u32],
-) -> Result<(usize, CodePoint, usize), Refusal>
-    requires { Area area.now × (p.first.at ≤ length src.now) × (p.last.at ≤ length src.now) }
-    ensures { CodesGive (name_left g src.now p.first) (name_left g src.now p.last) p.byte area.now result }
+fn codes_outcome(src: Source, p: Parts, area: &[u32]) -> Result<(usize, CodePoint, usize), Refusal>
+    requires { Area area.now × (p.first.at ≤ length src.bytes.now) × (p.last.at ≤ length src.bytes.now) }
+    ensures { CodesGive (name_left src.entry.signs src.entry.bytes.now p.first) (name_left src.entry.signs src.entry.bytes.now p.last) p.byte area.now result }
 {
-    let Some((low, high)) = codes_of(src, g, p.first, p.last) else {
+    let Some((low, high)) = codes_of(src, p.first, p.last) else {
         return Err(Refusal::Unknown);
     };
     range_outcome(low, high, p.byte, area)
@@ -112,16 +107,11 @@ fn before_codes(text: bool, names: Option<Refusal>) -> Option<Refusal>
 }
 
 // What an entry gives.
-fn entry_outcome(
-    src: &[u8],
-    g: Signs,
-    p: Parts,
-    area: &[u32],
-) -> Result<(usize, CodePoint, usize), Refusal>
-    requires { Area area.now × (p.first.at ≤ length src.now) × (p.last.at ≤ length src.now) }
-    ensures { EntryIs p.text (number_or_none p.refusal) (name_left g src.now p.first) (name_left g src.now p.last) p.byte area.now result }
+fn entry_outcome(src: Source, p: Parts, area: &[u32]) -> Result<(usize, CodePoint, usize), Refusal>
+    requires { Area area.now × (p.first.at ≤ length src.bytes.now) × (p.last.at ≤ length src.bytes.now) }
+    ensures { EntryIs p.text (number_or_none p.refusal) (name_left src.entry.signs src.entry.bytes.now p.first) (name_left src.entry.signs src.entry.bytes.now p.last) p.byte area.now result }
 {
-    let codes = codes_outcome(src, g, p, area);
+    let codes = codes_outcome(src, p, area);
     match lower_of(before_codes(p.text, p.refusal), codes.err()) {
         None => codes,
         Some(r) => Err(r),
@@ -129,59 +119,59 @@ fn entry_outcome(
 }
 
 // What an entry gives is given.
-fn enter(src: &[u8], g: Signs, p: Parts, area: &mut [u32]) -> Result<(), Refusal>
-    requires { Area area.old × (p.first.at ≤ length src.now) × (p.last.at ≤ length src.now) }
-    ensures { EnterIs p.text (number_or_none p.refusal) (name_left g src.now p.first) (name_left g src.now p.last) p.byte area.old area.new result }
+fn enter(src: Source, p: Parts, area: &mut [u32]) -> Result<(), Refusal>
+    requires { Area area.old × (p.first.at ≤ length src.bytes.now) × (p.last.at ≤ length src.bytes.now) }
+    ensures { EnterIs p.text (number_or_none p.refusal) (name_left src.entry.signs src.entry.bytes.now p.first) (name_left src.entry.signs src.entry.bytes.now p.last) p.byte area.old area.new result }
 {
-    let (b, c, n) = entry_outcome(src, g, p, area)?;
+    let (b, c, n) = entry_outcome(src, p, area)?;
     give_range(area, b, c, n);
     Ok(())
 }
 
 // Whether no token is left.
-fn no_tokens(src: &[u8], g: Signs, p: Spot) -> bool
-    requires { (p.at ≤ length src.now) × (p.mode ≡ in_plain) }
-    ensures { result ≡ eqb (length (tokens_left g src.now p)) 0 }
+fn no_tokens(src: Source, p: Spot) -> bool
+    requires { (p.at ≤ length src.bytes.now) × (p.mode ≡ in_plain) }
+    ensures { result ≡ eqb (length (tokens_left src.entry.signs src.entry.bytes.now p)) 0 }
 {
-    matches!(next_token(src, g, p), Next::End)
+    matches!(next_token(src, p), Next::End)
 }
 
 // Whether a word w, of a byte or more, is all that is left but for blanks.
-fn only_word(src: &[u8], g: Signs, p: Spot, w: &[u8]) -> bool
-    requires { (p.at ≤ length src.now) × (p.mode ≡ in_plain) × (0 < length w.now) }
-    ensures { result ≡ sole_word (without_gaps false (tokens_left g src.now p)) w.now }
+fn only_word(src: Source, p: Spot, w: &[u8]) -> bool
+    requires { (p.at ≤ length src.bytes.now) × (p.mode ≡ in_plain) × (0 < length w.now) }
+    ensures { result ≡ sole_word (without_gaps false (tokens_left src.entry.signs src.entry.bytes.now p)) w.now }
 {
-    let q = skip_gaps(src, g, p);
-    word_is(src, g, q, w) && no_tokens(src, g, skip_gaps(src, g, end_of_word(src, g, q)))
+    let q = skip_gaps(src, p);
+    word_is(src, q, w) && no_tokens(src, skip_gaps(src, end_of_word(src, q)))
 }
 
 // Whether the tokens from a spot on are END CHARMAP.
-fn is_end(src: &[u8], g: Signs, p: Spot) -> bool
-    requires { (p.at ≤ length src.now) × (p.mode ≡ in_plain) }
-    ensures { result ≡ is_end_line (tokens_left g src.now p) }
+fn is_end(src: Source, p: Spot) -> bool
+    requires { (p.at ≤ length src.bytes.now) × (p.mode ≡ in_plain) }
+    ensures { result ≡ is_end_line (tokens_left src.entry.signs src.entry.bytes.now p) }
 {
-    if !word_is(src, g, p, b"END") {
+    if !word_is(src, p, b"END") {
         return false;
     }
-    let Some((m, r)) = next_mark(src, g, end_of_word(src, g, p)) else {
+    let Some((m, r)) = next_mark(src, end_of_word(src, p)) else {
         return false;
     };
     if m == 32 || m == 9 {
-        only_word(src, g, r, b"CHARMAP")
+        only_word(src, r, b"CHARMAP")
     } else {
         false // as `a && b` the value of the whole has no name that an answer could cite
     }
 }
 
 // What a line is that is no entry, from its first spot on.
-fn line_kind(src: &[u8], g: Signs, p: Spot) -> Kind
-    requires { (p.at ≤ length src.now) × (p.mode ≡ in_plain) }
-    ensures { KindIs (tokens_of (marks_left g src.now p)) result }
+fn line_kind(src: Source, p: Spot) -> Kind
+    requires { (p.at ≤ length src.bytes.now) × (p.mode ≡ in_plain) }
+    ensures { KindIs (tokens_of (marks_left src.entry.signs src.entry.bytes.now p)) result }
 {
-    let q = skip_gaps(src, g, p);
-    if no_tokens(src, g, q) {
+    let q = skip_gaps(src, p);
+    if no_tokens(src, q) {
         Kind::Blank
-    } else if is_end(src, g, q) {
+    } else if is_end(src, q) {
         Kind::End
     } else {
         Kind::Other
@@ -189,17 +179,17 @@ fn line_kind(src: &[u8], g: Signs, p: Spot) -> Kind
 }
 
 // What a line does that is no entry, from its first place on.
-fn plain_line(src: &[u8], g: Signs, at: usize) -> Result<(bool, usize, usize), Refusal>
-    requires { (at ≤ length src.now) × (is_entry (tokens_of (marks_left g src.now (line_start at))) ≡ false) }
-    ensures { PlainIs g src.now at result }
+fn plain_line(src: Source, at: usize) -> Result<(bool, usize, usize), Refusal>
+    requires { (at ≤ length src.bytes.now) × (is_entry (tokens_of (marks_left src.signs src.bytes.now (line_start at))) ≡ false) }
+    ensures { PlainIs src.entry.signs src.entry.bytes.now at result }
 {
     let p = Spot {
         at,
         mode: IN_PLAIN,
         fresh: true,
     };
-    let e = line_at(src, g, at);
-    match line_kind(src, g, p) {
+    let e = line_at(src, at);
+    match line_kind(src, p) {
         Kind::Blank => Ok((false, e.next, e.feeds)),
         Kind::End => {
             if e.text {
@@ -218,31 +208,25 @@ fn plain_line(src: &[u8], g: Signs, at: usize) -> Result<(bool, usize, usize), R
 
 // What an entry does, from its line's first place on.
 fn entry_line(
-    src: &[u8],
-    g: Signs,
+    src: Source,
     at: usize,
     p: Parts,
     area: &mut [u32],
 ) -> Result<(bool, usize, usize), Refusal>
-    requires { Area area.old × PartsAre g src.now at p }
-    ensures { BodyIs g src.now at area.old area.new result }
+    requires { Area area.old × PartsAre src.signs src.bytes.now at p }
+    ensures { BodyIs src.entry.signs src.entry.bytes.now at area.old area.new result }
 {
-    enter(src, g, p, area)?;
+    enter(src, p, area)?;
     Ok((false, p.next, p.feeds))
 }
 
 // What a line between CHARMAP and END CHARMAP does, from its first place on.
-pub fn body_line(
-    src: &[u8],
-    g: Signs,
-    at: usize,
-    area: &mut [u32],
-) -> Result<(bool, usize, usize), Refusal>
-    requires { Area area.old × (at ≤ length src.now) }
-    ensures { BodyIs g src.now at area.old area.new result }
+pub fn body_line(src: Source, at: usize, area: &mut [u32]) -> Result<(bool, usize, usize), Refusal>
+    requires { Area area.old × (at ≤ length src.bytes.now) }
+    ensures { BodyIs src.entry.signs src.entry.bytes.now at area.old area.new result }
 {
-    match entry_at(src, g, at) {
-        None => plain_line(src, g, at),
-        Some(p) => entry_line(src, g, at, p, area),
+    match entry_at(src, at) {
+        None => plain_line(src, at),
+        Some(p) => entry_line(src, at, p, area),
     }
 }

@@ -10,7 +10,7 @@ ghost use Rattle.text_names.specs.Named.{name_left};
 ghost use Rattle.charmap_entry.specs.Entered.{HexIs, TailIs, DigitsAre, EscapedIs, GapIs, NamedIs, DottedIs, HeadsAre, feeds_in, Whole, PartsAre, EntryIs};
 
 use base_units::{Refusal, lower_of};
-use text_lines::{IN_COMMENT, IN_PLAIN, Signs, Spot, is_blank, is_text, line_end, next_mark};
+use text_lines::{IN_COMMENT, IN_PLAIN, Source, Spot, is_blank, is_text, line_end, next_mark};
 use text_tokens::{NameStep, end_of_name, name_byte, skip_gaps};
 
 // The parts of an entry: the spots right after the `<` of its first and of its last name, which is the first where it is no range; the
@@ -49,16 +49,20 @@ fn hex_of(m: u16) -> Option<u16>
 }
 
 // What follows an entry's digits, from the place after them on: past joins, a blank, the LF or the source's end, or another mark.
-fn tail_at(src: &[u8], g: Signs, at: usize) -> Option<usize>
-    requires { at ≤ length src.now }
-    ensures { TailIs g src.now at result }
+fn tail_at(src: Source, at: usize) -> Option<usize>
+    requires { at ≤ length src.bytes.now }
+    ensures { TailIs src.entry.signs src.entry.bytes.now at result }
 {
     let mut i = at;
-    while i < src.len() && src[i] != 10 {
-        if src[i] != g.escape {
-            return if is_blank(src[i]) { Some(i) } else { None };
+    while i < src.bytes.len() && src.bytes[i] != 10 {
+        if src.bytes[i] != src.signs.escape {
+            return if is_blank(src.bytes[i]) {
+                Some(i)
+            } else {
+                None
+            };
         }
-        if i + 1 >= src.len() || src[i + 1] != 10 {
+        if i + 1 >= src.bytes.len() || src.bytes[i + 1] != 10 {
             return None;
         }
         i += 2;
@@ -67,85 +71,85 @@ fn tail_at(src: &[u8], g: Signs, at: usize) -> Option<usize>
 }
 
 // The two hex digits at a spot.
-fn two_digits(src: &[u8], g: Signs, p: Spot) -> Option<(u8, Spot)>
-    requires { (p.at ≤ length src.now) × (p.mode ≡ in_plain) }
-    ensures { DigitsAre g src.now p result }
+fn two_digits(src: Source, p: Spot) -> Option<(u8, Spot)>
+    requires { (p.at ≤ length src.bytes.now) × (p.mode ≡ in_plain) }
+    ensures { DigitsAre src.entry.signs src.entry.bytes.now p result }
 {
-    let (m, q) = next_mark(src, g, p)?;
+    let (m, q) = next_mark(src, p)?;
     let x = hex_of(m)?;
-    let (n, r) = next_mark(src, g, q)?;
+    let (n, r) = next_mark(src, q)?;
     let y = hex_of(n)?;
     Some(((x * 16 + y) as u8, r))
 }
 
 // Escape `x` and two hex digits at a spot, with nothing behind them but a blank.
-fn escaped_byte(src: &[u8], g: Signs, p: Spot) -> Option<(u8, usize)>
-    requires { (p.at ≤ length src.now) × (p.mode ≡ in_plain) }
-    ensures { EscapedIs g src.now p result }
+fn escaped_byte(src: Source, p: Spot) -> Option<(u8, usize)>
+    requires { (p.at ≤ length src.bytes.now) × (p.mode ≡ in_plain) }
+    ensures { EscapedIs src.entry.signs src.entry.bytes.now p result }
 {
-    let (m, q) = next_mark(src, g, p)?;
+    let (m, q) = next_mark(src, p)?;
     if m != 632 {
         return None;
     }
-    let (v, r) = two_digits(src, g, q)?;
-    let i = tail_at(src, g, r.at)?;
+    let (v, r) = two_digits(src, q)?;
+    let i = tail_at(src, r.at)?;
     Some((v, i))
 }
 
 // The byte behind the names of an entry: blanks stand before it.
-fn byte_at(src: &[u8], g: Signs, p: Spot) -> Option<(u8, usize)>
-    requires { (p.at ≤ length src.now) × (p.mode ≡ in_plain) }
-    ensures { GapIs g src.now p result }
+fn byte_at(src: Source, p: Spot) -> Option<(u8, usize)>
+    requires { (p.at ≤ length src.bytes.now) × (p.mode ≡ in_plain) }
+    ensures { GapIs src.entry.signs src.entry.bytes.now p result }
 {
-    let (m, q) = next_mark(src, g, p)?;
+    let (m, q) = next_mark(src, p)?;
     if m == 32 || m == 9 {
-        escaped_byte(src, g, skip_gaps(src, g, q))
+        escaped_byte(src, skip_gaps(src, q))
     } else {
         None
     }
 }
 
 // The name at a spot.
-fn name_at(src: &[u8], g: Signs, p: Spot) -> Option<(Option<Refusal>, Spot, Spot)>
-    requires { (p.at ≤ length src.now) × (p.mode ≡ in_plain) }
-    ensures { NamedIs g src.now p result }
+fn name_at(src: Source, p: Spot) -> Option<(Option<Refusal>, Spot, Spot)>
+    requires { (p.at ≤ length src.bytes.now) × (p.mode ≡ in_plain) }
+    ensures { NamedIs src.entry.signs src.entry.bytes.now p result }
 {
-    let (m, q) = next_mark(src, g, p)?;
+    let (m, q) = next_mark(src, p)?;
     if m != 60 {
         return None;
     }
-    let (f, r) = end_of_name(src, g, q)?;
+    let (f, r) = end_of_name(src, q)?;
     Some((f, q, r))
 }
 
 // The last name of a range, from the spot behind its first dot on.
-fn second_name(src: &[u8], g: Signs, p: Spot) -> Option<(Option<Refusal>, Spot, Spot)>
-    requires { (p.at ≤ length src.now) × (p.mode ≡ in_plain) }
-    ensures { DottedIs g src.now p result }
+fn second_name(src: Source, p: Spot) -> Option<(Option<Refusal>, Spot, Spot)>
+    requires { (p.at ≤ length src.bytes.now) × (p.mode ≡ in_plain) }
+    ensures { DottedIs src.entry.signs src.entry.bytes.now p result }
 {
-    let (m, q) = next_mark(src, g, p)?;
-    if m == 46 { name_at(src, g, q) } else { None }
+    let (m, q) = next_mark(src, p)?;
+    if m == 46 { name_at(src, q) } else { None }
 }
 
 // The name or the range at a spot.
-fn names_at(src: &[u8], g: Signs, p: Spot) -> Option<Head>
-    requires { (p.at ≤ length src.now) × (p.mode ≡ in_plain) }
-    ensures { HeadsAre g src.now p result }
+fn names_at(src: Source, p: Spot) -> Option<Head>
+    requires { (p.at ≤ length src.bytes.now) × (p.mode ≡ in_plain) }
+    ensures { HeadsAre src.entry.signs src.entry.bytes.now p result }
 {
-    let (refusal, first, next) = name_at(src, g, p)?;
+    let (refusal, first, next) = name_at(src, p)?;
     let name = Head {
         first,
         last: first,
         refusal,
         next,
     };
-    let Some((m, x)) = next_mark(src, g, next) else {
+    let Some((m, x)) = next_mark(src, next) else {
         return Some(name);
     };
     if m != 46 {
         return Some(name);
     }
-    let (f, last, end) = second_name(src, g, x)?;
+    let (f, last, end) = second_name(src, x)?;
     Some(Head {
         first,
         last,
@@ -155,12 +159,12 @@ fn names_at(src: &[u8], g: Signs, p: Spot) -> Option<Head>
 }
 
 // Whether the bytes of a name are all text.
-fn name_text(src: &[u8], g: Signs, p: Spot) -> bool
-    requires { p.at ≤ length src.now }
-    ensures { result ≡ every is_text (name_left g src.now p) }
+fn name_text(src: Source, p: Spot) -> bool
+    requires { p.at ≤ length src.bytes.now }
+    ensures { result ≡ every is_text (name_left src.entry.signs src.entry.bytes.now p) }
 {
     let mut q = p;
-    while let NameStep::Byte(b, r) = name_byte(src, g, q) {
+    while let NameStep::Byte(b, r) = name_byte(src, q) {
         if !is_text(u16::from(b)) {
             return false;
         }
@@ -170,11 +174,11 @@ fn name_text(src: &[u8], g: Signs, p: Spot) -> bool
 }
 
 // Whether the bytes of two names are all text.
-fn both_text(src: &[u8], g: Signs, p: Spot, q: Spot) -> bool
-    requires { (p.at ≤ length src.now) × (q.at ≤ length src.now) }
-    ensures { result ≡ (every is_text (name_left g src.now p) && every is_text (name_left g src.now q)) }
+fn both_text(src: Source, p: Spot, q: Spot) -> bool
+    requires { (p.at ≤ length src.bytes.now) × (q.at ≤ length src.bytes.now) }
+    ensures { result ≡ (every is_text (name_left src.entry.signs src.entry.bytes.now p) && every is_text (name_left src.entry.signs src.entry.bytes.now q)) }
 {
-    name_text(src, g, p) && name_text(src, g, q)
+    name_text(src, p) && name_text(src, q)
 }
 
 // How many LFs stand from one place up to another.
@@ -187,39 +191,39 @@ fn feeds_between(src: &[u8], from: usize, end: usize) -> usize
 
 // The parts of an entry that is read as far as its digits: from the place i on all is a comment. Its LFs are counted among its own bytes, and
 // nothing behind its end is read: as a plain line it could go on there, from join to join to the end of the source, and so could every entry.
-fn parts_of(src: &[u8], g: Signs, at: usize, h: Head, v: u8, i: usize) -> Parts
-    requires { Whole g src.now at h v i }
-    ensures { PartsAre g src.now at result }
+fn parts_of(src: Source, at: usize, h: Head, v: u8, i: usize) -> Parts
+    requires { Whole src.signs src.bytes.now at h v i }
+    ensures { PartsAre src.entry.signs src.entry.bytes.now at result }
 {
     let y = Spot {
         at: i,
         mode: IN_COMMENT,
         fresh: false,
     };
-    let next = line_end(src, g, y).next;
+    let next = line_end(src, y).next;
     Parts {
         first: h.first,
         last: h.last,
         refusal: h.refusal,
         byte: v,
-        text: both_text(src, g, h.first, h.last),
+        text: both_text(src, h.first, h.last),
         next,
-        feeds: feeds_between(src, at, next),
+        feeds: feeds_between(src.bytes, at, next),
     }
 }
 
 // What a line between CHARMAP and END CHARMAP is, from its first place on.
-pub fn entry_at(src: &[u8], g: Signs, at: usize) -> Option<Parts>
-    requires { at ≤ length src.now }
-    ensures { EntryIs g src.now at result }
+pub fn entry_at(src: Source, at: usize) -> Option<Parts>
+    requires { at ≤ length src.bytes.now }
+    ensures { EntryIs src.entry.signs src.entry.bytes.now at result }
 {
     let p = Spot {
         at,
         mode: IN_PLAIN,
         fresh: true,
     };
-    let q = skip_gaps(src, g, p);
-    let h = names_at(src, g, q)?;
-    let (v, i) = byte_at(src, g, h.next)?;
-    Some(parts_of(src, g, at, h, v, i))
+    let q = skip_gaps(src, p);
+    let h = names_at(src, q)?;
+    let (v, i) = byte_at(src, h.next)?;
+    Some(parts_of(src, at, h, v, i))
 }

@@ -11,7 +11,7 @@ ghost use Rattle.text_specials.specs.Signed.{Visible, WordIs};
 ghost use Rattle.charmap_header.specs.Head.{signs_of, HeadingIs, is_opening, PassedOver, Malformed, Opening, NameOpens, SignNamed, SignOpened, SetBy};
 
 use base_units::Refusal;
-use text_lines::{IN_PLAIN, Signs, Spot, is_text, line_end, next_mark};
+use text_lines::{IN_PLAIN, Signs, Source, Spot, is_text, line_end, next_mark};
 use text_names::name_is;
 use text_reader::line_at;
 use text_specials::{Chars, Keyword, after_blanks, may_set, with_set};
@@ -39,19 +39,19 @@ fn start_of(at: usize) -> Spot
 }
 
 // Whether no token but blanks is still to come.
-fn ends(src: &[u8], g: Signs, p: Spot) -> bool
-    requires { (p.at ≤ length src.now) × (p.mode ≡ in_plain) }
-    ensures { result ≡ eqb (length (without_opening_gaps (tokens_left g src.now p))) 0 }
+fn ends(src: Source, p: Spot) -> bool
+    requires { (p.at ≤ length src.bytes.now) × (p.mode ≡ in_plain) }
+    ensures { result ≡ eqb (length (without_opening_gaps (tokens_left src.entry.signs src.entry.bytes.now p))) 0 }
 {
-    only_blanks(src, g, p)
+    only_blanks(src, p)
 }
 
 // Whether CHARMAP stands alone from a spot on.
-fn is_opening(src: &[u8], g: Signs, p: Spot) -> bool
-    requires { (p.at ≤ length src.now) × (p.mode ≡ in_plain) }
-    ensures { result ≡ is_opening (tokens_left g src.now p) }
+fn is_opening(src: Source, p: Spot) -> bool
+    requires { (p.at ≤ length src.bytes.now) × (p.mode ≡ in_plain) }
+    ensures { result ≡ is_opening (tokens_left src.entry.signs src.entry.bytes.now p) }
 {
-    word_is(src, g, p, b"CHARMAP") && ends(src, g, end_of_word(src, g, p))
+    word_is(src, p, b"CHARMAP") && ends(src, end_of_word(src, p))
 }
 
 // A line that changes nothing.
@@ -59,7 +59,9 @@ fn passed_over(src: &[u8], h: Chars, at: usize) -> Result<(Chars, bool, usize, u
     requires { PassedOver src.now h at }
     ensures { HeadingIs src.now h at result }
 {
-    let e = line_at(src, signs_of(h), at);
+    let signs = signs_of(h);
+    let text = Source { bytes: src, signs };
+    let e = line_at(text, at);
     Ok((h, false, e.next, e.feeds))
 }
 
@@ -68,7 +70,9 @@ fn malformed(src: &[u8], h: Chars, at: usize) -> Result<(Chars, bool, usize, usi
     requires { Malformed src.now h at }
     ensures { HeadingIs src.now h at result }
 {
-    let e = line_at(src, signs_of(h), at);
+    let signs = signs_of(h);
+    let text = Source { bytes: src, signs };
+    let e = line_at(text, at);
     Err(if e.text {
         Refusal::Malformed
     } else {
@@ -86,11 +90,13 @@ fn opening_line(
     requires { Opening src.now h at q }
     ensures { HeadingIs src.now h at result }
 {
-    let e = line_at(src, signs_of(h), at);
+    let signs = signs_of(h);
+    let text = Source { bytes: src, signs };
+    let e = line_at(text, at);
     if !e.text {
         return Err(Refusal::BadByte);
     }
-    if !is_opening(src, signs_of(h), q) {
+    if !is_opening(text, q) {
         return Err(Refusal::Malformed);
     }
     Ok((h, true, e.next, e.feeds))
@@ -116,11 +122,13 @@ fn set_line(
     requires { SetBy src.now h at comment c k rest }
     ensures { HeadingIs src.now h at result }
 {
-    let e = line_end(src, signs_of(h), rest);
+    let signs = signs_of(h);
+    let text = Source { bytes: src, signs };
+    let e = line_end(text, rest);
     if !all_text(c, e.text) {
         return Err(Refusal::BadByte);
     }
-    if !ends(src, signs_of(h), rest) {
+    if !ends(text, rest) {
         return Err(Refusal::Malformed);
     }
     if !may_set(h, comment, c) {
@@ -143,8 +151,10 @@ fn byte_line(
     let Some((b, i)) = after_blanks(src, x.at) else {
         return malformed(src, h, at);
     };
-    let a = line_at(src, signs_of(h), at);
-    let d = line_end(src, signs_of(h), x);
+    let signs = signs_of(h);
+    let text = Source { bytes: src, signs };
+    let a = line_at(text, at);
+    let d = line_end(text, x);
     let rest = Spot {
         at: i + 1,
         mode: IN_PLAIN,
@@ -164,7 +174,9 @@ fn sign_line(
     requires { SignNamed src.now h at p comment }
     ensures { HeadingIs src.now h at result }
 {
-    let Some((m, x)) = next_mark(src, signs_of(h), p) else {
+    let signs = signs_of(h);
+    let text = Source { bytes: src, signs };
+    let Some((m, x)) = next_mark(text, p) else {
         return malformed(src, h, at);
     };
     if m == 32 || m == 9 {
@@ -175,13 +187,13 @@ fn sign_line(
 }
 
 // Which of the two names stands at a spot.
-fn name_at(src: &[u8], g: Signs, p: Spot) -> Keyword
-    requires { p.at ≤ length src.now }
-    ensures { WordIs (name_left g src.now p) result }
+fn name_at(src: Source, p: Spot) -> Keyword
+    requires { p.at ≤ length src.bytes.now }
+    ensures { WordIs (name_left src.entry.signs src.entry.bytes.now p) result }
 {
-    if name_is(src, g, p, b"comment_char") {
+    if name_is(src, p, b"comment_char") {
         Keyword::Comment
-    } else if name_is(src, g, p, b"escape_char") {
+    } else if name_is(src, p, b"escape_char") {
         Keyword::Escape
     } else {
         Keyword::Neither
@@ -198,11 +210,12 @@ fn name_line(
     requires { NameOpens src.now h at p }
     ensures { HeadingIs src.now h at result }
 {
-    let g = signs_of(h);
-    let Some((_, q)) = end_of_name(src, g, p) else {
+    let signs = signs_of(h);
+    let text = Source { bytes: src, signs };
+    let Some((_, q)) = end_of_name(text, p) else {
         return passed_over(src, h, at);
     };
-    match name_at(src, g, p) {
+    match name_at(text, p) {
         Keyword::Comment => sign_line(src, h, at, q, true),
         Keyword::Escape => sign_line(src, h, at, q, false),
         Keyword::Neither => passed_over(src, h, at),
@@ -214,9 +227,10 @@ pub fn header_line(src: &[u8], h: Chars, at: usize) -> Result<(Chars, bool, usiz
     requires { (at < length src.now) × Visible (signs_of h) }
     ensures { HeadingIs src.now h at result }
 {
-    let g = signs_of(h);
-    let q = skip_gaps(src, g, start_of(at));
-    let Some((m, p)) = next_mark(src, g, q) else {
+    let signs = signs_of(h);
+    let text = Source { bytes: src, signs };
+    let q = skip_gaps(text, start_of(at));
+    let Some((m, p)) = next_mark(text, q) else {
         return passed_over(src, h, at);
     };
     if m == 60 {

@@ -11,7 +11,7 @@ use base_units::Refusal;
 use charmap_body::body_line;
 use charmap_header::header_line;
 use charmap_numbers::copy_area;
-use text_lines::Signs;
+use text_lines::{Signs, Source};
 use text_reader::{reader_at, used_up};
 use text_specials::{Chars, start};
 
@@ -52,13 +52,17 @@ fn body_lines(
     requires { Opens src.now from first area.old }
     ensures { EntriesAre src.now h from first area.new result }
 {
-    let g = Signs {
+    let signs = Signs {
         comment: h.comment,
         escape: h.escape,
     };
     let mut q = reader_at(src, from, first);
     while !used_up(q) {
-        match body_line(q.src, g, q.at, area) {
+        let text = Source {
+            bytes: q.src,
+            signs,
+        };
+        match body_line(text, q.at, area) {
             Err(refusal) => return Err((refusal, q.number)),
             Ok((closed, next, feeds)) => {
                 let number = q.number + feeds;

@@ -12,7 +12,7 @@ use locale_dispatch::line_step;
 use locale_opening::malformed;
 use locale_sheet::{BEFORE_ORDER, Block, Sheet, Step};
 use locale_skips::skip_branch;
-use text_lines::{IN_PLAIN, Signs, Spot, line_end};
+use text_lines::{IN_PLAIN, Source, Spot, line_end};
 use work_order::Order;
 
 // Where a block ends.
@@ -27,22 +27,21 @@ pub enum Read {
 // The lines of a block, from a place on: to a line of the chain that it stands in, to END LC_COLLATE, or to a refusal.
 #[cycle(block_branch_end_chain)]
 fn block(
-    src: &[u8],
-    g: Signs,
+    src: Source,
     work: &mut [u32],
     sh: Sheet,
     at: usize,
     number: usize,
     depth: usize,
 ) -> Result<Read, (Refusal, usize)>
-    requires { SomeUsed g src.now work.old sh at depth × Starts src.now at number }
-    ensures { ReadIs g src.now work.old sh at number depth work.new result }
+    requires { SomeUsed src.signs src.bytes.now work.old sh at depth × Starts src.bytes.now at number }
+    ensures { ReadIs src.entry.signs src.entry.bytes.now work.old sh at number depth work.new result }
 {
     let mut s = sh;
     let mut i = at;
     let mut n = number;
-    while i < src.len() {
-        match line_step(src, g, work, s, i, n, depth) {
+    while i < src.bytes.len() {
+        match line_step(src, work, s, i, n, depth) {
             Err(r) => return Err((r, n)),
             Ok(Step::Branch) => return Ok(Read::Branch(s, i, n)),
             Ok(Step::Closes(next, k)) => return Ok(Read::Closed(s, next, n + k)),
@@ -52,7 +51,7 @@ fn block(
                 n += k;
             }
             Ok(Step::Opens(holds, x, next, k)) => {
-                let (y, j, m) = chain(src, g, work, x, next, n + k, depth, holds)?;
+                let (y, j, m) = chain(src, work, x, next, n + k, depth, holds)?;
                 s = y;
                 i = j;
                 n = m;
@@ -65,8 +64,7 @@ fn block(
 // The end of the present branch of a chain: a used one is read, another one passed over.
 #[cycle(block_branch_end_chain)]
 fn branch_end(
-    src: &[u8],
-    g: Signs,
+    src: Source,
     work: &mut [u32],
     sh: Sheet,
     at: usize,
@@ -74,17 +72,17 @@ fn branch_end(
     depth: usize,
     used: bool,
 ) -> Result<(Sheet, usize, usize), (Refusal, usize)>
-    requires { InBranch g src.now work.old sh at number depth used }
-    ensures { EndedIs g src.now work.old sh at number depth used work.new result }
+    requires { InBranch src.signs src.bytes.now work.old sh at number depth used }
+    ensures { EndedIs src.entry.signs src.entry.bytes.now work.old sh at number depth used work.new result }
 {
     if used {
-        match block(src, g, work, sh, at, number, depth + 1)? {
+        match block(src, work, sh, at, number, depth + 1)? {
             // LC_COLLATE ends in no chain
             Read::Closed(_, _, m) => Err((Refusal::Malformed, m)),
             Read::Branch(x, j, m) => Ok((x, j, m)),
         }
     } else {
-        let (j, m) = skip_branch(src, g, at, number, depth + 1)?;
+        let (j, m) = skip_branch(src, at, number, depth + 1)?;
         Ok((sh, j, m))
     }
 }
@@ -92,8 +90,7 @@ fn branch_end(
 // One chain, from the line behind its ifdef or ifndef on: to the line behind its endif, or to a refusal.
 #[cycle(block_branch_end_chain)]
 fn chain(
-    src: &[u8],
-    g: Signs,
+    src: Source,
     work: &mut [u32],
     sh: Sheet,
     at: usize,
@@ -101,8 +98,8 @@ fn chain(
     depth: usize,
     holds: bool,
 ) -> Result<(Sheet, usize, usize), (Refusal, usize)>
-    requires { ChainBegins g src.now work.old sh at number depth holds }
-    ensures { ChainedIs g src.now work.old sh at number depth holds work.new result }
+    requires { ChainBegins src.signs src.bytes.now work.old sh at number depth holds }
+    ensures { ChainedIs src.entry.signs src.entry.bytes.now work.old sh at number depth holds work.new result }
 {
     let mut s = sh;
     let mut i = at;
@@ -111,8 +108,8 @@ fn chain(
     let mut used = holds;
     let mut closed = false;
     loop {
-        let (x, j, m) = branch_end(src, g, work, s, i, n, depth, used)?;
-        match branch_line(src, g, work, x, j, m, taken, closed) {
+        let (x, j, m) = branch_end(src, work, s, i, n, depth, used)?;
+        match branch_line(src, work, x, j, m, taken, closed) {
             Err(r) => return Err((r, m)),
             Ok(Turn::Ends(y, next, k)) => return Ok((y, next, m + k)),
             Ok(Turn::Goes(a, b, c, y, next, k)) => {
@@ -150,32 +147,31 @@ fn first_sheet() -> Sheet
 }
 
 // The refusal of a line of elif, else or endif outside every chain.
-fn stray_refusal(src: &[u8], g: Signs, at: usize) -> Refusal
-    requires { at ≤ length src.now }
-    ensures { number_of result ≡ stray_refusal g src.now at }
+fn stray_refusal(src: Source, at: usize) -> Refusal
+    requires { at ≤ length src.bytes.now }
+    ensures { number_of result ≡ stray_refusal src.entry.signs src.entry.bytes.now at }
 {
     let p = Spot {
         at,
         mode: IN_PLAIN,
         fresh: true,
     };
-    let e = line_end(src, g, p);
+    let e = line_end(src, p);
     malformed(e.text)
 }
 
 // The lines from a place on, with an empty work area.
 pub fn category_lines(
-    src: &[u8],
-    g: Signs,
+    src: Source,
     work: &mut [u32],
     at: usize,
     number: usize,
 ) -> Result<(Sheet, usize, usize), (Refusal, usize)>
-    requires { Ready src.now work.old at number }
-    ensures { CategoryIs g src.now at number work.new result }
+    requires { Ready src.bytes.now work.old at number }
+    ensures { CategoryIs src.entry.signs src.entry.bytes.now at number work.new result }
 {
-    match block(src, g, work, first_sheet(), at, number, 0)? {
+    match block(src, work, first_sheet(), at, number, 0)? {
         Read::Closed(s, next, n) => Ok((s, next, n)),
-        Read::Branch(_, i, n) => Err((stray_refusal(src, g, i), n)),
+        Read::Branch(_, i, n) => Err((stray_refusal(src, i), n)),
     }
 }

@@ -16,7 +16,7 @@ use locale_sheet::Sheet;
 use locale_source::source_lines;
 use table_items::measure_lines;
 use table_whole::{build_table, table_size};
-use text_lines::Signs;
+use text_lines::Source;
 use work_order::{PLACE_NUMBER, give_ranks};
 use work_rows::told;
 use work_store::{clear, undefined_mark};
@@ -31,8 +31,7 @@ fn is_supplied(work: &[u32], len: usize) -> bool
 
 // The table, in an area that has room for it.
 fn fill_table(
-    src: &[u8],
-    g: Signs,
+    src: Source,
     work: &mut [u32],
     sh: Sheet,
     items: usize,
@@ -41,51 +40,49 @@ fn fill_table(
     size: usize,
     area: &mut [u32],
 ) -> Result<usize, (Refusal, usize)>
-    requires ranks_given { RanksGiven src.now work.old g sh × WholeSums g src.now work.old sh.order sh.levels items weights }
-    requires table_fits { TableFits src.now work.old sh items weights supplied size area.old }
-    ensures { AnswerIs src.now area.old area.new result }
+    requires ranks_given { RanksGiven src.bytes.now work.old src.signs sh × WholeSums src.signs src.bytes.now work.old sh.order sh.levels items weights }
+    requires table_fits { TableFits src.bytes.now work.old sh items weights supplied size area.old }
+    ensures { AnswerIs src.entry.bytes.now area.old area.new result }
 {
-    build_table(src, g, work, sh, items, weights, supplied, area);
+    build_table(src, work, sh, items, weights, supplied, area);
     Ok(size)
 }
 
 // The table of so many items and weights, if the area has room for it.
 fn put_table(
-    src: &[u8],
-    g: Signs,
+    src: Source,
     work: &mut [u32],
     sh: Sheet,
     items: usize,
     weights: usize,
     area: &mut [u32],
 ) -> Result<usize, (Refusal, usize)>
-    requires { RanksGiven src.now work.old g sh × WholeSums g src.now work.old sh.order sh.levels items weights }
-    ensures { AnswerIs src.now area.old area.new result }
+    requires { RanksGiven src.bytes.now work.old src.signs sh × WholeSums src.signs src.bytes.now work.old sh.order sh.levels items weights }
+    ensures { AnswerIs src.entry.bytes.now area.old area.new result }
 {
-    let supplied = is_supplied(work, src.len());
+    let supplied = is_supplied(work, src.bytes.len());
     let size = table_size(sh.levels, items, weights, supplied);
     if area.len() < size {
         return Err((Refusal::ShortArea, 0));
     }
-    fill_table(src, g, work, sh, items, weights, supplied, size, area)
+    fill_table(src, work, sh, items, weights, supplied, size, area)
 }
 
 // What follows the last line: ranks, then the table.
 fn finish(
-    src: &[u8],
-    g: Signs,
+    src: Source,
     work: &mut [u32],
     sh: Sheet,
     area: &mut [u32],
 ) -> Result<usize, (Refusal, usize)>
-    requires { WholeSource src.now work.old g sh }
-    ensures { AnswerIs src.now area.old area.new result }
+    requires { WholeSource src.bytes.now work.old src.signs sh }
+    ensures { AnswerIs src.entry.bytes.now area.old area.new result }
 {
     give_ranks(work, sh.order);
-    let s = measure_lines(src, g, work, sh.order, sh.levels);
+    let s = measure_lines(src, work, sh.order, sh.levels);
     match s {
         Err(line) => Err((Refusal::Unranked, line)),
-        Ok((items, weights)) => put_table(src, g, work, sh, items, weights, area),
+        Ok((items, weights)) => put_table(src, work, sh, items, weights, area),
     }
 }
 
@@ -97,7 +94,7 @@ fn compile_lines(src: &[u8], area: &mut [u32], work: &mut [u32]) -> Result<usize
     let s = source_lines(src, work);
     match s {
         Err((r, line)) => Err((r, line)),
-        Ok((g, sh)) => finish(src, g, work, sh, area),
+        Ok((signs, sh)) => finish(Source { bytes: src, signs }, work, sh, area),
     }
 }
 

@@ -16,7 +16,7 @@ use base_units::Refusal;
 use locale_opening::{Opening, malformed, open_line, refusal_with};
 use locale_sheet::{Line, Sheet, Step};
 use locale_toggle::{Set, name_toggle};
-use text_lines::{LineEnd, Signs, Spot};
+use text_lines::{LineEnd, Source, Spot};
 use text_operands::no_operand;
 use text_tokens::{Tok, word_is};
 
@@ -64,33 +64,31 @@ fn holds_for(wanted: bool, on: bool) -> bool
 
 // The toggle that a line names, from the spot after its first word on.
 fn named_at(
-    src: &[u8],
-    g: Signs,
+    src: Source,
     work: &mut [u32],
     n: usize,
     p: Spot,
     set: Set,
 ) -> Result<(bool, usize), Refusal>
-    requires { MayName g src.now work.old (toggles_at (length src.now)) n p }
-    ensures { ToggledIs g src.now work.old work.new (toggles_at (length src.now)) n (operands (tokens_left g src.now p)) set result }
+    requires { MayName src.signs src.bytes.now work.old (toggles_at (length src.bytes.now)) n p }
+    ensures { ToggledIs src.entry.signs src.entry.bytes.now work.old work.new (toggles_at (length src.entry.bytes.now)) n (operands (tokens_left src.entry.signs src.entry.bytes.now p)) set result }
 {
-    name_toggle(src, g, work, 8 * (src.len() / 8 + 2), n, p, set)
+    name_toggle(src, work, 8 * (src.bytes.len() / 8 + 2), n, p, set)
 }
 
 // The line of define (on) or undef: p is the spot after that word.
 pub fn define_line(
-    src: &[u8],
-    g: Signs,
+    src: Source,
     work: &mut [u32],
     sh: Sheet,
     l: Line,
     p: Spot,
     on: bool,
 ) -> Result<Step, Refusal>
-    requires { MayRead g src.now work.old sh l.at l.depth p l.end (defining on) }
-    ensures { StepIs g src.now work.old sh l.at l.number l.depth work.new result }
+    requires { MayRead src.signs src.bytes.now work.old sh l.at l.depth p l.end (defining on) }
+    ensures { StepIs src.entry.signs src.entry.bytes.now work.old sh l.at l.number l.depth work.new result }
 {
-    match named_at(src, g, work, sh.toggles, p, set_for(on)) {
+    match named_at(src, work, sh.toggles, p, set_for(on)) {
         Err(r) => Err(refusal_with(l.end.text, r)),
         Ok((_, m)) => {
             if l.end.text {
@@ -104,18 +102,17 @@ pub fn define_line(
 
 // The line of ifdef (wanted) or ifndef: p is the spot after that word.
 pub fn if_line(
-    src: &[u8],
-    g: Signs,
+    src: Source,
     work: &mut [u32],
     sh: Sheet,
     l: Line,
     p: Spot,
     wanted: bool,
 ) -> Result<Step, Refusal>
-    requires { MayRead g src.now work.old sh l.at l.depth p l.end (testing wanted) }
-    ensures { StepIs g src.now work.old sh l.at l.number l.depth work.new result }
+    requires { MayRead src.signs src.bytes.now work.old sh l.at l.depth p l.end (testing wanted) }
+    ensures { StepIs src.entry.signs src.entry.bytes.now work.old sh l.at l.number l.depth work.new result }
 {
-    match named_at(src, g, work, sh.toggles, p, Set::Keep) {
+    match named_at(src, work, sh.toggles, p, Set::Keep) {
         Err(r) => Err(refusal_with(l.end.text, r)),
         Ok((was, m)) => {
             if !l.end.text {
@@ -150,20 +147,19 @@ fn first_used(taken: bool, on: bool) -> bool
 
 // The line of elif: p is the spot after that word.
 fn elif_line(
-    src: &[u8],
-    g: Signs,
+    src: Source,
     work: &mut [u32],
     sh: Sheet,
     l: ChainLine,
     p: Spot,
 ) -> Result<Turn, Refusal>
-    requires { KeyTurn g src.now work.old sh l.at p l.end (bytes "elif") }
-    ensures { TurnIs g src.now work.old sh l.at l.number l.taken l.closed work.new result }
+    requires { KeyTurn src.signs src.bytes.now work.old sh l.at p l.end (bytes "elif") }
+    ensures { TurnIs src.entry.signs src.entry.bytes.now work.old sh l.at l.number l.taken l.closed work.new result }
 {
     if l.closed {
         return Err(malformed(l.end.text));
     }
-    match named_at(src, g, work, sh.toggles, p, Set::Keep) {
+    match named_at(src, work, sh.toggles, p, Set::Keep) {
         Err(r) => Err(refusal_with(l.end.text, r)),
         Ok((was, m)) => {
             if l.end.text {
@@ -183,14 +179,14 @@ fn elif_line(
 }
 
 // The line of else.
-fn else_line(src: &[u8], g: Signs, sh: Sheet, l: ChainLine, p: Spot) -> Result<Turn, Refusal>
-    requires { WordLine g src.now l.at p l.end (bytes "else") }
-    ensures { StillIs g src.now sh l.at l.number l.taken l.closed result }
+fn else_line(src: Source, sh: Sheet, l: ChainLine, p: Spot) -> Result<Turn, Refusal>
+    requires { WordLine src.signs src.bytes.now l.at p l.end (bytes "else") }
+    ensures { StillIs src.entry.signs src.entry.bytes.now sh l.at l.number l.taken l.closed result }
 {
     if l.closed {
         return Err(malformed(l.end.text));
     }
-    if !no_operand(src, g, p) {
+    if !no_operand(src, p) {
         Err(malformed(l.end.text))
     } else if l.end.text {
         Ok(Turn::Goes(true, !l.taken, true, sh, l.end.next, l.end.feeds))
@@ -200,11 +196,11 @@ fn else_line(src: &[u8], g: Signs, sh: Sheet, l: ChainLine, p: Spot) -> Result<T
 }
 
 // The line of endif.
-fn endif_line(src: &[u8], g: Signs, sh: Sheet, l: ChainLine, p: Spot) -> Result<Turn, Refusal>
-    requires { WordLine g src.now l.at p l.end (bytes "endif") }
-    ensures { StillIs g src.now sh l.at l.number l.taken l.closed result }
+fn endif_line(src: Source, sh: Sheet, l: ChainLine, p: Spot) -> Result<Turn, Refusal>
+    requires { WordLine src.signs src.bytes.now l.at p l.end (bytes "endif") }
+    ensures { StillIs src.entry.signs src.entry.bytes.now sh l.at l.number l.taken l.closed result }
 {
-    if !no_operand(src, g, p) {
+    if !no_operand(src, p) {
         Err(malformed(l.end.text))
     } else if l.end.text {
         Ok(Turn::Ends(sh, l.end.next, l.end.feeds))
@@ -215,24 +211,23 @@ fn endif_line(src: &[u8], g: Signs, sh: Sheet, l: ChainLine, p: Spot) -> Result<
 
 // The line of a chain that opens with the word t, at the spot q.
 fn word_turn(
-    src: &[u8],
-    g: Signs,
+    src: Source,
     work: &mut [u32],
     sh: Sheet,
     l: ChainLine,
     q: Spot,
     t: Tok,
 ) -> Result<Turn, Refusal>
-    requires { WordTurn g src.now work.old sh l.at q t l.end }
-    ensures { TurnIs g src.now work.old sh l.at l.number l.taken l.closed work.new result }
+    requires { WordTurn src.signs src.bytes.now work.old sh l.at q t l.end }
+    ensures { TurnIs src.entry.signs src.entry.bytes.now work.old sh l.at l.number l.taken l.closed work.new result }
 {
     let p = t.next;
-    if word_is(src, g, q, b"elif") {
-        elif_line(src, g, work, sh, l, p)
-    } else if word_is(src, g, q, b"else") {
-        else_line(src, g, sh, l, p)
-    } else if word_is(src, g, q, b"endif") {
-        endif_line(src, g, sh, l, p)
+    if word_is(src, q, b"elif") {
+        elif_line(src, work, sh, l, p)
+    } else if word_is(src, q, b"else") {
+        else_line(src, sh, l, p)
+    } else if word_is(src, q, b"endif") {
+        endif_line(src, sh, l, p)
     } else {
         Err(malformed(l.end.text))
     }
@@ -240,8 +235,7 @@ fn word_turn(
 
 // The line at a place, which the open chain reads itself. Taken: a branch of the chain was used; closed: `else` has stood.
 pub fn branch_line(
-    src: &[u8],
-    g: Signs,
+    src: Source,
     work: &mut [u32],
     sh: Sheet,
     at: usize,
@@ -249,10 +243,10 @@ pub fn branch_line(
     taken: bool,
     closed: bool,
 ) -> Result<Turn, Refusal>
-    requires { MayTurn g src.now work.old sh at }
-    ensures { TurnIs g src.now work.old sh at number taken closed work.new result }
+    requires { MayTurn src.signs src.bytes.now work.old sh at }
+    ensures { TurnIs src.entry.signs src.entry.bytes.now work.old sh at number taken closed work.new result }
 {
-    match open_line(src, g, at) {
+    match open_line(src, at) {
         // never blank or a name: elif, else or endif stands there, malformed where an escape pair is in it
         Opening::Blank(e) => Err(malformed(e.text)),
         Opening::Foul(e) => Err(malformed(e.text)),
@@ -265,7 +259,7 @@ pub fn branch_line(
                 taken,
                 closed,
             };
-            word_turn(src, g, work, sh, l, q, t)
+            word_turn(src, work, sh, l, q, t)
         }
     }
 }

@@ -17,17 +17,17 @@ use locale_levels::levels_of;
 use locale_opening::{malformed, refusal_with};
 use locale_sheet::{AFTER_ORDER, BEFORE_ORDER, IN_ORDER, Line, Sheet, Step};
 use locale_symbols::symbol_line;
-use text_lines::{Signs, Spot};
+use text_lines::{Source, Spot};
 use text_operands::{no_operand, single_word};
 use text_tokens::word_is;
 
 // order_start, before the order: its operands are the rules of the levels, read again from the spot after the word.
-pub fn order_start_line(src: &[u8], g: Signs, sh: Sheet, l: Line, p: Spot) -> Result<Step, Refusal>
-    requires { Opened g src.now l.at p l.end "order_start" }
-    ensures { Still g src.now sh l.at result }
+pub fn order_start_line(src: Source, sh: Sheet, l: Line, p: Spot) -> Result<Step, Refusal>
+    requires { Opened src.signs src.bytes.now l.at p l.end "order_start" }
+    ensures { Still src.entry.signs src.entry.bytes.now sh l.at result }
 {
     if sh.phase == BEFORE_ORDER { // once
-        match levels_of(src, g, p) {
+        match levels_of(src, p) {
             Err(r) => Err(refusal_with(l.end.text, r)),
             Ok(levels) => {
                 if l.end.text {
@@ -49,11 +49,11 @@ pub fn order_start_line(src: &[u8], g: Signs, sh: Sheet, l: Line, p: Spot) -> Re
 }
 
 // order_end, in the order and with no operand.
-pub fn order_end_line(src: &[u8], g: Signs, sh: Sheet, l: Line, p: Spot) -> Result<Step, Refusal>
-    requires { Opened g src.now l.at p l.end "order_end" }
-    ensures { Still g src.now sh l.at result }
+pub fn order_end_line(src: Source, sh: Sheet, l: Line, p: Spot) -> Result<Step, Refusal>
+    requires { Opened src.signs src.bytes.now l.at p l.end "order_end" }
+    ensures { Still src.entry.signs src.entry.bytes.now sh l.at result }
 {
-    if sh.phase == IN_ORDER && no_operand(src, g, p) {
+    if sh.phase == IN_ORDER && no_operand(src, p) {
         if l.end.text {
             let next = Sheet {
                 phase: AFTER_ORDER,
@@ -69,23 +69,23 @@ pub fn order_end_line(src: &[u8], g: Signs, sh: Sheet, l: Line, p: Spot) -> Resu
 }
 
 // Whether a line's operands are the word LC_COLLATE, from the spot after its first token on.
-fn collate_alone(src: &[u8], g: Signs, p: Spot) -> bool
-    requires { (p.at ≤ length src.now) × (p.mode ≡ in_plain) }
-    ensures { CollateIs (operands (tokens_left g src.now p)) result }
+fn collate_alone(src: Source, p: Spot) -> bool
+    requires { (p.at ≤ length src.bytes.now) × (p.mode ≡ in_plain) }
+    ensures { CollateIs (operands (tokens_left src.entry.signs src.entry.bytes.now p)) result }
 {
-    match single_word(src, g, p) {
+    match single_word(src, p) {
         None => false,
-        Some(q) => word_is(src, g, q, b"LC_COLLATE"),
+        Some(q) => word_is(src, q, b"LC_COLLATE"),
     }
 }
 
 // END LC_COLLATE, after the order, outside every block and every chain.
-pub fn end_line(src: &[u8], g: Signs, sh: Sheet, l: Line, p: Spot) -> Result<Step, Refusal>
-    requires { Opened g src.now l.at p l.end "END" }
-    ensures { StillAt g src.now sh l.at l.depth result }
+pub fn end_line(src: Source, sh: Sheet, l: Line, p: Spot) -> Result<Step, Refusal>
+    requires { Opened src.signs src.bytes.now l.at p l.end "END" }
+    ensures { StillAt src.entry.signs src.entry.bytes.now sh l.at l.depth result }
 {
     // in a chain it is malformed
-    if sh.phase == AFTER_ORDER && l.depth == 0 && collate_alone(src, g, p) {
+    if sh.phase == AFTER_ORDER && l.depth == 0 && collate_alone(src, p) {
         if l.end.text {
             Ok(Step::Closes(l.end.next, l.end.feeds))
         } else {
@@ -105,20 +105,19 @@ fn may_declare(phase: u8) -> bool
 
 // collating-symbol, where a declaration may stand: a collating symbol is declared.
 pub fn symbol_step(
-    src: &[u8],
-    g: Signs,
+    src: Source,
     work: &mut [u32],
     sh: Sheet,
     l: Line,
     p: Spot,
 ) -> Result<Step, Refusal>
-    requires opened { Opened g src.now l.at p l.end "collating-symbol" }
-    requires sound { Sound (key_at g src.now) (length src.now) work.old }
-    ensures { Writes g src.now work.old sh l.at work.new result }
+    requires opened { Opened src.signs src.bytes.now l.at p l.end "collating-symbol" }
+    requires sound { Sound (key_at src.signs src.bytes.now) (length src.bytes.now) work.old }
+    ensures { Writes src.entry.signs src.entry.bytes.now work.old sh l.at work.new result }
 {
     if may_declare(sh.phase) { // outside the order and every block
         if l.end.text {
-            symbol_line(src, g, work, p)?;
+            symbol_line(src, work, p)?;
             Ok(Step::Next(sh, l.end.next, l.end.feeds))
         } else {
             Err(Refusal::BadByte)
@@ -130,20 +129,19 @@ pub fn symbol_step(
 
 // collating-element, where a declaration may stand: a collating element is declared.
 pub fn element_step(
-    src: &[u8],
-    g: Signs,
+    src: Source,
     work: &mut [u32],
     sh: Sheet,
     l: Line,
     p: Spot,
 ) -> Result<Step, Refusal>
-    requires opened { Opened g src.now l.at p l.end "collating-element" }
-    requires sound { Sound (key_at g src.now) (length src.now) work.old }
-    ensures { Writes g src.now work.old sh l.at work.new result }
+    requires opened { Opened src.signs src.bytes.now l.at p l.end "collating-element" }
+    requires sound { Sound (key_at src.signs src.bytes.now) (length src.bytes.now) work.old }
+    ensures { Writes src.entry.signs src.entry.bytes.now work.old sh l.at work.new result }
 {
     if may_declare(sh.phase) { // outside the order and every block
         if l.end.text {
-            element_line(src, g, work, p)?;
+            element_line(src, work, p)?;
             Ok(Step::Next(sh, l.end.next, l.end.feeds))
         } else {
             Err(Refusal::BadByte)

@@ -16,7 +16,7 @@ ghost use Rattle.locale_levels.specs.Levels.{count_refusal, TallyIs, JudgedIs, L
 ghost use Rattle.locale_levels.specs.Writing.{rule_numbers, LeftFits, RulesFit};
 
 use base_units::{Refusal, lower_of};
-use text_lines::{Signs, Spot};
+use text_lines::{Source, Spot};
 use text_operands::{After, Operand, after_first, next_operand, none_left, refusal_left};
 use text_tokens::{COMMA, QUOTE, SEMI, Tok, WORD, word_is};
 
@@ -64,9 +64,9 @@ enum Reading {
 }
 
 // What a token is in a rule.
-fn symbol_at(src: &[u8], g: Signs, q: Spot, t: Tok) -> Symbol
-    requires { (q.at ≤ length src.now) × TokenIs g src.now q t }
-    ensures { symbol_number result ≡ symbol_of (token_there g src.now q) }
+fn symbol_at(src: Source, q: Spot, t: Tok) -> Symbol
+    requires { (q.at ≤ length src.bytes.now) × TokenIs src.signs src.bytes.now q t }
+    ensures { symbol_number result ≡ symbol_of (token_there src.entry.signs src.entry.bytes.now q) }
 {
     if t.kind == COMMA {
         return Symbol::Comma;
@@ -74,13 +74,13 @@ fn symbol_at(src: &[u8], g: Signs, q: Spot, t: Tok) -> Symbol
     if t.kind != WORD {
         return Symbol::Other;
     }
-    if word_is(src, g, q, b"forward") {
+    if word_is(src, q, b"forward") {
         return Symbol::Forward;
     }
-    if word_is(src, g, q, b"backward") {
+    if word_is(src, q, b"backward") {
         return Symbol::Backward;
     }
-    if word_is(src, g, q, b"position") {
+    if word_is(src, q, b"position") {
         return Symbol::Position;
     }
     Symbol::Other
@@ -130,15 +130,15 @@ fn well_placed(held: bool, kind: u8) -> bool
 }
 
 // The next rule.
-fn rule_at(src: &[u8], g: Signs, p: Spot) -> RuleStep
-    requires { (p.at ≤ length src.now) × (p.mode ≡ in_plain) }
-    ensures { RuleIs g src.now p result }
+fn rule_at(src: Source, p: Spot) -> RuleStep
+    requires { (p.at ≤ length src.bytes.now) × (p.mode ≡ in_plain) }
+    ensures { RuleIs src.entry.signs src.entry.bytes.now p result }
 {
     let mut q = p;
     let mut held = false;
     let mut s = Reading::Nothing;
     loop {
-        match next_operand(src, g, q, held) {
+        match next_operand(src, q, held) {
             Operand::Token(r, t) => {
                 if t.kind == SEMI {
                     return RuleStep::More(code_of(s), t.next);
@@ -146,7 +146,7 @@ fn rule_at(src: &[u8], g: Signs, p: Spot) -> RuleStep
                 if !well_placed(held, t.kind) {
                     return RuleStep::Broken;
                 }
-                s = joined(s, symbol_at(src, g, r, t));
+                s = joined(s, symbol_at(src, r, t));
                 held = t.kind >= 3;
                 q = t.next;
             }
@@ -164,15 +164,15 @@ fn known_with(known: bool, rule: Option<Rule>) -> bool
 }
 
 // The rules from a spot on, counted.
-fn rules_left(src: &[u8], g: Signs, p: Spot) -> Option<(usize, bool)>
-    requires { (p.at ≤ length src.now) × (p.mode ≡ in_plain) }
-    ensures { TallyIs g src.now p result }
+fn rules_left(src: Source, p: Spot) -> Option<(usize, bool)>
+    requires { (p.at ≤ length src.bytes.now) × (p.mode ≡ in_plain) }
+    ensures { TallyIs src.entry.signs src.entry.bytes.now p result }
 {
     let mut q = p;
     let mut n: usize = 0;
     let mut known = true;
     loop {
-        match rule_at(src, g, q) {
+        match rule_at(src, q) {
             RuleStep::More(rule, next) => {
                 known = known_with(known, rule);
                 n += 1;
@@ -206,28 +206,28 @@ fn judged(refusal: Option<Refusal>, n: usize, known: bool) -> Result<usize, Refu
 }
 
 // The levels of the operands still to come.
-fn levels_left(src: &[u8], g: Signs, p: Spot) -> Result<usize, Refusal>
-    requires { (p.at ≤ length src.now) × (p.mode ≡ in_plain) }
-    ensures { LevelsIs (operands_left g src.now false p) result }
+fn levels_left(src: Source, p: Spot) -> Result<usize, Refusal>
+    requires { (p.at ≤ length src.bytes.now) × (p.mode ≡ in_plain) }
+    ensures { LevelsIs (operands_left src.entry.signs src.entry.bytes.now false p) result }
 {
-    if none_left(src, g, p, false) {
+    if none_left(src, p, false) {
         return Ok(1);
     }
-    let Some((n, known)) = rules_left(src, g, p) else {
+    let Some((n, known)) = rules_left(src, p) else {
         return Err(Refusal::Malformed);
     };
-    judged(refusal_left(src, g, p, false), n, known)
+    judged(refusal_left(src, p, false), n, known)
 }
 
 // The levels that the operands of `order_start` give, from the spot after that word on.
-pub fn levels_of(src: &[u8], g: Signs, p: Spot) -> Result<usize, Refusal>
-    requires { (p.at ≤ length src.now) × (p.mode ≡ in_plain) }
-    ensures { LevelsIs (operands (tokens_left g src.now p)) result }
+pub fn levels_of(src: Source, p: Spot) -> Result<usize, Refusal>
+    requires { (p.at ≤ length src.bytes.now) × (p.mode ≡ in_plain) }
+    ensures { LevelsIs (operands (tokens_left src.entry.signs src.entry.bytes.now p)) result }
 {
-    match after_first(src, g, p) {
+    match after_first(src, p) {
         After::None => Ok(1),
         After::Broken => Err(Refusal::Malformed),
-        After::Operands(x) => levels_left(src, g, x),
+        After::Operands(x) => levels_left(src, x),
     }
 }
 
@@ -244,15 +244,15 @@ fn rule_number(rule: Option<Rule>) -> u32
 }
 
 // The rules from a spot on, written into the area from a place on.
-fn write_left(src: &[u8], g: Signs, p: Spot, area: &mut [u32], at: usize)
-    requires at_in_bounds { (p.at ≤ length src.now) × (p.mode ≡ in_plain) }
-    requires left_fits { LeftFits g src.now p area.old at }
-    ensures { area.new ≡ sets area.old at (rule_numbers (codes_left g src.now p)) }
+fn write_left(src: Source, p: Spot, area: &mut [u32], at: usize)
+    requires at_in_bounds { (p.at ≤ length src.bytes.now) × (p.mode ≡ in_plain) }
+    requires left_fits { LeftFits src.signs src.bytes.now p area.old at }
+    ensures { area.new ≡ sets area.old at (rule_numbers (codes_left src.entry.signs src.entry.bytes.now p)) }
 {
     let mut q = p;
     let mut i = at;
     loop {
-        match rule_at(src, g, q) {
+        match rule_at(src, q) {
             RuleStep::More(rule, next) => {
                 area[i] = rule_number(rule);
                 i += 1;
@@ -268,19 +268,19 @@ fn write_left(src: &[u8], g: Signs, p: Spot, area: &mut [u32], at: usize)
 }
 
 // The rules that the operands of `order_start` give, written into the area from a place on: they are accepted, and have room there.
-pub fn write_rules(src: &[u8], g: Signs, p: Spot, area: &mut [u32], at: usize)
-    requires at_in_bounds { (p.at ≤ length src.now) × (p.mode ≡ in_plain) }
-    requires rules_fit { RulesFit (operands (tokens_left g src.now p)) area.old at }
-    ensures { area.new ≡ sets area.old at (rule_numbers (rule_codes (operands (tokens_left g src.now p)))) }
+pub fn write_rules(src: Source, p: Spot, area: &mut [u32], at: usize)
+    requires at_in_bounds { (p.at ≤ length src.bytes.now) × (p.mode ≡ in_plain) }
+    requires rules_fit { RulesFit (operands (tokens_left src.signs src.bytes.now p)) area.old at }
+    ensures { area.new ≡ sets area.old at (rule_numbers (rule_codes (operands (tokens_left src.entry.signs src.entry.bytes.now p)))) }
 {
-    match after_first(src, g, p) {
+    match after_first(src, p) {
         After::None => area[at] = 0, // one forward level
         After::Broken => {} // never: rules that are accepted are whole
         After::Operands(x) => {
-            if none_left(src, g, x, false) {
+            if none_left(src, x, false) {
                 area[at] = 0;
             } else {
-                write_left(src, g, x, area, at);
+                write_left(src, x, area, at);
             }
         }
     }

@@ -16,19 +16,19 @@ use base_units::{Refusal, lower_of};
 use locale_opening::{malformed, refusal_with};
 use locale_sheet::{AFTER_ORDER, Block, IN_BLOCK, Line, Sheet, Step};
 use locale_symbols::name_first;
-use text_lines::{Signs, Spot};
+use text_lines::{Source, Spot};
 use text_operands::{no_operand, none_left, operands_refusal};
 use work_order::PLACE_NUMBER;
 use work_rows::told;
 use work_store::find;
 
 // The mark of the order line of the name at a spot, if there is one.
-fn line_of(src: &[u8], g: Signs, work: &[u32], i: Spot) -> Option<usize>
-    requires at_in_bounds { (i.at ≤ length src.now) × (is_inside i.mode ≡ true) }
-    requires holding { Holding g src.now work.now }
-    ensures { LineOf g src.now work.now (subject_left g src.now i) result }
+fn line_of(src: Source, work: &[u32], i: Spot) -> Option<usize>
+    requires at_in_bounds { (i.at ≤ length src.bytes.now) × (is_inside i.mode ≡ true) }
+    requires holding { Holding src.signs src.bytes.now work.now }
+    ensures { LineOf src.entry.signs src.entry.bytes.now work.now (subject_left src.entry.signs src.entry.bytes.now i) result }
 {
-    match find(src, g, work, 2 * i.at) {
+    match find(src, work, 2 * i.at) {
         Some(v) if told(work, v, PLACE_NUMBER) != 0 => Some(v),
         _ => None, // not declared, or with no order line
     }
@@ -48,15 +48,15 @@ fn named_with(f: Option<usize>, r: Option<Refusal>) -> Result<usize, Refusal>
 }
 
 // The order line that reorder-after names, from the spot after that word on.
-fn named_line(src: &[u8], g: Signs, work: &[u32], p: Spot) -> Result<usize, Refusal>
-    requires at_in_bounds { (p.at ≤ length src.now) × (p.mode ≡ in_plain) }
-    requires holding { Holding g src.now work.now }
-    ensures { NamedIs g src.now work.now (operands (tokens_left g src.now p)) result }
+fn named_line(src: Source, work: &[u32], p: Spot) -> Result<usize, Refusal>
+    requires at_in_bounds { (p.at ≤ length src.bytes.now) × (p.mode ≡ in_plain) }
+    requires holding { Holding src.signs src.bytes.now work.now }
+    ensures { NamedIs src.entry.signs src.entry.bytes.now work.now (operands (tokens_left src.entry.signs src.entry.bytes.now p)) result }
 {
-    match name_first(src, g, p) {
-        Some((i, e)) if none_left(src, g, e, true) => {
-            let r = operands_refusal(src, g, p);
-            named_with(line_of(src, g, work, i), r)
+    match name_first(src, p) {
+        Some((i, e)) if none_left(src, e, true) => {
+            let r = operands_refusal(src, p);
+            named_with(line_of(src, work, i), r)
         }
         _ => Err(Refusal::Malformed), // no name, or more than it
     }
@@ -71,19 +71,18 @@ fn may_open(phase: u8) -> bool
 
 // reorder-after, after the order: the lines of the block come to stand after the one that it names.
 pub fn reorder_after_line(
-    src: &[u8],
-    g: Signs,
+    src: Source,
     work: &[u32],
     sh: Sheet,
     l: Line,
     p: Spot,
 ) -> Result<Step, Refusal>
-    requires opened { Opened g src.now l.at p l.end "reorder-after" }
-    requires holding { Holding g src.now work.now }
-    ensures { Writes g src.now work.now sh l.at work.now result }
+    requires opened { Opened src.signs src.bytes.now l.at p l.end "reorder-after" }
+    requires holding { Holding src.signs src.bytes.now work.now }
+    ensures { Writes src.entry.signs src.entry.bytes.now work.now sh l.at work.now result }
 {
     if may_open(sh.phase) {
-        match named_line(src, g, work, p) {
+        match named_line(src, work, p) {
             Err(r) => Err(refusal_with(l.end.text, r)),
             Ok(m) => {
                 if l.end.text {
@@ -109,11 +108,11 @@ pub fn reorder_after_line(
 }
 
 // reorder-end, in a block and with no operand.
-pub fn reorder_end_line(src: &[u8], g: Signs, sh: Sheet, l: Line, p: Spot) -> Result<Step, Refusal>
-    requires { Opened g src.now l.at p l.end "reorder-end" }
-    ensures { Still g src.now sh l.at result }
+pub fn reorder_end_line(src: Source, sh: Sheet, l: Line, p: Spot) -> Result<Step, Refusal>
+    requires { Opened src.signs src.bytes.now l.at p l.end "reorder-end" }
+    ensures { Still src.entry.signs src.entry.bytes.now sh l.at result }
 {
-    if sh.phase == IN_BLOCK && no_operand(src, g, p) {
+    if sh.phase == IN_BLOCK && no_operand(src, p) {
         if l.end.text {
             let next = Sheet {
                 phase: AFTER_ORDER,

@@ -10,7 +10,7 @@ ghost use Rattle.base_units.specs.Numbers.{number_of, number_or_none};
 ghost use Rattle.locale_opening.specs.Begun.{OpeningIs};
 
 use base_units::{Refusal, lower_of};
-use text_lines::{IN_PLAIN, LineEnd, Signs, Spot, line_end};
+use text_lines::{IN_PLAIN, LineEnd, Source, Spot, line_end};
 use text_tokens::{NAME, Next, Tok, WORD, next_token, skip_gaps, word_is};
 
 // The first words that the paper's collate_line tells apart, in its order; Other: none of them.
@@ -35,25 +35,25 @@ pub enum Keyword {
 }
 
 // Which of the words that are no conditional's stands at a spot.
-fn later_at(src: &[u8], g: Signs, p: Spot) -> Keyword
-    requires { p.at ≤ length src.now }
-    ensures { LaterIs (word_in (marks_left g src.now p)) result }
+fn later_at(src: Source, p: Spot) -> Keyword
+    requires { p.at ≤ length src.bytes.now }
+    ensures { LaterIs (word_in (marks_left src.entry.signs src.entry.bytes.now p)) result }
 {
-    if word_is(src, g, p, b"collating-symbol") {
+    if word_is(src, p, b"collating-symbol") {
         Keyword::Symbol
-    } else if word_is(src, g, p, b"collating-element") {
+    } else if word_is(src, p, b"collating-element") {
         Keyword::Element
-    } else if word_is(src, g, p, b"order_start") {
+    } else if word_is(src, p, b"order_start") {
         Keyword::OrderStart
-    } else if word_is(src, g, p, b"order_end") {
+    } else if word_is(src, p, b"order_end") {
         Keyword::OrderEnd
-    } else if word_is(src, g, p, b"UNDEFINED") {
+    } else if word_is(src, p, b"UNDEFINED") {
         Keyword::Undefined
-    } else if word_is(src, g, p, b"reorder-after") {
+    } else if word_is(src, p, b"reorder-after") {
         Keyword::ReorderAfter
-    } else if word_is(src, g, p, b"reorder-end") {
+    } else if word_is(src, p, b"reorder-end") {
         Keyword::ReorderEnd
-    } else if word_is(src, g, p, b"END") {
+    } else if word_is(src, p, b"END") {
         Keyword::End
     } else {
         Keyword::Other
@@ -61,26 +61,26 @@ fn later_at(src: &[u8], g: Signs, p: Spot) -> Keyword
 }
 
 // Which keyword stands at a spot.
-pub fn keyword_at(src: &[u8], g: Signs, p: Spot) -> Keyword
-    requires { p.at ≤ length src.now }
-    ensures { KeywordIs (word_in (marks_left g src.now p)) result }
+pub fn keyword_at(src: Source, p: Spot) -> Keyword
+    requires { p.at ≤ length src.bytes.now }
+    ensures { KeywordIs (word_in (marks_left src.entry.signs src.entry.bytes.now p)) result }
 {
-    if word_is(src, g, p, b"define") {
+    if word_is(src, p, b"define") {
         Keyword::Define
-    } else if word_is(src, g, p, b"undef") {
+    } else if word_is(src, p, b"undef") {
         Keyword::Undef
-    } else if word_is(src, g, p, b"ifdef") {
+    } else if word_is(src, p, b"ifdef") {
         Keyword::Ifdef
-    } else if word_is(src, g, p, b"ifndef") {
+    } else if word_is(src, p, b"ifndef") {
         Keyword::Ifndef
-    } else if word_is(src, g, p, b"elif") {
+    } else if word_is(src, p, b"elif") {
         Keyword::Elif
-    } else if word_is(src, g, p, b"else") {
+    } else if word_is(src, p, b"else") {
         Keyword::Else
-    } else if word_is(src, g, p, b"endif") {
+    } else if word_is(src, p, b"endif") {
         Keyword::Endif
     } else {
-        later_at(src, g, p)
+        later_at(src, p)
     }
 }
 
@@ -124,18 +124,18 @@ pub fn malformed(text: bool) -> Refusal
 }
 
 // How the line at a place begins.
-pub fn open_line(src: &[u8], g: Signs, at: usize) -> Opening
-    requires { at ≤ length src.now }
-    ensures { OpeningIs g src.now at result }
+pub fn open_line(src: Source, at: usize) -> Opening
+    requires { at ≤ length src.bytes.now }
+    ensures { OpeningIs src.entry.signs src.entry.bytes.now at result }
 {
     let p = Spot {
         at,
         mode: IN_PLAIN,
         fresh: true,
     };
-    let e = line_end(src, g, p);
-    let q = skip_gaps(src, g, p);
-    match next_token(src, g, q) {
+    let e = line_end(src, p);
+    let q = skip_gaps(src, p);
+    match next_token(src, q) {
         Next::End => Opening::Blank(e),
         Next::Broken => Opening::Foul(e),
         Next::Token(t) if t.kind == WORD => Opening::Word(q, t, e),

@@ -22,7 +22,7 @@ use base_units::{CodePoint, Refusal, is_character, lower_of};
 use locale_opening::line_refusal;
 use locale_sheet::{Block, IN_BLOCK, IN_ORDER, Line, Sheet, Step};
 use locale_standing::weights_refusal;
-use text_lines::{LineEnd, Signs, Spot};
+use text_lines::{LineEnd, Source, Spot};
 use text_names::name_char;
 use text_operands::no_operand;
 use text_tokens::Tok;
@@ -111,11 +111,11 @@ fn takes_lines(phase: u8) -> bool
 }
 
 // Whether a line stands in the order or in a block, and has no operands if it is that of a symbol.
-fn is_formed(src: &[u8], g: Signs, phase: u8, p: Spot, symbol: bool) -> bool
-    requires { (p.at ≤ length src.now) × (p.mode ≡ in_plain) }
-    ensures { result ≡ ((eqb phase in_order || eqb phase in_block) && (eqb (length (operands (tokens_left g src.now p))) 0 || not symbol)) }
+fn is_formed(src: Source, phase: u8, p: Spot, symbol: bool) -> bool
+    requires { (p.at ≤ length src.bytes.now) × (p.mode ≡ in_plain) }
+    ensures { result ≡ ((eqb phase in_order || eqb phase in_block) && (eqb (length (operands (tokens_left src.entry.signs src.entry.bytes.now p))) 0 || not symbol)) }
 {
-    takes_lines(phase) && (!symbol || no_operand(src, g, p))
+    takes_lines(phase) && (!symbol || no_operand(src, p))
 }
 
 // Whether a line more finds room beside count lines, where that of its subject, if it has one, leaves its place.
@@ -152,20 +152,19 @@ fn late_refusal(
 
 // The refusal of an order line whose subject has these facts, again if it is a second one, and of its operands, which follow the spot p.
 fn own_refusal(
-    src: &[u8],
-    g: Signs,
+    src: Source,
     work: &[u32],
     sh: Sheet,
     p: Spot,
     k: Facts,
     again: bool,
 ) -> Option<Refusal>
-    requires at_in_bounds { (p.at ≤ length src.now) × (p.mode ≡ in_plain) }
-    requires some_known { SomeKnown g src.now work.now }
-    ensures { OwnRefused g src.now work.now sh p k again (number_or_none result) }
+    requires at_in_bounds { (p.at ≤ length src.bytes.now) × (p.mode ≡ in_plain) }
+    requires some_known { SomeKnown src.signs src.bytes.now work.now }
+    ensures { OwnRefused src.entry.signs src.entry.bytes.now work.now sh p k again (number_or_none result) }
 {
-    if is_formed(src, g, sh.phase, p, k.symbol) {
-        let c = weights_refusal(src, g, work, p);
+    if is_formed(src, sh.phase, p, k.symbol) {
+        let c = weights_refusal(src, work, p);
         let room = has_room(k.ordered, sh.order.count);
         lower_of(
             c.refusal,
@@ -177,14 +176,14 @@ fn own_refusal(
 }
 
 // A row for what stands at a mark, where f is found for it: that of f, or a new one.
-fn row_for(src: &[u8], g: Signs, work: &mut [u32], v: usize, f: Option<usize>) -> usize
-    requires { (v / 2 ≤ length src.now) × Roomy (length src.now) work.old }
-    ensures { RowIs g src.now work.old v work.new result f }
+fn row_for(src: Source, work: &mut [u32], v: usize, f: Option<usize>) -> usize
+    requires { (v / 2 ≤ length src.bytes.now) × Roomy (length src.bytes.now) work.old }
+    ensures { RowIs src.entry.signs src.entry.bytes.now work.old v work.new result f }
 {
     match f {
         Some(u) => u,
         None => {
-            declare(src, g, work, v);
+            declare(src, work, v);
             v
         }
     }
@@ -276,8 +275,7 @@ fn list_line(
 
 // The refusal of a line that opens with the name t, for which f is found and whose code is c.
 fn name_refusal(
-    src: &[u8],
-    g: Signs,
+    src: Source,
     work: &[u32],
     sh: Sheet,
     l: Line,
@@ -285,36 +283,29 @@ fn name_refusal(
     f: Option<usize>,
     c: Option<CodePoint>,
 ) -> Option<Refusal>
-    requires some_open { SomeOpen g src.now work.now sh l.at l.depth × NameLine g src.now l.at t l.end }
-    requires finds { Finds (key_at g src.now) (length src.now) work.now (key_at g src.now (2 * t.inside.at)) f × CodeIs (name_left g src.now t.inside) c }
-    ensures { Reads g src.now work.now sh l.at l.number (subject_in g src.now t) t.next (number_or_none result) }
+    requires some_open { SomeOpen src.signs src.bytes.now work.now sh l.at l.depth × NameLine src.signs src.bytes.now l.at t l.end }
+    requires finds { Finds (key_at src.signs src.bytes.now) (length src.bytes.now) work.now (key_at src.signs src.bytes.now (2 * t.inside.at)) f × CodeIs (name_left src.signs src.bytes.now t.inside) c }
+    ensures { Reads src.entry.signs src.entry.bytes.now work.now sh l.at l.number (subject_in src.entry.signs src.entry.bytes.now t) t.next (number_or_none result) }
 {
     let k = name_facts(work, f, c);
     let again = is_again(work, sh, f);
-    let o = own_refusal(src, g, work, sh, t.next, k, again);
+    let o = own_refusal(src, work, sh, t.next, k, again);
     let r = lower_of(t.refusal, o);
     line_refusal(l.end.text, r)
 }
 
 // A line that opens with the name t: an order line of a character, an element or a symbol.
-pub fn name_line(
-    src: &[u8],
-    g: Signs,
-    work: &mut [u32],
-    sh: Sheet,
-    l: Line,
-    t: Tok,
-) -> Result<Step, Refusal>
-    requires { SomeOpen g src.now work.old sh l.at l.depth × NameLine g src.now l.at t l.end × (l.number ≤ l.at + 1) }
-    ensures { StepIs g src.now work.old sh l.at l.number l.depth work.new result }
+pub fn name_line(src: Source, work: &mut [u32], sh: Sheet, l: Line, t: Tok) -> Result<Step, Refusal>
+    requires { SomeOpen src.signs src.bytes.now work.old sh l.at l.depth × NameLine src.signs src.bytes.now l.at t l.end × (l.number ≤ l.at + 1) }
+    ensures { StepIs src.entry.signs src.entry.bytes.now work.old sh l.at l.number l.depth work.new result }
 {
     let v = 2 * t.inside.at;
-    let f = find(src, g, work, v);
-    let c = name_char(src, g, t.inside);
-    match name_refusal(src, g, work, sh, l, t, f, c) {
+    let f = find(src, work, v);
+    let c = name_char(src, t.inside);
+    match name_refusal(src, work, sh, l, t, f, c) {
         Some(r) => Err(r),
         None => {
-            let m = row_for(src, g, work, v, f);
+            let m = row_for(src, work, v, f);
             list_line(work, sh, m, l.number, t.next.at, l.end)
         }
     }
@@ -335,37 +326,35 @@ fn undefined_facts(work: &[u32], m: usize) -> Facts
 
 // The refusal of a line that opens with the word UNDEFINED, whose mark is m.
 fn undefined_refusal(
-    src: &[u8],
-    g: Signs,
+    src: Source,
     work: &[u32],
     sh: Sheet,
     l: Line,
     p: Spot,
     m: usize,
 ) -> Option<Refusal>
-    requires { SomeOpen g src.now work.now sh l.at l.depth × WordLine g src.now l.at p l.end (bytes "UNDEFINED") × (m ≡ undefined_mark (length src.now)) }
-    ensures { Reads g src.now work.now sh l.at l.number undefined p (number_or_none result) }
+    requires { SomeOpen src.signs src.bytes.now work.now sh l.at l.depth × WordLine src.signs src.bytes.now l.at p l.end (bytes "UNDEFINED") × (m ≡ undefined_mark (length src.bytes.now)) }
+    ensures { Reads src.entry.signs src.entry.bytes.now work.now sh l.at l.number undefined p (number_or_none result) }
 {
     let k = undefined_facts(work, m);
     let again = is_again(work, sh, Some(m));
-    let o = own_refusal(src, g, work, sh, p, k, again);
+    let o = own_refusal(src, work, sh, p, k, again);
     line_refusal(l.end.text, o)
 }
 
 // A line that opens with the word UNDEFINED, right after which stands the spot p: its order line.
 pub fn undefined_line(
-    src: &[u8],
-    g: Signs,
+    src: Source,
     work: &mut [u32],
     sh: Sheet,
     l: Line,
     p: Spot,
 ) -> Result<Step, Refusal>
-    requires { SomeOpen g src.now work.old sh l.at l.depth × WordLine g src.now l.at p l.end (bytes "UNDEFINED") × (l.number ≤ l.at + 1) }
-    ensures { StepIs g src.now work.old sh l.at l.number l.depth work.new result }
+    requires { SomeOpen src.signs src.bytes.now work.old sh l.at l.depth × WordLine src.signs src.bytes.now l.at p l.end (bytes "UNDEFINED") × (l.number ≤ l.at + 1) }
+    ensures { StepIs src.entry.signs src.entry.bytes.now work.old sh l.at l.number l.depth work.new result }
 {
-    let m = undefined_mark(src.len());
-    match undefined_refusal(src, g, work, sh, l, p, m) {
+    let m = undefined_mark(src.bytes.len());
+    match undefined_refusal(src, work, sh, l, p, m) {
         Some(r) => Err(r),
         None => list_line(work, sh, m, l.number, p.at, l.end),
     }

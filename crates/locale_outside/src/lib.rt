@@ -15,7 +15,7 @@ ghost use Rattle.locale_outside.specs.Stretches.{TurnIs, OutersIs, StretchStands
 
 use base_units::Refusal;
 use locale_skips::skip_category;
-use text_lines::{IN_PLAIN, LineEnd, Signs, Spot, is_text, line_end, next_mark};
+use text_lines::{IN_PLAIN, LineEnd, Signs, Source, Spot, is_text, line_end, next_mark};
 use text_reader::{reader_at, used_up};
 use text_specials::{Chars, may_set, sign_line, with_set};
 use text_tokens::{end_of_word, only_blanks, skip_gaps, word_byte, word_is};
@@ -39,13 +39,13 @@ fn is_capital(b: u8) -> bool
 }
 
 // How many bytes a word of capitals and underscores has; None for any other.
-fn capitals(src: &[u8], g: Signs, p: Spot) -> Option<usize>
-    requires { p.at ≤ length src.now }
-    ensures { result ≡ capitals_in (word_in (marks_left g src.now p)) }
+fn capitals(src: Source, p: Spot) -> Option<usize>
+    requires { p.at ≤ length src.bytes.now }
+    ensures { result ≡ capitals_in (word_in (marks_left src.entry.signs src.entry.bytes.now p)) }
 {
     let mut q = p;
     let mut n: usize = 0;
-    while let Some((b, r)) = word_byte(src, g, q) {
+    while let Some((b, r)) = word_byte(src, q) {
         if !is_capital(b) {
             return None;
         }
@@ -56,13 +56,13 @@ fn capitals(src: &[u8], g: Signs, p: Spot) -> Option<usize>
 }
 
 // Whether a word begins with this.
-fn word_begins(src: &[u8], g: Signs, p: Spot, w: &[u8]) -> bool
-    requires { p.at ≤ length src.now }
-    ensures { result ≡ begins w.now (word_in (marks_left g src.now p)) }
+fn word_begins(src: Source, p: Spot, w: &[u8]) -> bool
+    requires { p.at ≤ length src.bytes.now }
+    ensures { result ≡ begins w.now (word_in (marks_left src.entry.signs src.entry.bytes.now p)) }
 {
     let mut q = p;
     for c in w {
-        match word_byte(src, g, q) {
+        match word_byte(src, q) {
             Some((b, r)) if b == *c => q = r,
             _ => return false,
         }
@@ -71,19 +71,19 @@ fn word_begins(src: &[u8], g: Signs, p: Spot, w: &[u8]) -> bool
 }
 
 // Whether a word opens a category.
-fn is_category(src: &[u8], g: Signs, p: Spot) -> bool
-    requires { p.at ≤ length src.now }
-    ensures { result ≡ is_category (word_in (marks_left g src.now p)) }
+fn is_category(src: Source, p: Spot) -> bool
+    requires { p.at ≤ length src.bytes.now }
+    ensures { result ≡ is_category (word_in (marks_left src.entry.signs src.entry.bytes.now p)) }
 {
-    word_begins(src, g, p, b"LC_") && matches!(capitals(src, g, p), Some(4..=32))
+    word_begins(src, p, b"LC_") && matches!(capitals(src, p), Some(4..=32))
 }
 
 // Whether a category's word stands at a spot, and nothing but blanks after it.
-fn category_alone(src: &[u8], g: Signs, p: Spot) -> bool
-    requires { (p.at ≤ length src.now) × (p.mode ≡ in_plain) }
-    ensures { AloneIs g src.now p result }
+fn category_alone(src: Source, p: Spot) -> bool
+    requires { (p.at ≤ length src.bytes.now) × (p.mode ≡ in_plain) }
+    ensures { AloneIs src.entry.signs src.entry.bytes.now p result }
 {
-    only_blanks(src, g, end_of_word(src, g, p)) && is_category(src, g, p)
+    only_blanks(src, end_of_word(src, p)) && is_category(src, p)
 }
 
 // A line in which a category's word stands alone.
@@ -98,11 +98,14 @@ fn category_line(
     requires { CategoryAt h src.now at q e }
     ensures { PlainOuter h collated src.now at result }
 {
-    let g = Signs {
-        comment: h.comment,
-        escape: h.escape,
+    let text = Source {
+        bytes: src,
+        signs: Signs {
+            comment: h.comment,
+            escape: h.escape,
+        },
     };
-    let collate = word_is(src, g, q, b"LC_COLLATE");
+    let collate = word_is(text, q, b"LC_COLLATE");
     if collate && collated {
         Err(Refusal::Malformed)
     } else {
@@ -115,21 +118,24 @@ fn plain_line(src: &[u8], h: Chars, collated: bool, at: usize) -> Result<Outer, 
     requires { PlainAt h src.now at }
     ensures { PlainOuter h collated src.now at result }
 {
-    let g = Signs {
-        comment: h.comment,
-        escape: h.escape,
+    let text = Source {
+        bytes: src,
+        signs: Signs {
+            comment: h.comment,
+            escape: h.escape,
+        },
     };
     let p = Spot {
         at,
         mode: IN_PLAIN,
         fresh: true,
     };
-    let e = line_end(src, g, p);
-    let q = skip_gaps(src, g, p);
-    match next_mark(src, g, q) {
+    let e = line_end(text, p);
+    let q = skip_gaps(text, p);
+    match next_mark(text, q) {
         None => Ok(Outer::Blank(e.next, e.feeds)),
         Some(_) if !e.text => Err(Refusal::BadByte),
-        Some(_) if category_alone(src, g, q) => category_line(src, h, collated, at, q, e),
+        Some(_) if category_alone(text, q) => category_line(src, h, collated, at, q, e),
         Some(_) => Err(Refusal::Malformed),
     }
 }
@@ -148,14 +154,17 @@ fn taken_line(
     requires { TakenAt h src.now at comment c k rest }
     ensures { TakenOuter h before src.now at result }
 {
-    let g = Signs {
-        comment: h.comment,
-        escape: h.escape,
+    let text = Source {
+        bytes: src,
+        signs: Signs {
+            comment: h.comment,
+            escape: h.escape,
+        },
     };
-    let e = line_end(src, g, rest);
+    let e = line_end(text, rest);
     if !e.text || !is_text(c as u16) {
         Err(Refusal::BadByte)
-    } else if only_blanks(src, g, rest) && before && may_set(h, comment, c) {
+    } else if only_blanks(text, rest) && before && may_set(h, comment, c) {
         Ok(Outer::Signed(with_set(h, comment, c), e.next, k + e.feeds))
     } else {
         Err(Refusal::Malformed)
@@ -173,11 +182,14 @@ fn outer_line(
     requires { (at < length src.now) × Visible (signs_of h) }
     ensures { OuterIs h before collated src.now at result }
 {
-    let g = Signs {
-        comment: h.comment,
-        escape: h.escape,
+    let text = Source {
+        bytes: src,
+        signs: Signs {
+            comment: h.comment,
+            escape: h.escape,
+        },
     };
-    match sign_line(src, g, at) {
+    match sign_line(text, at) {
         None => plain_line(src, h, collated, at),
         Some((comment, c, k, rest)) => taken_line(src, h, before, at, comment, c, k, rest),
     }
@@ -222,11 +234,14 @@ fn outer_turn(
             if collate {
                 return Ok(Turn::Collate(h, next, n));
             }
-            let g = Signs {
-                comment: h.comment,
-                escape: h.escape,
+            let text = Source {
+                bytes: src,
+                signs: Signs {
+                    comment: h.comment,
+                    escape: h.escape,
+                },
             };
-            let (i, m) = skip_category(src, g, next, n, word)?;
+            let (i, m) = skip_category(text, next, n, word)?;
             Ok(Turn::On(h, false, i, m))
         }
         Err(r) => Err((r, number)),

@@ -10,17 +10,17 @@ ghost use Rattle.text_reader.specs.Turns.{AtLine, Turns};
 ghost use Rattle.locale_skips.specs.Passing.{opens, branches, KindIs, Begins, TurnIs, BranchIs, BranchStands, branch_reading, Named, name_at, is_end, Reaches, AfterIs, CategoryIs};
 
 use base_units::Refusal;
-use text_lines::{IN_PLAIN, Signs, Spot, is_blank, next_mark};
+use text_lines::{IN_PLAIN, Signs, Source, Spot, is_blank, next_mark};
 use text_reader::{Reader, line, line_at, line_number, past, place, reader_at, used_up};
 use text_tokens::copy_word;
 
 // The next byte with no escape before it.
-fn plain_byte(src: &[u8], g: Signs, p: Spot) -> Option<(u8, Spot)>
-    requires { p.at ≤ length src.now }
-    ensures { PlainIs g src.now p result }
+fn plain_byte(src: Source, p: Spot) -> Option<(u8, Spot)>
+    requires { p.at ≤ length src.bytes.now }
+    ensures { PlainIs src.entry.signs src.entry.bytes.now p result }
 {
     let mut q = p;
-    while let Some((m, r)) = next_mark(src, g, q) {
+    while let Some((m, r)) = next_mark(src, q) {
         if m < 256 {
             return Some((m as u8, r));
         }
@@ -30,12 +30,12 @@ fn plain_byte(src: &[u8], g: Signs, p: Spot) -> Option<(u8, Spot)>
 }
 
 // The spot after the blanks that come next.
-fn skip_blanks(src: &[u8], g: Signs, p: Spot) -> Spot
-    requires { p.at ≤ length src.now }
-    ensures { Skips g src.now p result }
+fn skip_blanks(src: Source, p: Spot) -> Spot
+    requires { p.at ≤ length src.bytes.now }
+    ensures { Skips src.entry.signs src.entry.bytes.now p result }
 {
     let mut q = p;
-    while let Some((m, r)) = plain_byte(src, g, q) {
+    while let Some((m, r)) = plain_byte(src, q) {
         if !is_blank(m) {
             return q;
         }
@@ -45,54 +45,54 @@ fn skip_blanks(src: &[u8], g: Signs, p: Spot) -> Spot
 }
 
 // The spot after the run at a spot, if that run is w.
-fn run_is(src: &[u8], g: Signs, p: Spot, w: &[u8]) -> Option<Spot>
-    requires { p.at ≤ length src.now }
-    ensures { ComparedIs g src.now w.now p result }
+fn run_is(src: Source, p: Spot, w: &[u8]) -> Option<Spot>
+    requires { p.at ≤ length src.bytes.now }
+    ensures { ComparedIs src.entry.signs src.entry.bytes.now w.now p result }
 {
     let mut q = p;
     for b in w {
-        let (m, r) = plain_byte(src, g, q)?;
+        let (m, r) = plain_byte(src, q)?;
         if is_blank(m) || m != *b {
             return None;
         }
         q = r;
     }
-    match plain_byte(src, g, q) {
+    match plain_byte(src, q) {
         Some((m, _)) if !is_blank(m) => None,
         _ => Some(q),
     }
 }
 
 // Whether the first word of the line is w.
-fn first_word_is(src: &[u8], g: Signs, p: Spot, w: &[u8]) -> bool
-    requires { p.at ≤ length src.now }
-    ensures { result ≡ same (first_word g src.now p) w.now }
+fn first_word_is(src: Source, p: Spot, w: &[u8]) -> bool
+    requires { p.at ≤ length src.bytes.now }
+    ensures { result ≡ same (first_word src.entry.signs src.entry.bytes.now p) w.now }
 {
-    run_is(src, g, skip_blanks(src, g, p), w).is_some()
+    run_is(src, skip_blanks(src, p), w).is_some()
 }
 
 // Whether only blanks are left.
-fn only_blanks(src: &[u8], g: Signs, p: Spot) -> bool
-    requires { p.at ≤ length src.now }
-    ensures { result ≡ only_blanks (plain_left g src.now p) }
+fn only_blanks(src: Source, p: Spot) -> bool
+    requires { p.at ≤ length src.bytes.now }
+    ensures { result ≡ only_blanks (plain_left src.entry.signs src.entry.bytes.now p) }
 {
-    plain_byte(src, g, skip_blanks(src, g, p)).is_none()
+    plain_byte(src, skip_blanks(src, p)).is_none()
 }
 
 // Whether the words of the line are a and b alone, each of a byte or more.
-fn words_are(src: &[u8], g: Signs, p: Spot, a: &[u8], b: &[u8]) -> bool
-    requires { (p.at ≤ length src.now) × (0 < length a.now) × (0 < length b.now) }
-    ensures { result ≡ are_two (words_left g src.now p) a.now b.now }
+fn words_are(src: Source, p: Spot, a: &[u8], b: &[u8]) -> bool
+    requires { (p.at ≤ length src.bytes.now) × (0 < length a.now) × (0 < length b.now) }
+    ensures { result ≡ are_two (words_left src.entry.signs src.entry.bytes.now p) a.now b.now }
 {
-    let q = skip_blanks(src, g, p);
-    let Some(r) = run_is(src, g, q, a) else {
+    let q = skip_blanks(src, p);
+    let Some(r) = run_is(src, q, a) else {
         return false;
     };
-    let s = skip_blanks(src, g, r);
-    let Some(t) = run_is(src, g, s, b) else {
+    let s = skip_blanks(src, r);
+    let Some(t) = run_is(src, s, b) else {
         return false;
     };
-    only_blanks(src, g, t)
+    only_blanks(src, t)
 }
 
 // What a line is in an unused branch, by its first word.
@@ -119,36 +119,36 @@ pub enum Turn {
 }
 
 // Whether the first word of the line opens an inner chain.
-fn opens(src: &[u8], g: Signs, p: Spot) -> bool
-    requires { p.at ≤ length src.now }
-    ensures { result ≡ opens (first_word g src.now p) }
+fn opens(src: Source, p: Spot) -> bool
+    requires { p.at ≤ length src.bytes.now }
+    ensures { result ≡ opens (first_word src.entry.signs src.entry.bytes.now p) }
 {
-    first_word_is(src, g, p, b"ifdef") || first_word_is(src, g, p, b"ifndef")
+    first_word_is(src, p, b"ifdef") || first_word_is(src, p, b"ifndef")
 }
 
 // Whether it begins another branch.
-fn branches(src: &[u8], g: Signs, p: Spot) -> bool
-    requires { p.at ≤ length src.now }
-    ensures { result ≡ branches (first_word g src.now p) }
+fn branches(src: Source, p: Spot) -> bool
+    requires { p.at ≤ length src.bytes.now }
+    ensures { result ≡ branches (first_word src.entry.signs src.entry.bytes.now p) }
 {
-    first_word_is(src, g, p, b"elif") || first_word_is(src, g, p, b"else")
+    first_word_is(src, p, b"elif") || first_word_is(src, p, b"else")
 }
 
 // What the line at a place is in an unused branch.
-fn line_kind(src: &[u8], g: Signs, at: usize) -> Kind
-    requires { at ≤ length src.now }
-    ensures { KindIs (first_word g src.now (line_start at)) result }
+fn line_kind(src: Source, at: usize) -> Kind
+    requires { at ≤ length src.bytes.now }
+    ensures { KindIs (first_word src.entry.signs src.entry.bytes.now (line_start at)) result }
 {
     let p = Spot {
         at,
         mode: IN_PLAIN,
         fresh: true,
     };
-    if opens(src, g, p) {
+    if opens(src, p) {
         Kind::Opens
-    } else if first_word_is(src, g, p, b"endif") {
+    } else if first_word_is(src, p, b"endif") {
         Kind::Closes
-    } else if branches(src, g, p) {
+    } else if branches(src, p) {
         Kind::Branches
     } else {
         Kind::Other
@@ -156,11 +156,11 @@ fn line_kind(src: &[u8], g: Signs, at: usize) -> Kind
 }
 
 // What the line at a place does in an unused branch, where `depth` chains are open with the branch's own and `total` with the inner ones.
-fn branch_turn(src: &[u8], g: Signs, at: usize, depth: usize, total: usize) -> Turn
-    requires { (at ≤ length src.now) × (depth ≤ total) }
-    ensures { TurnIs g src.now at depth total result }
+fn branch_turn(src: Source, at: usize, depth: usize, total: usize) -> Turn
+    requires { (at ≤ length src.bytes.now) × (depth ≤ total) }
+    ensures { TurnIs src.entry.signs src.entry.bytes.now at depth total result }
 {
-    match line_kind(src, g, at) {
+    match line_kind(src, at) {
         Kind::Opens if total < 8 => Turn::On(total + 1),
         Kind::Opens => Turn::Deep,
         Kind::Closes if total == depth => Turn::Own,
@@ -192,7 +192,11 @@ fn branch_line(src: &[u8], s: Branch, at: usize, number: usize) -> Branch
     requires { AtLine branch_reading src.now s at number }
     ensures { Turns branch_reading src.now s at number result }
 {
-    match branch_turn(src, s.signs, at, s.depth, s.total) {
+    let text = Source {
+        bytes: src,
+        signs: s.signs,
+    };
+    match branch_turn(text, at, s.depth, s.total) {
         Turn::Own => Branch {
             over: true,
             next: at,
@@ -208,7 +212,7 @@ fn branch_line(src: &[u8], s: Branch, at: usize, number: usize) -> Branch
             ..s
         },
         Turn::On(total) => {
-            let e = line_at(src, s.signs, at);
+            let e = line_at(text, at);
             let n = number + e.feeds;
             Branch {
                 over: false,
@@ -241,14 +245,13 @@ fn branch_lines(src: &[u8], s: Branch) -> Branch
 
 // The rest of an unused branch, where `depth` chains are open: the next line of its own chain.
 pub fn skip_branch(
-    src: &[u8],
-    g: Signs,
+    src: Source,
     at: usize,
     number: usize,
     depth: usize,
 ) -> Result<(usize, usize), (Refusal, usize)>
-    requires { Begins src.now at number }
-    ensures { BranchIs g src.now at number depth result }
+    requires { Begins src.bytes.now at number }
+    ensures { BranchIs src.entry.signs src.entry.bytes.now at number depth result }
 {
     let s = Branch {
         over: false,
@@ -257,22 +260,22 @@ pub fn skip_branch(
         total: depth,
         answer: Err((Refusal::Malformed, number)),
         depth,
-        signs: g,
+        signs: src.signs,
     };
-    branch_lines(src, s).answer
+    branch_lines(src.bytes, s).answer
 }
 
 // Whether the line at a place is the END line of the category of this name.
-fn is_end(src: &[u8], g: Signs, at: usize, name: &[u8]) -> bool
-    requires { (at ≤ length src.now) × (0 < length name.now) }
-    ensures { result ≡ is_end g src.now at name.now }
+fn is_end(src: Source, at: usize, name: &[u8]) -> bool
+    requires { (at ≤ length src.bytes.now) × (0 < length name.now) }
+    ensures { result ≡ is_end src.entry.signs src.entry.bytes.now at name.now }
 {
     let p = Spot {
         at,
         mode: IN_PLAIN,
         fresh: true,
     };
-    words_are(src, g, p, b"END", name)
+    words_are(src, p, b"END", name)
 }
 
 // The reader at the END line of the category of this name, or at the end of the source.
@@ -282,7 +285,11 @@ fn to_end<'a, 'b>(r: Reader<'a>, g: Signs, name: &'b [u8]) -> Reader<'a>
 {
     let mut q = r;
     while !used_up(q) {
-        if is_end(q.src, g, q.at, name) {
+        let text = Source {
+            bytes: q.src,
+            signs: g,
+        };
+        if is_end(text, q.at, name) {
             return q;
         }
         q = past(q, line(q, g));
@@ -291,17 +298,12 @@ fn to_end<'a, 'b>(r: Reader<'a>, g: Signs, name: &'b [u8]) -> Reader<'a>
 }
 
 // The line after the one at a place, if one stands there.
-fn line_after(
-    src: &[u8],
-    g: Signs,
-    at: usize,
-    number: usize,
-) -> Result<(usize, usize), (Refusal, usize)>
-    requires { Begins src.now at number }
-    ensures { AfterIs g src.now at number result }
+fn line_after(src: Source, at: usize, number: usize) -> Result<(usize, usize), (Refusal, usize)>
+    requires { Begins src.bytes.now at number }
+    ensures { AfterIs src.entry.signs src.entry.bytes.now at number result }
 {
-    if at < src.len() {
-        let e = line_at(src, g, at);
+    if at < src.bytes.len() {
+        let e = line_at(src, at);
         Ok((e.next, number + e.feeds))
     } else {
         Err((Refusal::Malformed, number))
@@ -310,51 +312,48 @@ fn line_after(
 
 // The rest of another category of this name: the line after its END line.
 fn skip_named(
-    src: &[u8],
-    g: Signs,
+    src: Source,
     at: usize,
     number: usize,
     name: &[u8],
 ) -> Result<(usize, usize), (Refusal, usize)>
-    requires { Begins src.now at number × (0 < length name.now) }
-    ensures { CategoryIs g src.now at number name.now result }
+    requires { Begins src.bytes.now at number × (0 < length name.now) }
+    ensures { CategoryIs src.entry.signs src.entry.bytes.now at number name.now result }
 {
-    let q = to_end(reader_at(src, at, number), g, name);
-    line_after(src, g, place(q), line_number(q))
+    let q = to_end(reader_at(src.bytes, at, number), src.signs, name);
+    line_after(src, place(q), line_number(q))
 }
 
 // The rest of another category, with room for its name: so that is read once, however many lines it is joined of.
 fn skip_copied(
-    src: &[u8],
-    g: Signs,
+    src: Source,
     at: usize,
     number: usize,
     category: usize,
     room: &mut [u8],
 ) -> Result<(usize, usize), (Refusal, usize)>
-    requires { Begins src.now at number × Named g src.now category × (32 ≤ length room.old) }
-    ensures { CategoryIs g src.now at number (name_at g src.now category) result }
+    requires { Begins src.bytes.now at number × Named src.signs src.bytes.now category × (32 ≤ length room.old) }
+    ensures { CategoryIs src.entry.signs src.entry.bytes.now at number (name_at src.entry.signs src.entry.bytes.now category) result }
 {
     let p = Spot {
         at: category,
         mode: IN_PLAIN,
         fresh: true,
     };
-    let n = copy_word(src, g, p, room);
-    skip_named(src, g, at, number, &room[..n])
+    let n = copy_word(src, p, room);
+    skip_named(src, at, number, &room[..n])
 }
 
 // The rest of another category, whose name stands at `category`: the line after its END line.
 pub fn skip_category(
-    src: &[u8],
-    g: Signs,
+    src: Source,
     at: usize,
     number: usize,
     category: usize,
 ) -> Result<(usize, usize), (Refusal, usize)>
-    requires { Begins src.now at number × Named g src.now category }
-    ensures { CategoryIs g src.now at number (name_at g src.now category) result }
+    requires { Begins src.bytes.now at number × Named src.signs src.bytes.now category }
+    ensures { CategoryIs src.entry.signs src.entry.bytes.now at number (name_at src.entry.signs src.entry.bytes.now category) result }
 {
     let mut room = [0u8; 32];
-    skip_copied(src, g, at, number, category, &mut room)
+    skip_copied(src, at, number, category, &mut room)
 }

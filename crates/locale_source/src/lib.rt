@@ -11,7 +11,7 @@ use base_units::Refusal;
 use locale_category::category_lines;
 use locale_outside::{Outers, outer_lines};
 use locale_sheet::Sheet;
-use text_lines::Signs;
+use text_lines::{Signs, Source};
 use text_specials::{Chars, start};
 
 // The lines after LC_COLLATE, which has left the sheet.
@@ -52,12 +52,15 @@ fn lines_in(
     requires { Ready src.now work.old at number × Visible (signs_of c) }
     ensures { InsideIs c src.now at number work.new result }
 {
-    let g = Signs {
-        comment: c.comment,
-        escape: c.escape,
+    let text = Source {
+        bytes: src,
+        signs: Signs {
+            comment: c.comment,
+            escape: c.escape,
+        },
     };
     // no `?`: must-fail/ takes the line of the refusal out of the second arm
-    match category_lines(src, g, work, at, number) {
+    match category_lines(text, work, at, number) {
         Ok((sh, next, n)) => lines_after(src, c, sh, next, n),
         Err((r, l)) => Err((r, l)),
     }

@@ -16,7 +16,7 @@ ghost use Rattle.locale_standing.specs.Refusing.{WeightRefused, OneRefused, Turn
 
 use base_units::{Refusal, is_character, lower_of};
 use locale_weights::{Weight, next_weight};
-use text_lines::{Signs, Spot};
+use text_lines::{Source, Spot};
 use text_names::{name_char, next_name};
 use text_operands::{After, after_first, none_left};
 use text_tokens::{NAME, QUOTE, Tok, WORD, end_of_name, word_is};
@@ -44,29 +44,29 @@ const NO_OPERANDS: Counted = Counted {
 };
 
 // Whether the name at a spot stands: it is that of a character, or declared.
-fn stands_at(src: &[u8], g: Signs, work: &[u32], p: Spot) -> bool
-    requires at_in_bounds { (p.at ≤ length src.now) × (is_inside p.mode ≡ true) }
-    requires sound { Sound (key_at g src.now) (length src.now) work.now }
-    ensures { Stands g src.now work.now p result }
+fn stands_at(src: Source, work: &[u32], p: Spot) -> bool
+    requires at_in_bounds { (p.at ≤ length src.bytes.now) × (is_inside p.mode ≡ true) }
+    requires sound { Sound (key_at src.signs src.bytes.now) (length src.bytes.now) work.now }
+    ensures { Stands src.entry.signs src.entry.bytes.now work.now p result }
 {
-    match name_char(src, g, p) {
+    match name_char(src, p) {
         Some(x) => is_character(x),
-        None => find(src, g, work, 2 * p.at).is_some(),
+        None => find(src, work, 2 * p.at).is_some(),
     }
 }
 
 // Whether all names in quotes stand, from a spot in them outside names.
-fn quoted_stand(src: &[u8], g: Signs, work: &[u32], p: Spot) -> bool
-    requires at_in_bounds { (p.at ≤ length src.now) × (p.mode ≡ quoted) }
-    requires sound { Sound (key_at g src.now) (length src.now) work.now }
-    ensures { AllStand g src.now work.now (names_in (marks_left g src.now p)) result }
+fn quoted_stand(src: Source, work: &[u32], p: Spot) -> bool
+    requires at_in_bounds { (p.at ≤ length src.bytes.now) × (p.mode ≡ quoted) }
+    requires sound { Sound (key_at src.signs src.bytes.now) (length src.bytes.now) work.now }
+    ensures { AllStand src.entry.signs src.entry.bytes.now work.now (names_in (marks_left src.entry.signs src.entry.bytes.now p)) result }
 {
     let mut q = p;
-    while let Some(r) = next_name(src, g, q) {
-        if !stands_at(src, g, work, r) {
+    while let Some(r) = next_name(src, q) {
+        if !stands_at(src, work, r) {
             return false;
         }
-        let Some((_, e)) = end_of_name(src, g, r) else {
+        let Some((_, e)) = end_of_name(src, r) else {
             return true;
         };
         q = e;
@@ -75,29 +75,29 @@ fn quoted_stand(src: &[u8], g: Signs, work: &[u32], p: Spot) -> bool
 }
 
 // Whether all names of a token stand.
-fn names_stand(src: &[u8], g: Signs, work: &[u32], t: Tok) -> bool
-    requires inside { Inside (length src.now) t }
-    requires sound { Sound (key_at g src.now) (length src.now) work.now }
-    ensures { AllStand g src.now work.now (names_of g src.now t) result }
+fn names_stand(src: Source, work: &[u32], t: Tok) -> bool
+    requires inside { Inside (length src.bytes.now) t }
+    requires sound { Sound (key_at src.signs src.bytes.now) (length src.bytes.now) work.now }
+    ensures { AllStand src.entry.signs src.entry.bytes.now work.now (names_of src.entry.signs src.entry.bytes.now t) result }
 {
     let p = t.inside;
     if t.kind == NAME {
-        return stands_at(src, g, work, p);
+        return stands_at(src, work, p);
     }
     if t.kind == QUOTE {
-        return quoted_stand(src, g, work, p);
+        return quoted_stand(src, work, p);
     }
     true
 }
 
 // The refusal of an operand that is one token: it is a name, quotes of at most 8 names, or the word IGNORE, and its names stand.
-fn weight_refusal(src: &[u8], g: Signs, work: &[u32], q: Spot, t: Tok) -> Option<Refusal>
-    requires at_in_bounds { (q.at ≤ length src.now) × TokenIs g src.now q t }
-    requires sound { Sound (key_at g src.now) (length src.now) work.now }
-    ensures { WeightRefused g src.now work.now (token_there g src.now q) (number_or_none result) }
+fn weight_refusal(src: Source, work: &[u32], q: Spot, t: Tok) -> Option<Refusal>
+    requires at_in_bounds { (q.at ≤ length src.bytes.now) × TokenIs src.signs src.bytes.now q t }
+    requires sound { Sound (key_at src.signs src.bytes.now) (length src.bytes.now) work.now }
+    ensures { WeightRefused src.entry.signs src.entry.bytes.now work.now (token_there src.entry.signs src.entry.bytes.now q) (number_or_none result) }
 {
     if t.kind == WORD {
-        return if word_is(src, g, q, b"IGNORE") {
+        return if word_is(src, q, b"IGNORE") {
             None
         } else {
             Some(Refusal::Malformed)
@@ -106,7 +106,7 @@ fn weight_refusal(src: &[u8], g: Signs, work: &[u32], q: Spot, t: Tok) -> Option
     if t.kind < NAME || QUOTE < t.kind {
         return Some(Refusal::Malformed);
     }
-    if !names_stand(src, g, work, t) {
+    if !names_stand(src, work, t) {
         return Some(Refusal::Unknown);
     }
     if t.names <= 8 {
@@ -117,21 +117,21 @@ fn weight_refusal(src: &[u8], g: Signs, work: &[u32], q: Spot, t: Tok) -> Option
 }
 
 // The refusal of an operand that is one token, and of that token wherever it stands.
-fn one_refusal(src: &[u8], g: Signs, work: &[u32], q: Spot, t: Tok) -> Option<Refusal>
-    requires at_in_bounds { (q.at ≤ length src.now) × TokenIs g src.now q t }
-    requires sound { Sound (key_at g src.now) (length src.now) work.now }
-    ensures { OneRefused g src.now work.now (token_there g src.now q) (number_or_none result) }
+fn one_refusal(src: Source, work: &[u32], q: Spot, t: Tok) -> Option<Refusal>
+    requires at_in_bounds { (q.at ≤ length src.bytes.now) × TokenIs src.signs src.bytes.now q t }
+    requires sound { Sound (key_at src.signs src.bytes.now) (length src.bytes.now) work.now }
+    ensures { OneRefused src.entry.signs src.entry.bytes.now work.now (token_there src.entry.signs src.entry.bytes.now q) (number_or_none result) }
 {
-    lower_of(t.refusal, weight_refusal(src, g, work, q, t))
+    lower_of(t.refusal, weight_refusal(src, work, q, t))
 }
 
 // The refusal of the next operand.
-fn next_refusal(src: &[u8], g: Signs, work: &[u32], p: Spot) -> Turn
-    requires at_in_bounds { (p.at ≤ length src.now) × (p.mode ≡ in_plain) }
-    requires sound { Sound (key_at g src.now) (length src.now) work.now }
-    ensures { TurnIs g src.now work.now p result }
+fn next_refusal(src: Source, work: &[u32], p: Spot) -> Turn
+    requires at_in_bounds { (p.at ≤ length src.bytes.now) × (p.mode ≡ in_plain) }
+    requires sound { Sound (key_at src.signs src.bytes.now) (length src.bytes.now) work.now }
+    ensures { TurnIs src.entry.signs src.entry.bytes.now work.now p result }
 {
-    match next_weight(src, g, p) {
+    match next_weight(src, p) {
         Weight::Bad => Turn::Bad,
         Weight::Empty(more, d) => if more {
             Turn::More(None, d)
@@ -139,7 +139,7 @@ fn next_refusal(src: &[u8], g: Signs, work: &[u32], p: Spot) -> Turn
             Turn::Last(None)
         },
         Weight::One(q, t, more, d) => {
-            let f = one_refusal(src, g, work, q, t);
+            let f = one_refusal(src, work, q, t);
             if more {
                 Turn::More(f, d)
             } else {
@@ -150,16 +150,16 @@ fn next_refusal(src: &[u8], g: Signs, work: &[u32], p: Spot) -> Turn
 }
 
 // The lowest refusal of the operands still to come, at least one, and how many there are.
-fn weights_left(src: &[u8], g: Signs, work: &[u32], p: Spot) -> Counted
-    requires at_in_bounds { (p.at ≤ length src.now) × (p.mode ≡ in_plain) }
-    requires sound { Sound (key_at g src.now) (length src.now) work.now }
-    ensures { Counts g src.now work.now (operands_left g src.now false p) (split_at [] (operands_left g src.now false p)) result }
+fn weights_left(src: Source, work: &[u32], p: Spot) -> Counted
+    requires at_in_bounds { (p.at ≤ length src.bytes.now) × (p.mode ≡ in_plain) }
+    requires sound { Sound (key_at src.signs src.bytes.now) (length src.bytes.now) work.now }
+    ensures { Counts src.entry.signs src.entry.bytes.now work.now (operands_left src.entry.signs src.entry.bytes.now false p) (split_at [] (operands_left src.entry.signs src.entry.bytes.now false p)) result }
 {
     let mut q = p;
     let mut refusal = None;
     let mut n: usize = 0;
     loop {
-        match next_refusal(src, g, work, q) {
+        match next_refusal(src, work, q) {
             Turn::More(f, d) => {
                 refusal = lower_of(refusal, f);
                 n += 1;
@@ -182,21 +182,21 @@ fn weights_left(src: &[u8], g: Signs, work: &[u32], p: Spot) -> Counted
 }
 
 // The lowest refusal of an order line's operands and how many there are, from the spot after the line's subject on.
-pub fn weights_refusal(src: &[u8], g: Signs, work: &[u32], p: Spot) -> Counted
-    requires at_in_bounds { (p.at ≤ length src.now) × (p.mode ≡ in_plain) }
-    requires sound { Sound (key_at g src.now) (length src.now) work.now }
-    ensures { Counts g src.now work.now (operands (tokens_left g src.now p)) (operand_list (operands (tokens_left g src.now p))) result }
+pub fn weights_refusal(src: Source, work: &[u32], p: Spot) -> Counted
+    requires at_in_bounds { (p.at ≤ length src.bytes.now) × (p.mode ≡ in_plain) }
+    requires sound { Sound (key_at src.signs src.bytes.now) (length src.bytes.now) work.now }
+    ensures { Counts src.entry.signs src.entry.bytes.now work.now (operands (tokens_left src.entry.signs src.entry.bytes.now p)) (operand_list (operands (tokens_left src.entry.signs src.entry.bytes.now p))) result }
 {
-    match after_first(src, g, p) {
+    match after_first(src, p) {
         After::None => NO_OPERANDS,
         After::Broken => Counted {
             refusal: Some(Refusal::Malformed),
             operands: 0,
         },
-        After::Operands(x) => if none_left(src, g, x, false) {
+        After::Operands(x) => if none_left(src, x, false) {
             NO_OPERANDS
         } else {
-            weights_left(src, g, work, x)
+            weights_left(src, work, x)
         },
     }
 }

@@ -7,7 +7,7 @@ ghost use Rattle.text_tokens.specs.Left.{tokens_left};
 ghost use Rattle.locale_toggle.specs.Named.{set_to, MayName, ToggledIs};
 
 use base_units::Refusal;
-use text_lines::{Signs, Spot};
+use text_lines::{Source, Spot};
 use text_operands::single_word;
 use work_toggles::{is_on, toggle_refusal, turn};
 
@@ -32,25 +32,24 @@ fn set_to(set: Set, was: bool) -> bool
 
 // The toggle that a line names, from the spot after the line's first word on.
 pub fn name_toggle(
-    src: &[u8],
-    g: Signs,
+    src: Source,
     work: &mut [u32],
     base: usize,
     n: usize,
     p: Spot,
     set: Set,
 ) -> Result<(bool, usize), Refusal>
-    requires { MayName g src.now work.old base n p }
-    ensures { ToggledIs g src.now work.old work.new base n (operands (tokens_left g src.now p)) set result }
+    requires { MayName src.signs src.bytes.now work.old base n p }
+    ensures { ToggledIs src.entry.signs src.entry.bytes.now work.old work.new base n (operands (tokens_left src.entry.signs src.entry.bytes.now p)) set result }
 {
-    let Some(q) = single_word(src, g, p) else {
+    let Some(q) = single_word(src, p) else {
         return Err(Refusal::Malformed);
     };
-    if let Some(refusal) = toggle_refusal(src, g, work, base, n, q) {
+    if let Some(refusal) = toggle_refusal(src, work, base, n, q) {
         return Err(refusal);
     }
-    let was = is_on(src, g, work, base, n, q);
+    let was = is_on(src, work, base, n, q);
     let on = set_to(set, was);
-    let m = turn(src, g, work, base, n, q.at, on);
+    let m = turn(src, work, base, n, q.at, on);
     Ok((was, m))
 }

@@ -5,7 +5,7 @@ ghost use Rattle.std.specs.Prelude.{◌≡◌, ◌≤◌, length};
 ghost use Rattle.rules.specs.Lines.{in_plain};
 ghost use Rattle.locale_weights.specs.Weights.{TailIs, WeightIs};
 
-use text_lines::{IN_NAME, IN_PLAIN, Signs, Spot};
+use text_lines::{IN_NAME, IN_PLAIN, Source, Spot};
 use text_operands::{Operand, next_operand};
 use text_tokens::{SEMI, Tok, end_of_name, named, plain_at};
 
@@ -27,11 +27,11 @@ pub enum Tail {
 }
 
 // What follows a token, glued: one that is no separator.
-fn after_token(src: &[u8], g: Signs, p: Spot, glued: bool) -> Tail
-    requires { (p.at ≤ length src.now) × (p.mode ≡ in_plain) }
-    ensures { TailIs g src.now glued p result }
+fn after_token(src: Source, p: Spot, glued: bool) -> Tail
+    requires { (p.at ≤ length src.bytes.now) × (p.mode ≡ in_plain) }
+    ensures { TailIs src.entry.signs src.entry.bytes.now glued p result }
 {
-    match next_operand(src, g, p, glued) {
+    match next_operand(src, p, glued) {
         Operand::End => Tail::Last,
         Operand::Broken => Tail::Bad,
         Operand::Token(_, t) => {
@@ -46,27 +46,27 @@ fn after_token(src: &[u8], g: Signs, p: Spot, glued: bool) -> Tail
 
 // The operand that begins at a spot, up to the next `;` or the end. Most are a name with a `;` or the line's LF right behind it: those are told
 // by one byte before and one behind.
-pub fn next_weight(src: &[u8], g: Signs, p: Spot) -> Weight
-    requires { (p.at ≤ length src.now) × (p.mode ≡ in_plain) }
-    ensures { WeightIs g src.now p result }
+pub fn next_weight(src: Source, p: Spot) -> Weight
+    requires { (p.at ≤ length src.bytes.now) × (p.mode ≡ in_plain) }
+    ensures { WeightIs src.entry.signs src.entry.bytes.now p result }
 {
     let at = p.at;
-    if plain_at(src, g, at) == 60 {
+    if plain_at(src, at) == 60 {
         let q = Spot {
             at: at + 1,
             mode: IN_NAME,
             fresh: false,
         };
-        let Some((f, r)) = end_of_name(src, g, q) else {
+        let Some((f, r)) = end_of_name(src, q) else {
             return Weight::Bad;
         };
         let t = named(f, q, r);
         let e = r.at;
-        if e < src.len() {
-            if src[e] == 10 {
+        if e < src.bytes.len() {
+            if src.bytes[e] == 10 {
                 return Weight::One(p, t, false, r);
             }
-            if plain_at(src, g, e) == 59 {
+            if plain_at(src, e) == 59 {
                 return Weight::One(
                     p,
                     t,
@@ -80,15 +80,15 @@ pub fn next_weight(src: &[u8], g: Signs, p: Spot) -> Weight
             }
         }
     }
-    any_weight(src, g, p)
+    any_weight(src, p)
 }
 
 // The same by the next operand and what follows it.
-fn any_weight(src: &[u8], g: Signs, p: Spot) -> Weight
-    requires { (p.at ≤ length src.now) × (p.mode ≡ in_plain) }
-    ensures { WeightIs g src.now p result }
+fn any_weight(src: Source, p: Spot) -> Weight
+    requires { (p.at ≤ length src.bytes.now) × (p.mode ≡ in_plain) }
+    ensures { WeightIs src.entry.signs src.entry.bytes.now p result }
 {
-    match next_operand(src, g, p, false) {
+    match next_operand(src, p, false) {
         Operand::End => Weight::Empty(false, p),
         Operand::Broken => Weight::Bad,
         Operand::Token(q, t) => {
@@ -96,7 +96,7 @@ fn any_weight(src: &[u8], g: Signs, p: Spot) -> Weight
             if t.kind == SEMI {
                 return Weight::Empty(true, e);
             }
-            match after_token(src, g, e, t.kind >= 3) {
+            match after_token(src, e, t.kind >= 3) {
                 Tail::Last => Weight::One(q, t, false, e),
                 Tail::Bad => Weight::Bad,
                 Tail::More(d) => Weight::One(q, t, true, d),

@@ -11,7 +11,7 @@ ghost use Rattle.table_items.specs.Filling.{Fillable, Filled};
 
 use table_records::write_item;
 use table_weights::measure_item;
-use text_lines::Signs;
+use text_lines::Source;
 use work_order::{CHARS_NUMBER, LINE_NUMBER, NEXT_NUMBER, Order};
 use work_rows::told;
 use work_store::undefined_mark;
@@ -55,14 +55,13 @@ fn least_line(work: &[u32], mark: usize, ranked: bool, line: usize) -> usize
 // The items and weights of all order lines, once each has its rank. The lines stand in the order of their ranks, so all are passed to find the
 // one that was written first.
 pub fn measure_lines(
-    src: &[u8],
-    g: Signs,
+    src: Source,
     work: &[u32],
     o: Order,
     levels: usize,
 ) -> Result<(usize, usize), usize>
-    requires { LinesReady g src.now work.now o levels }
-    ensures { SumsAre g src.now work.now o levels result }
+    requires { LinesReady src.signs src.bytes.now work.now o levels }
+    ensures { SumsAre src.entry.signs src.entry.bytes.now work.now o levels result }
 {
     let mut v = o.first;
     let mut items: usize = 0;
@@ -70,10 +69,10 @@ pub fn measure_lines(
     let mut whole = true;
     let mut line: usize = 0;
     for _ in 0..o.count {
-        let m = measure_item(src, g, work, v, levels);
+        let m = measure_item(src, work, v, levels);
         whole &= m.ranked;
         line = least_line(work, v, m.ranked, line);
-        if is_item(src, work, v) {
+        if is_item(src.bytes, work, v) {
             items += 1;
             weights += m.weights;
         }
@@ -89,8 +88,7 @@ pub fn measure_lines(
 // The items in the order of their lines, written: their ends, counted from base, from a place on, their characters from another, their weights from
 // base on.
 pub fn write_items(
-    src: &[u8],
-    g: Signs,
+    src: Source,
     work: &[u32],
     o: Order,
     levels: usize,
@@ -99,16 +97,16 @@ pub fn write_items(
     from: usize,
     base: usize,
 )
-    requires { Fillable g src.now work.now o levels area.old slots from base }
-    ensures { Filled g src.now work.now o levels area.old slots from base area.new }
+    requires { Fillable src.signs src.bytes.now work.now o levels area.old slots from base }
+    ensures { Filled src.entry.signs src.entry.bytes.now work.now o levels area.old slots from base area.new }
 {
     let mut v = o.first;
     let mut slot = slots;
     let mut place = from;
     let mut next = base;
     for _ in 0..o.count {
-        if is_item(src, work, v) {
-            next = write_item(src, g, work, v, levels, area, slot, place, base, next);
+        if is_item(src.bytes, work, v) {
+            next = write_item(src, work, v, levels, area, slot, place, base, next);
             slot += levels;
             place += 4;
         }

@@ -11,7 +11,7 @@ ghost use Rattle.table_weights.specs.Reading.{NextIs, InQuotes, Measures, quote_
 
 use base_units::Rank;
 use locale_weights::{Weight, next_weight};
-use text_lines::{IN_PLAIN, Signs, Spot};
+use text_lines::{IN_PLAIN, Source, Spot};
 use text_names::next_name;
 use text_operands::{After, after_first};
 use text_tokens::{NAME, QUOTE, Tok};
@@ -52,41 +52,41 @@ pub struct Measured {
 }
 
 // The rank of what the name at a spot inside it means: 0 for what has no order line.
-pub fn rank_at(src: &[u8], g: Signs, work: &[u32], p: Spot) -> Rank
-    requires at_in_bounds { (p.at ≤ length src.now) × (is_inside p.mode ≡ true) }
-    requires sound { Sound (key_at g src.now) (length src.now) work.now }
-    ensures { RankIs (key_at g src.now) (length src.now) work.now (subject_left g src.now p) result.0 }
+pub fn rank_at(src: Source, work: &[u32], p: Spot) -> Rank
+    requires at_in_bounds { (p.at ≤ length src.bytes.now) × (is_inside p.mode ≡ true) }
+    requires sound { Sound (key_at src.signs src.bytes.now) (length src.bytes.now) work.now }
+    ensures { RankIs (key_at src.entry.signs src.entry.bytes.now) (length src.entry.bytes.now) work.now (subject_left src.entry.signs src.entry.bytes.now p) result.0 }
 {
-    match find(src, g, work, 2 * p.at) {
+    match find(src, work, 2 * p.at) {
         Some(v) => Rank(told(work, v, RANK_NUMBER)),
         None => Rank(0),
     }
 }
 
 // The rank of the next name in quotes, from a spot in them outside names.
-pub fn next_rank(src: &[u8], g: Signs, work: &[u32], p: Spot) -> Option<(Rank, Spot)>
-    requires at_in_bounds { (p.at ≤ length src.now) × (p.mode ≡ quoted) }
-    requires sound { Sound (key_at g src.now) (length src.now) work.now }
-    ensures { NextIs g src.now work.now p result }
+pub fn next_rank(src: Source, work: &[u32], p: Spot) -> Option<(Rank, Spot)>
+    requires at_in_bounds { (p.at ≤ length src.bytes.now) × (p.mode ≡ quoted) }
+    requires sound { Sound (key_at src.signs src.bytes.now) (length src.bytes.now) work.now }
+    ensures { NextIs src.entry.signs src.entry.bytes.now work.now p result }
 {
-    let Some(q) = next_name(src, g, p) else {
+    let Some(q) = next_name(src, p) else {
         return None;
     };
-    let r = rank_at(src, g, work, q);
-    let e = after_name(src, g, q);
+    let r = rank_at(src, work, q);
+    let e = after_name(src, q);
     Some((r, e))
 }
 
 // The weights that the names in quotes are.
-fn measure_quotes(src: &[u8], g: Signs, work: &[u32], p: Spot) -> Measured
-    requires in_quotes { InQuotes g src.now p }
-    requires sound { Sound (key_at g src.now) (length src.now) work.now }
-    ensures { Measures (key_at g src.now) (length src.now) work.now (quote_ranks g src.now p) result }
+fn measure_quotes(src: Source, work: &[u32], p: Spot) -> Measured
+    requires in_quotes { InQuotes src.signs src.bytes.now p }
+    requires sound { Sound (key_at src.signs src.bytes.now) (length src.bytes.now) work.now }
+    ensures { Measures (key_at src.entry.signs src.entry.bytes.now) (length src.entry.bytes.now) work.now (quote_ranks src.entry.signs src.entry.bytes.now p) result }
 {
     let mut q = p;
     let mut weights: usize = 0;
     let mut ranked = true;
-    while let Some((r, e)) = next_rank(src, g, work, q) {
+    while let Some((r, e)) = next_rank(src, work, q) {
         ranked &= r.0 >= 1;
         weights += 1;
         q = e;
@@ -106,12 +106,12 @@ fn part_of(t: Tok) -> Part
 }
 
 // The operand of the next level; where there is none any more, the line itself.
-pub fn next_part(src: &[u8], g: Signs, c: Cursor) -> Turn
-    requires { Ahead g src.now c }
-    ensures { TurnIs g src.now c result }
+pub fn next_part(src: Source, c: Cursor) -> Turn
+    requires { Ahead src.signs src.bytes.now c }
+    ensures { TurnIs src.entry.signs src.entry.bytes.now c result }
 {
     if c.more {
-        let w = next_weight(src, g, c.at);
+        let w = next_weight(src, c.at);
         match w {
             Weight::Empty(more, at) => Turn {
                 part: Part::Own, // an empty operand
@@ -136,17 +136,17 @@ pub fn next_part(src: &[u8], g: Signs, c: Cursor) -> Turn
 }
 
 // The first operand of an order line, from the place after its subject on.
-pub fn first_part(src: &[u8], g: Signs, place: usize) -> Cursor
-    requires place_in_bounds { place ≤ length src.now }
-    requires weighed { Weighed (line_operands g src.now place) }
-    ensures { Starts g src.now place result }
+pub fn first_part(src: Source, place: usize) -> Cursor
+    requires place_in_bounds { place ≤ length src.bytes.now }
+    requires weighed { Weighed (line_operands src.signs src.bytes.now place) }
+    ensures { Starts src.entry.signs src.entry.bytes.now place result }
 {
     let p = Spot {
         at: place,
         mode: IN_PLAIN,
         fresh: false,
     };
-    let a = after_first(src, g, p);
+    let a = after_first(src, p);
     match a {
         After::Operands(at) => Cursor { more: true, at },
         After::None => Cursor { more: false, at: p },
@@ -156,10 +156,10 @@ pub fn first_part(src: &[u8], g: Signs, place: usize) -> Cursor
 }
 
 // The weights of one operand.
-fn measure_part(src: &[u8], g: Signs, work: &[u32], part: Part, own: Rank) -> Measured
-    requires part_fits { PartFits g src.now part }
-    requires sound { Sound (key_at g src.now) (length src.now) work.now }
-    ensures { Measures (key_at g src.now) (length src.now) work.now (part_ranks g src.now own.0 part) result }
+fn measure_part(src: Source, work: &[u32], part: Part, own: Rank) -> Measured
+    requires part_fits { PartFits src.signs src.bytes.now part }
+    requires sound { Sound (key_at src.signs src.bytes.now) (length src.bytes.now) work.now }
+    ensures { Measures (key_at src.entry.signs src.entry.bytes.now) (length src.entry.bytes.now) work.now (part_ranks src.entry.signs src.entry.bytes.now own.0 part) result }
 {
     match part {
         Part::Own => Measured {
@@ -171,35 +171,28 @@ fn measure_part(src: &[u8], g: Signs, work: &[u32], part: Part, own: Rank) -> Me
             ranked: true,
         },
         Part::One(p) => {
-            let r = rank_at(src, g, work, p);
+            let r = rank_at(src, work, p);
             Measured {
                 weights: 1,
                 ranked: r.0 >= 1,
             }
         }
-        Part::Quotes(p) => measure_quotes(src, g, work, p),
+        Part::Quotes(p) => measure_quotes(src, work, p),
     }
 }
 
 // The weights of an order line, from the place after its subject on: own is its own rank.
-fn measure_line(
-    src: &[u8],
-    g: Signs,
-    work: &[u32],
-    place: usize,
-    levels: usize,
-    own: Rank,
-) -> Measured
-    requires readable { Readable g src.now place levels }
-    requires sound { Sound (key_at g src.now) (length src.now) work.now }
-    ensures { MeasuresLine g src.now work.now place levels own.0 result }
+fn measure_line(src: Source, work: &[u32], place: usize, levels: usize, own: Rank) -> Measured
+    requires readable { Readable src.signs src.bytes.now place levels }
+    requires sound { Sound (key_at src.signs src.bytes.now) (length src.bytes.now) work.now }
+    ensures { MeasuresLine src.entry.signs src.entry.bytes.now work.now place levels own.0 result }
 {
-    let mut c = first_part(src, g, place);
+    let mut c = first_part(src, place);
     let mut weights: usize = 0;
     let mut ranked = true;
     for _ in 0..levels {
-        let t = next_part(src, g, c);
-        let m = measure_part(src, g, work, t.part, own);
+        let t = next_part(src, c);
+        let m = measure_part(src, work, t.part, own);
         weights += m.weights;
         ranked &= m.ranked;
         c = t.next;
@@ -208,12 +201,12 @@ fn measure_line(
 }
 
 // The weights of the order line of a mark, from the numbers of its row on.
-pub fn measure_item(src: &[u8], g: Signs, work: &[u32], mark: usize, levels: usize) -> Measured
-    requires row_ready { RowReady g src.now work.now mark levels }
-    requires sound { Sound (key_at g src.now) (length src.now) work.now }
-    ensures { MeasuresItem g src.now work.now mark levels result }
+pub fn measure_item(src: Source, work: &[u32], mark: usize, levels: usize) -> Measured
+    requires row_ready { RowReady src.signs src.bytes.now work.now mark levels }
+    requires sound { Sound (key_at src.signs src.bytes.now) (length src.bytes.now) work.now }
+    ensures { MeasuresItem src.entry.signs src.entry.bytes.now work.now mark levels result }
 {
     let place = told(work, mark, PLACE_NUMBER) as usize;
     let own = Rank(told(work, mark, RANK_NUMBER));
-    measure_line(src, g, work, place, levels, own)
+    measure_line(src, work, place, levels, own)
 }

@@ -14,7 +14,7 @@ use locale_sheet::Sheet;
 use table_items::write_items;
 use table_layout::{ends_at, mask_for, rules_part, weights_part};
 use table_listing::list_items;
-use text_lines::{IN_PLAIN, Signs, Spot};
+use text_lines::{IN_PLAIN, Source, Spot};
 
 // How many items there are, with UNDEFINED where it is supplied.
 fn all_items(items: usize, supplied: bool) -> usize
@@ -120,16 +120,15 @@ fn supply(
 
 // The front of a table, and the rules that stand at a place.
 fn write_head(
-    src: &[u8],
-    g: Signs,
+    src: Source,
     place: usize,
     levels: usize,
     items: usize,
     weights: usize,
     area: &mut [u32],
 )
-    requires { HeadFits g src.now place levels items weights area.old }
-    ensures { area.new ≡ sets (sets area.old 0 (front_numbers levels items weights)) (rules_part levels items) (map rule_number (rules_at g src.now place)) }
+    requires { HeadFits src.signs src.bytes.now place levels items weights area.old }
+    ensures { area.new ≡ sets (sets area.old 0 (front_numbers levels items weights)) (rules_part levels items) (map rule_number (rules_at src.entry.signs src.entry.bytes.now place)) }
 {
     write_front(area, narrow(levels), narrow(items), narrow(weights));
     let p = Spot {
@@ -138,13 +137,12 @@ fn write_head(
         fresh: false,
     };
     let at = rules_part(levels, items);
-    write_rules(src, g, p, area, at);
+    write_rules(src, p, area, at);
 }
 
 // All numbers of the table but its listing and its starts.
 fn write_table(
-    src: &[u8],
-    g: Signs,
+    src: Source,
     work: &[u32],
     sh: Sheet,
     items: usize,
@@ -152,16 +150,16 @@ fn write_table(
     supplied: bool,
     area: &mut [u32],
 )
-    requires { Buildable g src.now work.now sh items weights supplied area.old }
-    ensures { Tabled g src.now work.now sh items weights supplied area.old area.new }
+    requires { Buildable src.signs src.bytes.now work.now sh items weights supplied area.old }
+    ensures { Tabled src.entry.signs src.entry.bytes.now work.now sh items weights supplied area.old area.new }
 {
     let levels = sh.levels;
     let all = all_items(items, supplied);
     let sum = all_weights(levels, weights, supplied);
-    write_head(src, g, sh.rules, levels, all, sum, area);
+    write_head(src, sh.rules, levels, all, sum, area);
     let chars = ends_at(levels, all);
     let base = weights_part(levels, all);
-    write_items(src, g, work, sh.order, levels, area, 16, chars, base);
+    write_items(src, work, sh.order, levels, area, 16, chars, base);
     if supplied {
         supply(area, levels, items, weights, sh.order.count, chars, base);
         return;
@@ -170,8 +168,7 @@ fn write_table(
 
 // The table of a source, once each order line has its rank; the work area is used up.
 pub fn build_table(
-    src: &[u8],
-    g: Signs,
+    src: Source,
     work: &mut [u32],
     sh: Sheet,
     items: usize,
@@ -179,10 +176,10 @@ pub fn build_table(
     supplied: bool,
     area: &mut [u32],
 )
-    requires { Buildable g src.now work.old sh items weights supplied area.old }
-    ensures { Built g src.now work.old sh items weights supplied area.old area.new }
+    requires { Buildable src.signs src.bytes.now work.old sh items weights supplied area.old }
+    ensures { Built src.entry.signs src.entry.bytes.now work.old sh items weights supplied area.old area.new }
 {
-    write_table(src, g, &work[..], sh, items, weights, supplied, area);
+    write_table(src, &work[..], sh, items, weights, supplied, area);
     let all = all_items(items, supplied);
     let mut buf = [0u32; 16384];
     list_items(area, sh.levels, all, work, &mut buf);

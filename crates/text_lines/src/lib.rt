@@ -30,6 +30,13 @@ pub struct Signs {
     pub escape: u8,
 }
 
+// A source, and the comment and the escape character in force in it.
+#[derive(Clone, Copy)]
+pub struct Source<'a> {
+    pub bytes: &'a [u8],
+    pub signs: Signs,
+}
+
 // A place in the middle of a line: between two marks, in one of the modes above, at the line's first byte or after a blank.
 #[derive(Clone, Copy)]
 pub struct Spot {
@@ -95,15 +102,22 @@ pub fn is_text(m: u16) -> bool
     (32..=126).contains(&b) || b == 9
 }
 
+// A byte as a mark: below 256, where a byte is known by its place alone.
+fn mark_of(b: u8) -> u16
+    ensures { (result ≡ b) × (result < 256) }
+{
+    u16::from(b)
+}
+
 // What an escape at a spot and the byte after it give.
-fn escaped(src: &[u8], g: Signs, p: Spot) -> Item
-    requires { EscapeAt g src.now p }
-    ensures { ItemIs g src.now p result }
+fn escaped(src: Source, p: Spot) -> Item
+    requires { EscapeAt src.signs src.bytes.now p }
+    ensures { ItemIs src.entry.signs src.entry.bytes.now p result }
 {
     let next = p.at + 1;
-    if next >= src.len() {
+    if next >= src.bytes.len() {
         return Item::Mark(
-            512 + u16::from(g.escape),
+            512 + mark_of(src.signs.escape),
             Spot {
                 at: next,
                 mode: p.mode,
@@ -111,7 +125,7 @@ fn escaped(src: &[u8], g: Signs, p: Spot) -> Item
             },
         );
     }
-    let b = src[next];
+    let b = src.bytes[next];
     if b == b'\n' {
         return Item::Join(Spot {
             at: p.at + 2,
@@ -121,7 +135,7 @@ fn escaped(src: &[u8], g: Signs, p: Spot) -> Item
     }
     let offset = if p.mode == IN_PLAIN { 512 } else { 256 };
     Item::Mark(
-        offset + u16::from(b),
+        offset + mark_of(b),
         Spot {
             at: p.at + 2,
             mode: p.mode,
@@ -131,14 +145,14 @@ fn escaped(src: &[u8], g: Signs, p: Spot) -> Item
 }
 
 // What stands next in a line.
-fn next_item(src: &[u8], g: Signs, p: Spot) -> Item
-    requires { p.at ≤ length src.now }
-    ensures { ItemIs g src.now p result }
+fn next_item(src: Source, p: Spot) -> Item
+    requires { p.at ≤ length src.bytes.now }
+    ensures { ItemIs src.entry.signs src.entry.bytes.now p result }
 {
-    if p.at >= src.len() {
+    if p.at >= src.bytes.len() {
         return Item::End(p.at, 0);
     }
-    let b = src[p.at];
+    let b = src.bytes[p.at];
     let next = p.at + 1;
     if b == b'\n' {
         return Item::End(next, 1);
@@ -150,10 +164,10 @@ fn next_item(src: &[u8], g: Signs, p: Spot) -> Item
             fresh: p.fresh,
         });
     }
-    if b == g.escape {
-        return escaped(src, g, p);
+    if b == src.signs.escape {
+        return escaped(src, p);
     }
-    if opens(p.mode, p.fresh, b, g.comment) {
+    if opens(p.mode, p.fresh, b, src.signs.comment) {
         return Item::Hidden(Spot {
             at: next,
             mode: IN_COMMENT,
@@ -161,7 +175,7 @@ fn next_item(src: &[u8], g: Signs, p: Spot) -> Item
         });
     }
     Item::Mark(
-        u16::from(b),
+        mark_of(b),
         Spot {
             at: next,
             mode: mode_after(p.mode, b),
@@ -171,13 +185,13 @@ fn next_item(src: &[u8], g: Signs, p: Spot) -> Item
 }
 
 // The next mark of a line: joins are passed, and a comment ends the marks.
-pub fn next_mark(src: &[u8], g: Signs, p: Spot) -> Option<(u16, Spot)>
-    requires { p.at ≤ length src.now }
-    ensures { StepIs g src.now p result }
+pub fn next_mark(src: Source, p: Spot) -> Option<(u16, Spot)>
+    requires { p.at ≤ length src.bytes.now }
+    ensures { StepIs src.entry.signs src.entry.bytes.now p result }
 {
     let mut q = p;
     loop {
-        match next_item(src, g, q) {
+        match next_item(src, q) {
             Item::Mark(m, r) => return Some((m, r)),
             Item::Join(r) => q = r,
             Item::Hidden(_) => return None,
@@ -263,18 +277,17 @@ fn dull_to(src: &[u8], escape: u8, at: usize, mode: u8, fresh: bool) -> usize
 }
 
 // The end of a line, from a spot on.
-pub fn line_end(src: &[u8], g: Signs, p: Spot) -> LineEnd
-    requires { p.at ≤ length src.now }
-    ensures { LineIs g src.now p result }
+pub fn line_end(src: Source, p: Spot) -> LineEnd
+    requires { p.at ≤ length src.bytes.now }
+    ensures { LineIs src.entry.signs src.entry.bytes.now p result }
 {
     let mut q = p;
     let mut feeds: usize = 0;
     let mut text = true;
     loop {
-        let at = dull_to(src, g.escape, q.at, q.mode, q.fresh);
+        let at = dull_to(src.bytes, src.signs.escape, q.at, q.mode, q.fresh);
         match next_item(
             src,
-            g,
             Spot {
                 at,
                 mode: q.mode,

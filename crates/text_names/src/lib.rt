@@ -9,7 +9,7 @@ ghost use Rattle.text_names.specs.Shape.{number_of_shape, stands_in, stands_at, 
 ghost use Rattle.text_names.specs.Packed.{PackedIs, Begun, PutIs, PackedOn};
 
 use base_units::CodePoint;
-use text_lines::{IN_NAME, QUOTED_NAME, Signs, Spot, next_mark};
+use text_lines::{IN_NAME, QUOTED_NAME, Source, Spot, next_mark};
 use text_tokens::{NameStep, is_visible, name_byte};
 
 // What a name's bytes make: its hash, and whether it can be declared.
@@ -20,11 +20,11 @@ pub struct Pack {
 }
 
 // The next byte of a name, with the spot after it; none where the name ends, or its line does.
-fn next_byte(src: &[u8], g: Signs, p: Spot) -> Option<(u8, Spot)>
-    requires { p.at ≤ length src.now }
-    ensures { ByteIs g src.now p result }
+fn next_byte(src: Source, p: Spot) -> Option<(u8, Spot)>
+    requires { p.at ≤ length src.bytes.now }
+    ensures { ByteIs src.entry.signs src.entry.bytes.now p result }
 {
-    match name_byte(src, g, p) {
+    match name_byte(src, p) {
         NameStep::Byte(b, q) => Some((b, q)),
         NameStep::Close(_) => None,
         NameStep::Open => None,
@@ -32,18 +32,18 @@ fn next_byte(src: &[u8], g: Signs, p: Spot) -> Option<(u8, Spot)>
 }
 
 // Whether a name has these bytes.
-pub fn name_is(src: &[u8], g: Signs, p: Spot, w: &[u8]) -> bool
-    requires { p.at ≤ length src.now }
-    ensures { result ≡ same (name_left g src.now p) w.now }
+pub fn name_is(src: Source, p: Spot, w: &[u8]) -> bool
+    requires { p.at ≤ length src.bytes.now }
+    ensures { result ≡ same (name_left src.entry.signs src.entry.bytes.now p) w.now }
 {
     let mut q = p;
     for &b in w {
-        match next_byte(src, g, q) {
+        match next_byte(src, q) {
             Some((a, r)) if a == b => q = r,
             _ => return false,
         }
     }
-    next_byte(src, g, q).is_none()
+    next_byte(src, q).is_none()
 }
 
 fn is_inside(mode: u8) -> bool
@@ -96,14 +96,14 @@ fn made(n: usize, x: u32) -> Option<CodePoint>
 }
 
 // The code that the bytes of a name make from a spot on, behind its U.
-fn digits(src: &[u8], g: Signs, p: Spot) -> Option<CodePoint>
-    requires { p.at ≤ length src.now }
-    ensures { DigitsAre (name_left g src.now p) result }
+fn digits(src: Source, p: Spot) -> Option<CodePoint>
+    requires { p.at ≤ length src.bytes.now }
+    ensures { DigitsAre (name_left src.entry.signs src.entry.bytes.now p) result }
 {
     let mut q = p;
     let mut n: usize = 0;
     let mut x: u32 = 0;
-    while let Some((b, r)) = next_byte(src, g, q) {
+    while let Some((b, r)) = next_byte(src, q) {
         let d = hex(b);
         if n >= 8 {
             return None;
@@ -119,12 +119,12 @@ fn digits(src: &[u8], g: Signs, p: Spot) -> Option<CodePoint>
 }
 
 // The code of a name that is shaped as a character, byte by byte.
-fn slow_char(src: &[u8], g: Signs, p: Spot) -> Option<CodePoint>
-    requires { p.at ≤ length src.now }
-    ensures { CodeIs (name_left g src.now p) result }
+fn slow_char(src: Source, p: Spot) -> Option<CodePoint>
+    requires { p.at ≤ length src.bytes.now }
+    ensures { CodeIs (name_left src.entry.signs src.entry.bytes.now p) result }
 {
-    let (b, q) = next_byte(src, g, p)?;
-    if b == b'U' { digits(src, g, q) } else { None }
+    let (b, q) = next_byte(src, p)?;
+    if b == b'U' { digits(src, q) } else { None }
 }
 
 // What six bytes say of a name that begins with them: that it asks for a closer look; that it is no character; that it is one, with its code.
@@ -182,27 +182,27 @@ fn shape_at(src: &[u8], escape: u8, at: usize) -> Shape
 }
 
 // The code of a name that is shaped as a character, from a spot inside it.
-fn char_inside(src: &[u8], g: Signs, p: Spot) -> Option<CodePoint>
-    requires at_in_bounds { p.at ≤ length src.now }
+fn char_inside(src: Source, p: Spot) -> Option<CodePoint>
+    requires at_in_bounds { p.at ≤ length src.bytes.now }
     requires mode_value { is_inside p.mode ≡ true }
-    ensures { CodeIs (name_left g src.now p) result }
+    ensures { CodeIs (name_left src.entry.signs src.entry.bytes.now p) result }
 {
-    match shape_at(src, g.escape, p.at) {
-        Shape::Unclear => slow_char(src, g, p),
+    match shape_at(src.bytes, src.signs.escape, p.at) {
+        Shape::Unclear => slow_char(src, p),
         Shape::Other => None,
         Shape::Code(c) => Some(CodePoint(c)),
     }
 }
 
 // The code of a name that is shaped as a character.
-pub fn name_char(src: &[u8], g: Signs, p: Spot) -> Option<CodePoint>
-    requires { p.at ≤ length src.now }
-    ensures { CodeIs (name_left g src.now p) result }
+pub fn name_char(src: Source, p: Spot) -> Option<CodePoint>
+    requires { p.at ≤ length src.bytes.now }
+    ensures { CodeIs (name_left src.entry.signs src.entry.bytes.now p) result }
 {
     if is_inside(p.mode) {
-        char_inside(src, g, p)
+        char_inside(src, p)
     } else {
-        slow_char(src, g, p)
+        slow_char(src, p)
     }
 }
 
@@ -243,16 +243,16 @@ fn put(key: &mut [u32], n: usize, b: u8) -> usize
 }
 
 // The rest of a name from a spot on, behind n bytes (33: it cannot be declared) that make h.
-fn pack_from(src: &[u8], g: Signs, p: Spot, key: &mut [u32], before: usize, passed: usize) -> Pack
-    requires at_in_bounds { p.at ≤ length src.now }
+fn pack_from(src: Source, p: Spot, key: &mut [u32], before: usize, passed: usize) -> Pack
+    requires at_in_bounds { p.at ≤ length src.bytes.now }
     requires begun { Begun key.old passed }
     requires before_bound { before < 16777216 }
-    ensures { PackedOn (name_left g src.now p) key.old before passed key.new result }
+    ensures { PackedOn (name_left src.entry.signs src.entry.bytes.now p) key.old before passed key.new result }
 {
     let mut q = p;
     let mut h = before;
     let mut n = passed;
-    while let Some((b, r)) = next_byte(src, g, q) {
+    while let Some((b, r)) = next_byte(src, q) {
         n = put(key, n, b);
         h = mixed(h, b);
         q = r;
@@ -264,18 +264,18 @@ fn pack_from(src: &[u8], g: Signs, p: Spot, key: &mut [u32], before: usize, pass
 }
 
 // A name in its numbers, from a spot inside it: bytes that stand are taken one after the other, and any other goes the long way.
-fn pack_inside(src: &[u8], g: Signs, p: Spot, key: &mut [u32]) -> Pack
-    requires at_in_bounds { p.at ≤ length src.now }
+fn pack_inside(src: Source, p: Spot, key: &mut [u32]) -> Pack
+    requires at_in_bounds { p.at ≤ length src.bytes.now }
     requires mode_value { is_inside p.mode ≡ true }
     requires key_value { key.old ≡ replicate 8 0 }
-    ensures { PackedIs (name_left g src.now p) key.new result }
+    ensures { PackedIs (name_left src.entry.signs src.entry.bytes.now p) key.new result }
 {
     let mut at = p.at;
     let mut fresh = p.fresh;
     let mut h: usize = 0;
     let mut n: usize = 0;
-    while stands_at(src, g.escape, at) {
-        let b = src[at];
+    while stands_at(src.bytes, src.signs.escape, at) {
+        let b = src.bytes[at];
         if b == b'>' {
             return Pack {
                 hash: h,
@@ -289,7 +289,6 @@ fn pack_inside(src: &[u8], g: Signs, p: Spot, key: &mut [u32]) -> Pack
     }
     pack_from(
         src,
-        g,
         Spot {
             at,
             mode: p.mode,
@@ -302,26 +301,26 @@ fn pack_inside(src: &[u8], g: Signs, p: Spot, key: &mut [u32]) -> Pack
 }
 
 // A name in its numbers, and its hash.
-pub fn pack_name(src: &[u8], g: Signs, p: Spot, key: &mut [u32]) -> Pack
-    requires at_in_bounds { p.at ≤ length src.now }
+pub fn pack_name(src: Source, p: Spot, key: &mut [u32]) -> Pack
+    requires at_in_bounds { p.at ≤ length src.bytes.now }
     requires key_value { key.old ≡ replicate 8 0 }
-    ensures { PackedIs (name_left g src.now p) key.new result }
+    ensures { PackedIs (name_left src.entry.signs src.entry.bytes.now p) key.new result }
 {
     if is_inside(p.mode) {
-        pack_inside(src, g, p, key)
+        pack_inside(src, p, key)
     } else {
-        pack_from(src, g, p, key, 0, 0)
+        pack_from(src, p, key, 0, 0)
     }
 }
 
 // The next name in quotes, from a spot in them outside names.
-pub fn next_name(src: &[u8], g: Signs, p: Spot) -> Option<Spot>
-    requires { p.at ≤ length src.now }
-    ensures { NamedIs g src.now p result }
+pub fn next_name(src: Source, p: Spot) -> Option<Spot>
+    requires { p.at ≤ length src.bytes.now }
+    ensures { NamedIs src.entry.signs src.entry.bytes.now p result }
 {
     let mut q = p;
     loop {
-        let (m, r) = next_mark(src, g, q)?;
+        let (m, r) = next_mark(src, q)?;
         match m {
             34 => return None,
             60 => return Some(r),

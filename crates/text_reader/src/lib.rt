@@ -5,7 +5,7 @@
 ghost use Rattle.std.specs.Prelude.{◌≡◌, ◌+◌, ◌^◌, ◌≤◌, ◌<◌, length, leb};
 ghost use Rattle.text_lines.specs.Stream.{line_start, LineIs};
 
-use text_lines::{IN_PLAIN, LineEnd, Signs, Spot, line_end};
+use text_lines::{IN_PLAIN, LineEnd, Signs, Source, Spot, line_end};
 
 // The source, the place in it where the present line begins, and the number of that line.
 #[derive(Clone, Copy)]
@@ -23,16 +23,16 @@ fn is_end(src: &[u8], at: usize) -> bool
 }
 
 // The line that begins at a place: the place after it, its LFs, and whether it holds only text outside comments.
-fn line_from(src: &[u8], g: Signs, at: usize) -> LineEnd
-    requires { at ≤ length src.now }
-    ensures { LineIs g src.now (line_start at) result }
+fn line_from(src: Source, at: usize) -> LineEnd
+    requires { at ≤ length src.bytes.now }
+    ensures { LineIs src.entry.signs src.entry.bytes.now (line_start at) result }
 {
     let start = Spot {
         at,
         mode: IN_PLAIN,
         fresh: true,
     };
-    line_end(src, g, start)
+    line_end(src, start)
 }
 
 // A reader at a place of a source, where a line of this number begins.
@@ -68,7 +68,13 @@ pub fn line<'a>(r: Reader<'a>, g: Signs) -> LineEnd
     requires { r.at ≤ length r.src.now }
     ensures { LineIs g r.entry.src.now (line_start r.entry.at) result }
 {
-    line_from(r.src, g, r.at)
+    line_from(
+        Source {
+            bytes: r.src,
+            signs: g,
+        },
+        r.at,
+    )
 }
 
 // The reader after the present line, which ends so.
@@ -84,9 +90,9 @@ pub fn past<'a>(r: Reader<'a>, e: LineEnd) -> Reader<'a>
 }
 
 // The line that begins at a place, whatever its number is, for who holds no reader.
-pub fn line_at(src: &[u8], g: Signs, at: usize) -> LineEnd
-    requires { at ≤ length src.now }
-    ensures { LineIs g src.now (line_start at) result }
+pub fn line_at(src: Source, at: usize) -> LineEnd
+    requires { at ≤ length src.bytes.now }
+    ensures { LineIs src.entry.signs src.entry.bytes.now (line_start at) result }
 {
-    line(reader_at(src, at, 0), g)
+    line(reader_at(src.bytes, at, 0), src.signs)
 }

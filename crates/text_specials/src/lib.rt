@@ -9,7 +9,7 @@ ghost use Rattle.text_lines.specs.Stream.{marks_left};
 ghost use Rattle.text_tokens.specs.Left.{word_in};
 ghost use Rattle.text_specials.specs.Signed.{Visible, SignIs, WordIs, FoundIs, KeywordAt, Opened};
 
-use text_lines::{IN_PLAIN, Signs, Spot, is_blank, line_end, next_mark};
+use text_lines::{IN_PLAIN, Source, Spot, is_blank, line_end, next_mark};
 use text_tokens::{end_of_word, skip_gaps, word_is};
 
 // The two characters in force, and which of the two lines has stood.
@@ -100,13 +100,13 @@ pub enum Keyword {
 }
 
 // Which keyword stands at a spot.
-fn keyword_at(src: &[u8], g: Signs, p: Spot) -> Keyword
-    requires { p.at ≤ length src.now }
-    ensures { WordIs (word_in (marks_left g src.now p)) result }
+fn keyword_at(src: Source, p: Spot) -> Keyword
+    requires { p.at ≤ length src.bytes.now }
+    ensures { WordIs (word_in (marks_left src.entry.signs src.entry.bytes.now p)) result }
 {
-    if word_is(src, g, p, b"comment_char") {
+    if word_is(src, p, b"comment_char") {
         Keyword::Comment
-    } else if word_is(src, g, p, b"escape_char") {
+    } else if word_is(src, p, b"escape_char") {
         Keyword::Escape
     } else {
         Keyword::Neither
@@ -128,27 +128,20 @@ pub fn after_blanks(src: &[u8], at: usize) -> Option<(u8, usize)>
 }
 
 // The byte that is taken as it stands, from the spot after the keyword and one blank on.
-fn byte_from(
-    src: &[u8],
-    g: Signs,
-    at: usize,
-    x: Spot,
-    comment: bool,
-) -> Option<(bool, u8, usize, Spot)>
-    requires { Opened g src.now at x comment }
-    ensures { SignIs g src.now at result }
+fn byte_from(src: Source, at: usize, x: Spot, comment: bool) -> Option<(bool, u8, usize, Spot)>
+    requires { Opened src.signs src.bytes.now at x comment }
+    ensures { SignIs src.entry.signs src.entry.bytes.now at result }
 {
-    let (b, i) = after_blanks(src, x.at)?;
+    let (b, i) = after_blanks(src.bytes, x.at)?;
     let a = line_end(
         src,
-        g,
         Spot {
             at,
             mode: IN_PLAIN,
             fresh: true,
         },
     );
-    let d = line_end(src, g, x);
+    let d = line_end(src, x);
     let rest = Spot {
         at: i + 1,
         mode: IN_PLAIN,
@@ -158,40 +151,33 @@ fn byte_from(
 }
 
 // A line that the keyword opens.
-fn keyword_line(
-    src: &[u8],
-    g: Signs,
-    at: usize,
-    q: Spot,
-    comment: bool,
-) -> Option<(bool, u8, usize, Spot)>
-    requires { KeywordAt g src.now at q comment }
-    ensures { SignIs g src.now at result }
+fn keyword_line(src: Source, at: usize, q: Spot, comment: bool) -> Option<(bool, u8, usize, Spot)>
+    requires { KeywordAt src.signs src.bytes.now at q comment }
+    ensures { SignIs src.entry.signs src.entry.bytes.now at result }
 {
-    let r = end_of_word(src, g, q);
-    match next_mark(src, g, r) {
-        Some((32 | 9, x)) => byte_from(src, g, at, x, comment),
+    let r = end_of_word(src, q);
+    match next_mark(src, r) {
+        Some((32 | 9, x)) => byte_from(src, at, x, comment),
         _ => None,
     }
 }
 
 // What a line outside every category is, from its first place on.
-pub fn sign_line(src: &[u8], g: Signs, at: usize) -> Option<(bool, u8, usize, Spot)>
-    requires { (at ≤ length src.now) × Visible g }
-    ensures { SignIs g src.now at result }
+pub fn sign_line(src: Source, at: usize) -> Option<(bool, u8, usize, Spot)>
+    requires { (at ≤ length src.bytes.now) × Visible src.signs }
+    ensures { SignIs src.entry.signs src.entry.bytes.now at result }
 {
     let q = skip_gaps(
         src,
-        g,
         Spot {
             at,
             mode: IN_PLAIN,
             fresh: true,
         },
     );
-    match keyword_at(src, g, q) {
-        Keyword::Comment => keyword_line(src, g, at, q, true),
-        Keyword::Escape => keyword_line(src, g, at, q, false),
+    match keyword_at(src, q) {
+        Keyword::Comment => keyword_line(src, at, q, true),
+        Keyword::Escape => keyword_line(src, at, q, false),
         Keyword::Neither => None,
     }
 }

@@ -1,7 +1,7 @@
 // The tokens of a line, read from a spot on with nothing kept.
 #![tactic(auto)]
 
-ghost use Rattle.std.specs.Prelude.{◌≡◌, true, ◌&&◌, ◌≤◌, length, leb};
+ghost use Rattle.std.specs.Prelude.{◌<◌, get_or, ◌≡◌, true, ◌&&◌, ◌≤◌, length, leb};
 ghost use Rattle.rules.specs.Text.{◌unless◌, lower, same};
 ghost use Rattle.rules.specs.Names.{is_visible};
 ghost use Rattle.rules.specs.Tokens.{in_word};
@@ -11,7 +11,7 @@ ghost use Rattle.base_units.specs.Numbers.{number_or_none};
 ghost use Rattle.text_tokens.specs.Left.{word_in, is_inside, is_plain, PlainTo, PlainAt, WordStepIs, WordEnds, CopiesWord, NameStepIs, ClosingAfter, ClosingIs, QuotesIs, bare_at, named_at, NextIs, Skips, RestIs};
 
 use base_units::{Refusal, lower_of};
-use text_lines::{IN_NAME, IN_PLAIN, Signs, Spot, next_mark};
+use text_lines::{IN_NAME, IN_PLAIN, Source, Spot, next_mark};
 
 // A token of blanks.
 const GAP: u8 = 0;
@@ -69,22 +69,22 @@ fn in_word(m: u16) -> bool
 }
 
 // The next byte of a word.
-pub fn word_byte(src: &[u8], g: Signs, p: Spot) -> Option<(u8, Spot)>
-    requires { p.at ≤ length src.now }
-    ensures { WordStepIs g src.now p result }
+pub fn word_byte(src: Source, p: Spot) -> Option<(u8, Spot)>
+    requires { p.at ≤ length src.bytes.now }
+    ensures { WordStepIs src.entry.signs src.entry.bytes.now p result }
 {
-    let (m, q) = next_mark(src, g, p)?;
+    let (m, q) = next_mark(src, p)?;
     if in_word(m) { Some((m as u8, q)) } else { None }
 }
 
 // The word at a spot, copied to the front of an area, or as much of it as the area takes: how many bytes that is.
-pub fn copy_word(src: &[u8], g: Signs, p: Spot, area: &mut [u8]) -> usize
-    requires { p.at ≤ length src.now }
-    ensures { CopiesWord (word_in (marks_left g src.now p)) area.old area.new result }
+pub fn copy_word(src: Source, p: Spot, area: &mut [u8]) -> usize
+    requires { p.at ≤ length src.bytes.now }
+    ensures { CopiesWord (word_in (marks_left src.entry.signs src.entry.bytes.now p)) area.old area.new result }
 {
     let mut q = p;
     for i in 0..area.len() {
-        let Some((b, r)) = word_byte(src, g, q) else {
+        let Some((b, r)) = word_byte(src, q) else {
             return i;
         };
         area[i] = b;
@@ -94,38 +94,38 @@ pub fn copy_word(src: &[u8], g: Signs, p: Spot, area: &mut [u8]) -> usize
 }
 
 // The spot after a word that goes on.
-pub fn end_of_word(src: &[u8], g: Signs, p: Spot) -> Spot
-    requires { (p.at ≤ length src.now) × (p.mode ≡ in_plain) }
-    ensures { WordEnds g src.now p result }
+pub fn end_of_word(src: Source, p: Spot) -> Spot
+    requires { (p.at ≤ length src.bytes.now) × (p.mode ≡ in_plain) }
+    ensures { WordEnds src.entry.signs src.entry.bytes.now p result }
 {
     let mut q = p;
-    while let Some((_, r)) = word_byte(src, g, q) {
+    while let Some((_, r)) = word_byte(src, q) {
         q = r;
     }
     q
 }
 
 // Whether a word is this one.
-pub fn word_is(src: &[u8], g: Signs, p: Spot, w: &[u8]) -> bool
-    requires { p.at ≤ length src.now }
-    ensures { result ≡ same (word_in (marks_left g src.now p)) w.now }
+pub fn word_is(src: Source, p: Spot, w: &[u8]) -> bool
+    requires { p.at ≤ length src.bytes.now }
+    ensures { result ≡ same (word_in (marks_left src.entry.signs src.entry.bytes.now p)) w.now }
 {
     let mut q = p;
     for &b in w {
-        match word_byte(src, g, q) {
+        match word_byte(src, q) {
             Some((a, r)) if a == b => q = r,
             _ => return false,
         }
     }
-    word_byte(src, g, q).is_none()
+    word_byte(src, q).is_none()
 }
 
 // The next byte of a name.
-pub fn name_byte(src: &[u8], g: Signs, p: Spot) -> NameStep
-    requires { p.at ≤ length src.now }
-    ensures { NameStepIs g src.now p result }
+pub fn name_byte(src: Source, p: Spot) -> NameStep
+    requires { p.at ≤ length src.bytes.now }
+    ensures { NameStepIs src.entry.signs src.entry.bytes.now p result }
 {
-    match next_mark(src, g, p) {
+    match next_mark(src, p) {
         None => NameStep::Open,
         Some((62, q)) => NameStep::Close(q),
         Some((m, q)) => NameStep::Byte((m % 256) as u8, q),
@@ -174,15 +174,15 @@ fn plain_to(src: &[u8], escape: u8, at: usize) -> usize
 }
 
 // The end of a name, from a spot inside it that so many visible bytes of the name stand before.
-fn end_from(src: &[u8], g: Signs, p: Spot, before: usize) -> Option<(Option<Refusal>, Spot)>
-    requires { (p.at ≤ length src.now) × (is_inside p.mode ≡ true) × (before ≤ p.at) }
-    ensures { ClosingAfter before g src.now p result }
+fn end_from(src: Source, p: Spot, before: usize) -> Option<(Option<Refusal>, Spot)>
+    requires { (p.at ≤ length src.bytes.now) × (is_inside p.mode ≡ true) × (before ≤ p.at) }
+    ensures { ClosingAfter before src.entry.signs src.entry.bytes.now p result }
 {
     let mut q = p;
     let mut n: usize = 0;
     let mut visible = true;
     loop {
-        match name_byte(src, g, q) {
+        match name_byte(src, q) {
             NameStep::Byte(b, r) => {
                 n += 1;
                 visible = visible && is_visible(b);
@@ -196,16 +196,16 @@ fn end_from(src: &[u8], g: Signs, p: Spot, before: usize) -> Option<(Option<Refu
 
 // The end of a name, in quotes or not, from a spot inside it. Most names are plain bytes up to their `>`: they are passed as bytes, and what
 // stands elsewhere is read mark by mark.
-pub fn end_of_name(src: &[u8], g: Signs, p: Spot) -> Option<(Option<Refusal>, Spot)>
-    requires { (p.at ≤ length src.now) × (is_inside p.mode ≡ true) }
-    ensures { ClosingIs g src.now p result }
+pub fn end_of_name(src: Source, p: Spot) -> Option<(Option<Refusal>, Spot)>
+    requires { (p.at ≤ length src.bytes.now) × (is_inside p.mode ≡ true) }
+    ensures { ClosingIs src.entry.signs src.entry.bytes.now p result }
 {
-    let at = plain_to(src, g.escape, p.at);
+    let at = plain_to(src.bytes, src.signs.escape, p.at);
     if at == p.at {
-        return end_from(src, g, p, 0);
+        return end_from(src, p, 0);
     }
     let n = at - p.at;
-    if at < src.len() && src[at] == b'>' && g.escape != b'>' {
+    if at < src.bytes.len() && src.bytes[at] == b'>' && src.signs.escape != b'>' {
         let next = Spot {
             at: at + 1,
             mode: p.mode - 1,
@@ -218,23 +218,23 @@ pub fn end_of_name(src: &[u8], g: Signs, p: Spot) -> Option<(Option<Refusal>, Sp
         mode: p.mode,
         fresh: false,
     };
-    end_from(src, g, q, n)
+    end_from(src, q, n)
 }
 
 // The end of quotes, from the spot after the opening `"`.
-fn end_of_quotes(src: &[u8], g: Signs, p: Spot) -> Option<(usize, Option<Refusal>, Spot)>
-    requires { (p.at ≤ length src.now) × (p.mode ≡ quoted) }
-    ensures { QuotesIs g src.now p result }
+fn end_of_quotes(src: Source, p: Spot) -> Option<(usize, Option<Refusal>, Spot)>
+    requires { (p.at ≤ length src.bytes.now) × (p.mode ≡ quoted) }
+    ensures { QuotesIs src.entry.signs src.entry.bytes.now p result }
 {
     let mut q = p;
     let mut n: usize = 0;
     let mut refusal = None;
     loop {
-        let (m, r) = next_mark(src, g, q)?;
+        let (m, r) = next_mark(src, q)?;
         match m {
             34 => return Some((n, refusal, r)),
             60 => {
-                let (f, e) = end_of_name(src, g, r)?;
+                let (f, e) = end_of_name(src, r)?;
                 refusal = lower_of(refusal, f);
                 n += 1;
                 q = e;
@@ -272,15 +272,23 @@ pub fn named(refusal: Option<Refusal>, inside: Spot, next: Spot) -> Tok
     }
 }
 
-// The byte at a place; 0 where it might be no mark of its own in plain mode: the end, an LF, an escape, the comment character.
-pub fn plain_at(src: &[u8], g: Signs, at: usize) -> u8
-    ensures { PlainAt g src.now at result }
+// The byte at a place, below 256, where a byte is known by its place alone.
+fn byte_at(bytes: &[u8], at: usize) -> u8
+    requires { at < length bytes.now }
+    ensures { (result ≡ get_or bytes.now at 0) × (result < 256) }
 {
-    if at >= src.len() {
+    bytes[at]
+}
+
+// The byte at a place; 0 where it might be no mark of its own in plain mode: the end, an LF, an escape, the comment character.
+pub fn plain_at(src: Source, at: usize) -> u8
+    ensures { PlainAt src.entry.signs src.entry.bytes.now at result }
+{
+    if at >= src.bytes.len() {
         return 0;
     }
-    let b = src[at];
-    if b == g.escape || b == g.comment || b == b'\n' {
+    let b = byte_at(src.bytes, at);
+    if b == src.signs.escape || b == src.signs.comment || b == b'\n' {
         0
     } else {
         b
@@ -288,19 +296,19 @@ pub fn plain_at(src: &[u8], g: Signs, at: usize) -> u8
 }
 
 // The next token of a line, at a spot where none is open. A name and a `;` are told by one byte, anything else by the next mark.
-pub fn next_token(src: &[u8], g: Signs, p: Spot) -> Next
-    requires { (p.at ≤ length src.now) × (p.mode ≡ in_plain) }
-    ensures { NextIs g src.now p result }
+pub fn next_token(src: Source, p: Spot) -> Next
+    requires { (p.at ≤ length src.bytes.now) × (p.mode ≡ in_plain) }
+    ensures { NextIs src.entry.signs src.entry.bytes.now p result }
 {
     let at = p.at;
-    match plain_at(src, g, at) {
+    match plain_at(src, at) {
         b'<' => {
             let q = Spot {
                 at: at + 1,
                 mode: IN_NAME,
                 fresh: false,
             };
-            match end_of_name(src, g, q) {
+            match end_of_name(src, q) {
                 Some((f, r)) => Next::Token(named(f, q, r)),
                 None => Next::Broken,
             }
@@ -313,24 +321,24 @@ pub fn next_token(src: &[u8], g: Signs, p: Spot) -> Next
                 fresh: false,
             },
         )),
-        _ => any_token(src, g, p),
+        _ => any_token(src, p),
     }
 }
 
 // The same by the next mark.
-fn any_token(src: &[u8], g: Signs, p: Spot) -> Next
-    requires { (p.at ≤ length src.now) × (p.mode ≡ in_plain) }
-    ensures { NextIs g src.now p result }
+fn any_token(src: Source, p: Spot) -> Next
+    requires { (p.at ≤ length src.bytes.now) × (p.mode ≡ in_plain) }
+    ensures { NextIs src.entry.signs src.entry.bytes.now p result }
 {
-    let Some((m, q)) = next_mark(src, g, p) else {
+    let Some((m, q)) = next_mark(src, p) else {
         return Next::End;
     };
     match m {
-        60 => match end_of_name(src, g, q) {
+        60 => match end_of_name(src, q) {
             Some((f, r)) => Next::Token(named(f, q, r)),
             None => Next::Broken,
         },
-        34 => match end_of_quotes(src, g, q) {
+        34 => match end_of_quotes(src, q) {
             Some((names, refusal, next)) if names > 0 => Next::Token(Tok {
                 kind: QUOTE,
                 next,
@@ -352,46 +360,46 @@ fn any_token(src: &[u8], g: Signs, p: Spot) -> Next
             refusal: Some(Refusal::Malformed),
             byte: (m - 512) as u8,
         }),
-        _ => Next::Token(bare(WORD, end_of_word(src, g, q))),
+        _ => Next::Token(bare(WORD, end_of_word(src, q))),
     }
 }
 
 // The spot after the blanks that come next. Most often there is none, or one, and a visible byte behind it.
-pub fn skip_gaps(src: &[u8], g: Signs, p: Spot) -> Spot
-    requires { (p.at ≤ length src.now) × (p.mode ≡ in_plain) }
-    ensures { Skips g src.now p result }
+pub fn skip_gaps(src: Source, p: Spot) -> Spot
+    requires { (p.at ≤ length src.bytes.now) × (p.mode ≡ in_plain) }
+    ensures { Skips src.entry.signs src.entry.bytes.now p result }
 {
     let at = p.at;
-    let b = plain_at(src, g, at);
+    let b = plain_at(src, at);
     if b > 32 {
         return p;
     }
-    if b == b' ' && plain_at(src, g, at + 1) > 32 {
+    if b == b' ' && plain_at(src, at + 1) > 32 {
         return Spot {
             at: at + 1,
             mode: IN_PLAIN,
             fresh: true,
         };
     }
-    skip_all(src, g, p)
+    skip_all(src, p)
 }
 
 // Whether nothing but blanks is left from a spot on.
-pub fn only_blanks(src: &[u8], g: Signs, p: Spot) -> bool
-    requires { (p.at ≤ length src.now) × (p.mode ≡ in_plain) }
-    ensures { RestIs g src.now p result }
+pub fn only_blanks(src: Source, p: Spot) -> bool
+    requires { (p.at ≤ length src.bytes.now) × (p.mode ≡ in_plain) }
+    ensures { RestIs src.entry.signs src.entry.bytes.now p result }
 {
-    let q = skip_gaps(src, g, p);
-    next_mark(src, g, q).is_none()
+    let q = skip_gaps(src, p);
+    next_mark(src, q).is_none()
 }
 
 // The same by the next marks.
-fn skip_all(src: &[u8], g: Signs, p: Spot) -> Spot
-    requires { (p.at ≤ length src.now) × (p.mode ≡ in_plain) }
-    ensures { Skips g src.now p result }
+fn skip_all(src: Source, p: Spot) -> Spot
+    requires { (p.at ≤ length src.bytes.now) × (p.mode ≡ in_plain) }
+    ensures { Skips src.entry.signs src.entry.bytes.now p result }
 {
     let mut q = p;
-    while let Some((32 | 9, r)) = next_mark(src, g, q) {
+    while let Some((32 | 9, r)) = next_mark(src, q) {
         q = r;
     }
     q

@@ -9,7 +9,7 @@ ghost use Rattle.work_subjects.specs.Keys.{key_at};
 ghost use Rattle.work_subjects.specs.Numbers.{kind_number, width_of};
 ghost use Rattle.work_store.specs.Store.{heads_of, undefined_mark, side_of, pointed, pointing, tag_in, tag_of, keeps, RunIs, Roomy, Sound, Finds, SomeSought, FindsAny, WayEnds, Written, Kept, Declares};
 
-use text_lines::Signs;
+use text_lines::Source;
 use work_subjects::{Kind, key_numbers};
 
 // The mark of UNDEFINED, whose row is the one behind those of a source of this length.
@@ -138,15 +138,15 @@ fn find_from(work: &[u32], kind: Kind, key: &[u32], h: usize) -> Option<usize>
 }
 
 // The mark of what was declared with the same key as stands at a mark.
-pub fn find(src: &[u8], g: Signs, work: &[u32], v: usize) -> Option<usize>
-    requires v_in_bounds { v / 2 ≤ length src.now }
-    requires sound { Sound (key_at g src.now) (length src.now) work.now }
-    ensures { Finds (key_at g src.now) (length src.now) work.now (key_at g src.now v) result }
+pub fn find(src: Source, work: &[u32], v: usize) -> Option<usize>
+    requires v_in_bounds { v / 2 ≤ length src.bytes.now }
+    requires sound { Sound (key_at src.signs src.bytes.now) (length src.bytes.now) work.now }
+    ensures { Finds (key_at src.entry.signs src.entry.bytes.now) (length src.entry.bytes.now) work.now (key_at src.entry.signs src.entry.bytes.now v) result }
 {
     let mut key: [u32; 8] = [0; 8];
-    let k = key_numbers(src, g, v, &mut key);
+    let k = key_numbers(src, v, &mut key);
     if k.plain {
-        find_from(work, k.kind, &key, chain(k.hash, src.len()))
+        find_from(work, k.kind, &key, chain(k.hash, src.bytes.len()))
     } else {
         None
     }
@@ -219,15 +219,15 @@ fn keep_key(work: &mut [u32], kind: Kind, row: usize, key: &[u32])
 }
 
 // Declares what stands at a mark, in a later row than all that is declared so far; the row before that of a name is later too.
-pub fn declare(src: &[u8], g: Signs, work: &mut [u32], v: usize)
-    requires v_in_bounds { v / 2 ≤ length src.now }
-    requires roomy { Roomy (length src.now) work.old }
-    ensures { Declares (key_at g src.now) (length src.now) work.old v work.new }
+pub fn declare(src: Source, work: &mut [u32], v: usize)
+    requires v_in_bounds { v / 2 ≤ length src.bytes.now }
+    requires roomy { Roomy (length src.bytes.now) work.old }
+    ensures { Declares (key_at src.entry.signs src.entry.bytes.now) (length src.entry.bytes.now) work.old v work.new }
 {
     let mut key: [u32; 8] = [0; 8];
-    let k = key_numbers(src, g, v, &mut key);
-    let h = chain(k.hash, src.len());
-    let slot = way_end(src.len() / 8 + 1, work, h, &key);
+    let k = key_numbers(src, v, &mut key);
+    let h = chain(k.hash, src.bytes.len());
+    let slot = way_end(src.bytes.len() / 8 + 1, work, h, &key);
     let row = v / 16;
     keep_key(work, k.kind, row, &key);
     new_row(work, row, tag_of(k.kind, v));

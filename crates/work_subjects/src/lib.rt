@@ -10,7 +10,7 @@ ghost use Rattle.work_subjects.specs.Keys.{name_spot, quote_spot, char_of, chars
 ghost use Rattle.work_subjects.specs.Numbers.{kind_number, narrow, squeezed, NumbersAre, CodePut};
 
 use base_units::CodePoint;
-use text_lines::{IN_NAME, QUOTED, Signs, Spot};
+use text_lines::{IN_NAME, QUOTED, Source, Spot};
 use text_names::{name_char, next_name, pack_name};
 use text_tokens::end_of_name;
 
@@ -63,22 +63,22 @@ fn quote_spot(v: usize) -> Spot
 }
 
 // The code of a name in quotes, 0 for one that is not shaped as a character.
-pub fn char_at(src: &[u8], g: Signs, p: Spot) -> CodePoint
-    requires { p.at ≤ length src.now }
-    ensures { result.0 ≡ char_of (name_left g src.now p) }
+pub fn char_at(src: Source, p: Spot) -> CodePoint
+    requires { p.at ≤ length src.bytes.now }
+    ensures { result.0 ≡ char_of (name_left src.entry.signs src.entry.bytes.now p) }
 {
-    name_char(src, g, p).unwrap_or(CodePoint(0))
+    name_char(src, p).unwrap_or(CodePoint(0))
 }
 
 // The spot after a name in quotes; after one that is left open, the source's end.
-pub fn after_name(src: &[u8], g: Signs, p: Spot) -> Spot
-    requires { (p.at ≤ length src.now) × (is_inside p.mode ≡ true) }
-    ensures { AfterName g src.now p result }
+pub fn after_name(src: Source, p: Spot) -> Spot
+    requires { (p.at ≤ length src.bytes.now) × (is_inside p.mode ≡ true) }
+    ensures { AfterName src.entry.signs src.entry.bytes.now p result }
 {
-    match end_of_name(src, g, p) {
+    match end_of_name(src, p) {
         Some((_, q)) => q,
         None => Spot {
-            at: src.len(),
+            at: src.bytes.len(),
             mode: QUOTED,
             fresh: false,
         },
@@ -86,12 +86,12 @@ pub fn after_name(src: &[u8], g: Signs, p: Spot) -> Spot
 }
 
 // The next character in quotes, from a spot in them outside names.
-pub fn next_char(src: &[u8], g: Signs, p: Spot) -> Option<(CodePoint, Spot)>
-    requires { (p.at ≤ length src.now) × (p.mode ≡ quoted) }
-    ensures { NextIs g src.now p result }
+pub fn next_char(src: Source, p: Spot) -> Option<(CodePoint, Spot)>
+    requires { (p.at ≤ length src.bytes.now) × (p.mode ≡ quoted) }
+    ensures { NextIs src.entry.signs src.entry.bytes.now p result }
 {
-    let q = next_name(src, g, p)?;
-    Some((char_at(src, g, q), after_name(src, g, q)))
+    let q = next_name(src, p)?;
+    Some((char_at(src, q), after_name(src, q)))
 }
 
 // The numbers of characters in quotes, of which n are passed, with one more; how many are passed then. None: they are too many, or one of them is none.
@@ -109,14 +109,14 @@ fn put_code(key: &mut [u32], n: Option<usize>, c: CodePoint) -> Option<usize>
 }
 
 // The numbers of the characters in quotes.
-fn chars_numbers(src: &[u8], g: Signs, p: Spot, key: &mut [u32]) -> Told
-    requires { (p.at ≤ length src.now) × (p.mode ≡ quoted) × (key.old ≡ replicate 8 0) }
-    ensures { NumbersAre (chars (chars_left g src.now p)) key.new result }
+fn chars_numbers(src: Source, p: Spot, key: &mut [u32]) -> Told
+    requires { (p.at ≤ length src.bytes.now) × (p.mode ≡ quoted) × (key.old ≡ replicate 8 0) }
+    ensures { NumbersAre (chars (chars_left src.entry.signs src.entry.bytes.now p)) key.new result }
 {
     let mut q = p;
     let mut n = Some(0);
     let mut h: usize = 0;
-    while let Some((c, r)) = next_char(src, g, q) {
+    while let Some((c, r)) = next_char(src, q) {
         n = put_code(key, n, c);
         h = (h * 10368889 + c.0 as usize) % 16777216;
         q = r;
@@ -165,14 +165,14 @@ fn code_numbers(x: CodePoint, key: &mut [u32]) -> Told
 }
 
 // The numbers of what the name at a spot means.
-fn subject_numbers(src: &[u8], g: Signs, p: Spot, key: &mut [u32]) -> Told
-    requires { (p.at ≤ length src.now) × (key.old ≡ replicate 8 0) }
-    ensures { NumbersAre (item (subject_left g src.now p)) key.new result }
+fn subject_numbers(src: Source, p: Spot, key: &mut [u32]) -> Told
+    requires { (p.at ≤ length src.bytes.now) × (key.old ≡ replicate 8 0) }
+    ensures { NumbersAre (item (subject_left src.entry.signs src.entry.bytes.now p)) key.new result }
 {
-    match name_char(src, g, p) {
+    match name_char(src, p) {
         Some(x) => code_numbers(x, key),
         None => {
-            let k = pack_name(src, g, p, key);
+            let k = pack_name(src, p, key);
             squeeze(key);
             Told {
                 hash: k.hash,
@@ -184,13 +184,13 @@ fn subject_numbers(src: &[u8], g: Signs, p: Spot, key: &mut [u32]) -> Told
 }
 
 // The numbers of what stands at a mark, its hash and kind, and whether it can be declared.
-pub fn key_numbers(src: &[u8], g: Signs, v: usize, key: &mut [u32]) -> Told
-    requires { (v / 2 ≤ length src.now) × (key.old ≡ replicate 8 0) }
-    ensures { NumbersAre (key_at g src.now v) key.new result }
+pub fn key_numbers(src: Source, v: usize, key: &mut [u32]) -> Told
+    requires { (v / 2 ≤ length src.bytes.now) × (key.old ≡ replicate 8 0) }
+    ensures { NumbersAre (key_at src.entry.signs src.entry.bytes.now v) key.new result }
 {
     if v % 2 == 0 {
-        subject_numbers(src, g, name_spot(v), key)
+        subject_numbers(src, name_spot(v), key)
     } else {
-        chars_numbers(src, g, quote_spot(v), key)
+        chars_numbers(src, quote_spot(v), key)
     }
 }

@@ -13,7 +13,7 @@ ghost use Rattle.work_toggles.specs.Candidates.{decision_for, takes, candidate, 
 ghost use Rattle.work_toggles.specs.Kept.{word_left, toggle_at, toggles_in, Kept, is_defined, stored_as, PlaceIs, Slot, ShapeIs, refusal_for, IsNew, Decides, MayTurn, Turned};
 
 use base_units::Refusal;
-use text_lines::{IN_PLAIN, Signs, Spot};
+use text_lines::{IN_PLAIN, Source, Spot};
 use text_tokens::{copy_word, word_byte};
 
 // Of a toggle's word: whether each byte may stand in one, and whether it is short enough.
@@ -31,22 +31,22 @@ pub struct Parting {
 }
 
 // Whether a word has no byte more.
-fn word_ends(src: &[u8], g: Signs, p: Spot) -> bool
-    requires { p.at ≤ length src.now }
-    ensures { result ≡ same [] (word_left g src.now p) }
+fn word_ends(src: Source, p: Spot) -> bool
+    requires { p.at ≤ length src.bytes.now }
+    ensures { result ≡ same [] (word_left src.entry.signs src.entry.bytes.now p) }
 {
-    word_byte(src, g, p).is_none()
+    word_byte(src, p).is_none()
 }
 
 // Whether the words at two spots have the same bytes.
-fn same_word(src: &[u8], g: Signs, p: Spot, q: Spot) -> bool
-    requires { (p.at ≤ length src.now) × (q.at ≤ length src.now) }
-    ensures { result ≡ same (word_left g src.now p) (word_left g src.now q) }
+fn same_word(src: Source, p: Spot, q: Spot) -> bool
+    requires { (p.at ≤ length src.bytes.now) × (q.at ≤ length src.bytes.now) }
+    ensures { result ≡ same (word_left src.entry.signs src.entry.bytes.now p) (word_left src.entry.signs src.entry.bytes.now q) }
 {
     let mut i = p;
     let mut j = q;
-    while let Some((a, k)) = word_byte(src, g, i) {
-        let Some((b, l)) = word_byte(src, g, j) else {
+    while let Some((a, k)) = word_byte(src, i) {
+        let Some((b, l)) = word_byte(src, j) else {
             return false;
         };
         if a != b {
@@ -55,7 +55,7 @@ fn same_word(src: &[u8], g: Signs, p: Spot, q: Spot) -> bool
         i = k;
         j = l;
     }
-    word_ends(src, g, j)
+    word_ends(src, j)
 }
 
 // Whether a toggle is defined.
@@ -86,11 +86,11 @@ fn spot_of(v: u32) -> Spot
 }
 
 // Whether the word at a spot is the toggle's.
-fn has_label(src: &[u8], g: Signs, v: u32, q: Spot) -> bool
-    requires { (v / 2 ≤ length src.now) × (q.at ≤ length src.now) }
-    ensures { result ≡ is_toggle (word_left g src.now q) (toggle_at g src.now v) }
+fn has_label(src: Source, v: u32, q: Spot) -> bool
+    requires { (v / 2 ≤ length src.bytes.now) × (q.at ≤ length src.bytes.now) }
+    ensures { result ≡ is_toggle (word_left src.entry.signs src.entry.bytes.now q) (toggle_at src.entry.signs src.entry.bytes.now v) }
 {
-    same_word(src, g, q, spot_of(v))
+    same_word(src, q, spot_of(v))
 }
 
 // Whether a decision takes the word away from toggle c.
@@ -117,22 +117,22 @@ fn candidate_among(word: &[u8], work: &[u32], from: usize, n: usize) -> usize
 }
 
 // The candidate of the word at a spot.
-fn candidate_of(src: &[u8], g: Signs, work: &[u32], from: usize, n: usize, q: Spot) -> usize
-    requires { (q.at ≤ length src.now) × (from + n ≤ length work.now) }
-    ensures { result ≡ candidate (word_left g src.now q) work.now from n }
+fn candidate_of(src: Source, work: &[u32], from: usize, n: usize, q: Spot) -> usize
+    requires { (q.at ≤ length src.bytes.now) × (from + n ≤ length work.now) }
+    ensures { result ≡ candidate (word_left src.entry.signs src.entry.bytes.now q) work.now from n }
 {
     let mut word = [0u8; 32];
-    copy_word(src, g, q, &mut word);
+    copy_word(src, q, &mut word);
     candidate_among(&word, work, from, n)
 }
 
 // The toggle whose word stands at a spot: its candidate, or none.
-fn find_toggle(src: &[u8], g: Signs, work: &[u32], base: usize, n: usize, q: Spot) -> Option<usize>
-    requires { Kept g src.now work.now base n × (q.at ≤ length src.now) }
-    ensures { PlaceIs (word_left g src.now q) (toggles_in g src.now work.now base n) result }
+fn find_toggle(src: Source, work: &[u32], base: usize, n: usize, q: Spot) -> Option<usize>
+    requires { Kept src.signs src.bytes.now work.now base n × (q.at ≤ length src.bytes.now) }
+    ensures { PlaceIs (word_left src.entry.signs src.entry.bytes.now q) (toggles_in src.entry.signs src.entry.bytes.now work.now base n) result }
 {
-    let c = candidate_of(src, g, work, base + 16, n, q);
-    if c < n && has_label(src, g, work[base + c], q) {
+    let c = candidate_of(src, work, base + 16, n, q);
+    if c < n && has_label(src, work[base + c], q) {
         Some(c)
     } else {
         None
@@ -140,30 +140,30 @@ fn find_toggle(src: &[u8], g: Signs, work: &[u32], base: usize, n: usize, q: Spo
 }
 
 // Whether a toggle of that word is known.
-fn knows(src: &[u8], g: Signs, work: &[u32], base: usize, n: usize, q: Spot) -> bool
-    requires { Kept g src.now work.now base n × (q.at ≤ length src.now) }
-    ensures { result ≡ one_of (is_toggle (word_left g src.now q)) (toggles_in g src.now work.now base n) }
+fn knows(src: Source, work: &[u32], base: usize, n: usize, q: Spot) -> bool
+    requires { Kept src.signs src.bytes.now work.now base n × (q.at ≤ length src.bytes.now) }
+    ensures { result ≡ one_of (is_toggle (word_left src.entry.signs src.entry.bytes.now q)) (toggles_in src.entry.signs src.entry.bytes.now work.now base n) }
 {
-    find_toggle(src, g, work, base, n, q).is_some()
+    find_toggle(src, work, base, n, q).is_some()
 }
 
 // Whether the toggle of that word is defined.
-pub fn is_on(src: &[u8], g: Signs, work: &[u32], base: usize, n: usize, q: Spot) -> bool
-    requires { Kept g src.now work.now base n × (q.at ≤ length src.now) }
-    ensures { result ≡ is_on (word_left g src.now q) (toggles_in g src.now work.now base n) }
+pub fn is_on(src: Source, work: &[u32], base: usize, n: usize, q: Spot) -> bool
+    requires { Kept src.signs src.bytes.now work.now base n × (q.at ≤ length src.bytes.now) }
+    ensures { result ≡ is_on (word_left src.entry.signs src.entry.bytes.now q) (toggles_in src.entry.signs src.entry.bytes.now work.now base n) }
 {
-    match find_toggle(src, g, work, base, n, q) {
+    match find_toggle(src, work, base, n, q) {
         Some(i) => is_defined(work[base + i]),
         None => false,
     }
 }
 
 // The place of the toggle of that word: its own, or the one after the last.
-fn slot_of(src: &[u8], g: Signs, work: &[u32], base: usize, n: usize, q: Spot) -> usize
-    requires { Kept g src.now work.now base n × (q.at ≤ length src.now) }
-    ensures { Slot (word_left g src.now q) (toggles_in g src.now work.now base n) result }
+fn slot_of(src: Source, work: &[u32], base: usize, n: usize, q: Spot) -> usize
+    requires { Kept src.signs src.bytes.now work.now base n × (q.at ≤ length src.bytes.now) }
+    ensures { Slot (word_left src.entry.signs src.entry.bytes.now q) (toggles_in src.entry.signs src.entry.bytes.now work.now base n) result }
 {
-    find_toggle(src, g, work, base, n, q).unwrap_or(n)
+    find_toggle(src, work, base, n, q).unwrap_or(n)
 }
 
 // The first place where two rooms of 32 bytes differ, if there is one.
@@ -180,14 +180,14 @@ fn first_difference(a: &[u8], b: &[u8]) -> usize
 }
 
 // Where the word at a spot differs from another, and its byte there.
-fn part_words(src: &[u8], g: Signs, p: Spot, q: Spot) -> Parting
-    requires { (p.at ≤ length src.now) × (q.at ≤ length src.now) }
-    ensures { Parts (word_left g src.now p) (word_left g src.now q) result }
+fn part_words(src: Source, p: Spot, q: Spot) -> Parting
+    requires { (p.at ≤ length src.bytes.now) × (q.at ≤ length src.bytes.now) }
+    ensures { Parts (word_left src.entry.signs src.entry.bytes.now p) (word_left src.entry.signs src.entry.bytes.now q) result }
 {
     let mut own = [0u8; 32];
     let mut other = [0u8; 32];
-    copy_word(src, g, p, &mut own);
-    copy_word(src, g, q, &mut other);
+    copy_word(src, p, &mut own);
+    copy_word(src, q, &mut other);
     let k = first_difference(&own, &other);
     Parting {
         at: k,
@@ -204,42 +204,34 @@ fn decision(c: usize, m: Parting) -> u32
 }
 
 // The decision for one more toggle, whose word stands at a spot: between it and its candidate among those before. The first needs none.
-fn decide(src: &[u8], g: Signs, work: &[u32], base: usize, n: usize, q: Spot) -> u32
-    requires { IsNew g src.now work.now base n q }
-    ensures { Decides g src.now work.now base n (word_left g src.now q) result }
+fn decide(src: Source, work: &[u32], base: usize, n: usize, q: Spot) -> u32
+    requires { IsNew src.signs src.bytes.now work.now base n q }
+    ensures { Decides src.entry.signs src.entry.bytes.now work.now base n (word_left src.entry.signs src.entry.bytes.now q) result }
 {
-    let c = candidate_of(src, g, work, base + 16, n, q);
+    let c = candidate_of(src, work, base + 16, n, q);
     if c < n {
-        decision(c, part_words(src, g, q, spot_of(work[base + c])))
+        decision(c, part_words(src, q, spot_of(work[base + c])))
     } else {
         0
     }
 }
 
 // The toggle whose word begins at a place is defined, or not, from now on. How many toggles there are then.
-pub fn turn(
-    src: &[u8],
-    g: Signs,
-    work: &mut [u32],
-    base: usize,
-    n: usize,
-    at: usize,
-    on: bool,
-) -> usize
-    requires { MayTurn g src.now work.old base n at }
-    ensures { Turned g src.now work.old work.new base n result at on }
+pub fn turn(src: Source, work: &mut [u32], base: usize, n: usize, at: usize, on: bool) -> usize
+    requires { MayTurn src.signs src.bytes.now work.old base n at }
+    ensures { Turned src.entry.signs src.entry.bytes.now work.old work.new base n result at on }
 {
     let q = Spot {
         at,
         mode: IN_PLAIN,
         fresh: true,
     };
-    let i = slot_of(src, g, work, base, n, q);
+    let i = slot_of(src, work, base, n, q);
     if i < n {
         work[base + i] = stored(at, on);
         return n;
     }
-    work[base + 16 + n] = decide(src, g, work, base, n, q);
+    work[base + 16 + n] = decide(src, work, base, n, q);
     work[base + n] = stored(at, on);
     n + 1
 }
@@ -252,14 +244,14 @@ fn is_toggle_byte(b: u8) -> bool
 }
 
 // What the word at a spot is like, as a toggle's.
-fn word_of_toggle(src: &[u8], g: Signs, p: Spot) -> Shape
-    requires { p.at ≤ length src.now }
-    ensures { ShapeIs (word_left g src.now p) result }
+fn word_of_toggle(src: Source, p: Spot) -> Shape
+    requires { p.at ≤ length src.bytes.now }
+    ensures { ShapeIs (word_left src.entry.signs src.entry.bytes.now p) result }
 {
     let mut q = p;
     let mut n: usize = 0;
     let mut clean = true;
-    while let Some((b, r)) = word_byte(src, g, q) {
+    while let Some((b, r)) = word_byte(src, q) {
         n += 1;
         clean = clean && is_toggle_byte(b);
         q = r;
@@ -271,25 +263,18 @@ fn word_of_toggle(src: &[u8], g: Signs, p: Spot) -> Shape
 }
 
 // The refusal of a line whose one operand is the word at a spot, as a toggle.
-pub fn toggle_refusal(
-    src: &[u8],
-    g: Signs,
-    work: &[u32],
-    base: usize,
-    n: usize,
-    q: Spot,
-) -> Option<Refusal>
-    requires { Kept g src.now work.now base n × (q.at ≤ length src.now) }
-    ensures { number_or_none result ≡ refusal_for (word_left g src.now q) (toggles_in g src.now work.now base n) }
+pub fn toggle_refusal(src: Source, work: &[u32], base: usize, n: usize, q: Spot) -> Option<Refusal>
+    requires { Kept src.signs src.bytes.now work.now base n × (q.at ≤ length src.bytes.now) }
+    ensures { number_or_none result ≡ refusal_for (word_left src.entry.signs src.entry.bytes.now q) (toggles_in src.entry.signs src.entry.bytes.now work.now base n) }
 {
-    let s = word_of_toggle(src, g, q);
+    let s = word_of_toggle(src, q);
     if !s.clean {
         return Some(Refusal::Malformed);
     }
     if !s.short {
         return Some(Refusal::TooMany);
     }
-    if n < 16 || knows(src, g, work, base, n, q) {
+    if n < 16 || knows(src, work, base, n, q) {
         None
     } else {
         Some(Refusal::TooMany)

@@ -5,7 +5,7 @@ use Rattle.charmap_entry.proofs.HeadLaws.{Clean}
 use Rattle.charmap_entry.proofs.name_text.Given as goal
 
 abbrev pub invariant-loop-b : goal.invariant-loop-b
-invariant-loop-b l = Clean l.g l.src l.initial.q l.q
+invariant-loop-b l = Clean l.src.signs l.src.bytes.now l.initial.q l.q
 
 abbrev pub decreases-loop-b : goal.decreases-loop-b
-decreases-loop-b l = length l.src - l.q.at
+decreases-loop-b l = length l.src.bytes.now - l.q.at

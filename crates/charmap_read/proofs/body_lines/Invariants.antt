@@ -6,8 +6,8 @@ use Rattle.charmap_read.specs.Read.{Reads}
 use Rattle.charmap_read.proofs.HoldsLaws.{Held}
 use Rattle.charmap_read.proofs.body_lines.Given as goal
 
-abbrev pub invariant-loop-g : goal.invariant-loop-g
-invariant-loop-g l = Held (Reads l.src l.fn.h l.fn.from l.fn.first l.area) l.src l.q.src.now l.q.at l.q.number
+abbrev pub invariant-loop-signs : goal.invariant-loop-signs
+invariant-loop-signs l = Held (Reads l.src l.fn.h l.fn.from l.fn.first l.area) l.src l.q.src.now l.q.at l.q.number
 
-abbrev pub decreases-loop-g : goal.decreases-loop-g
-decreases-loop-g l = length l.src - l.q.at
+abbrev pub decreases-loop-signs : goal.decreases-loop-signs
+decreases-loop-signs l = length l.src - l.q.at

@@ -6,7 +6,7 @@ use lib.ListN.{length}
 use Rattle.locale_elements.proofs.all_characters.Given as goal
 
 abbrev pub invariant-loop-i : goal.invariant-loop-i
-invariant-loop-i l = Passed l.g l.src l.initial.q l.q
+invariant-loop-i l = Passed l.src.signs l.src.bytes.now l.initial.q l.q
 
 abbrev pub decreases-loop-i : goal.decreases-loop-i
-decreases-loop-i l = length (names_in (marks_left l.g l.src l.q))
+decreases-loop-i l = length (names_in (marks_left l.src.signs l.src.bytes.now l.q))

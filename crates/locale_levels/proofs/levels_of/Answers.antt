@@ -10,7 +10,7 @@ pub returns-in-Broken : goal.returns-in-Broken
 returns-in-Broken c = search after-broken
 
 pub levels_left-requires : goal.levels_left-requires
-levels_left-requires c = after-plain c.args.g c.args.src.now c.args.p {a = c.after_first.result} c.after_first.ensures c.in-Operands.is
+levels_left-requires c = after-plain c.args.src.signs c.args.src.bytes.now c.args.p {a = c.after_first.result} c.after_first.ensures c.in-Operands.is
 
 pub returns-in-Operands : goal.returns-in-Operands
 returns-in-Operands c = search after-levels

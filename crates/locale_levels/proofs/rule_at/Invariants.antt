@@ -6,7 +6,7 @@ use Rattle.locale_levels.proofs.RuleLaws.{Begun}
 use Rattle.locale_levels.proofs.rule_at.Given as goal
 
 abbrev pub invariant-loop-r : goal.invariant-loop-r
-invariant-loop-r l = Begun l.g l.src l.initial.q l.q l.held (reading_number l.s)
+invariant-loop-r l = Begun l.src.signs l.src.bytes.now l.initial.q l.q l.held (reading_number l.s)
 
 abbrev pub decreases-loop-r : goal.decreases-loop-r
-decreases-loop-r l = length l.src - l.q.at
+decreases-loop-r l = length l.src.bytes.now - l.q.at

@@ -5,7 +5,7 @@ use Rattle.locale_levels.proofs.CountLaws.{Passed}
 use Rattle.locale_levels.proofs.rules_left.Given as goal
 
 abbrev pub invariant-loop-rule : goal.invariant-loop-rule
-invariant-loop-rule l = Passed l.g l.src l.initial.q l.q l.n l.known
+invariant-loop-rule l = Passed l.src.signs l.src.bytes.now l.initial.q l.q l.n l.known
 
 abbrev pub decreases-loop-rule : goal.decreases-loop-rule
-decreases-loop-rule l = length l.src - l.q.at
+decreases-loop-rule l = length l.src.bytes.now - l.q.at

@@ -6,7 +6,7 @@ use lib.ListN.{length}
 use Rattle.locale_outside.proofs.capitals.Given as goal
 
 abbrev pub invariant-loop-b : goal.invariant-loop-b
-invariant-loop-b l = InCapitals l.g l.src l.initial.q l.q l.n
+invariant-loop-b l = InCapitals l.src.signs l.src.bytes.now l.initial.q l.q l.n
 
 abbrev pub decreases-loop-b : goal.decreases-loop-b
-decreases-loop-b l = length l.src - l.q.at
+decreases-loop-b l = length l.src.bytes.now - l.q.at

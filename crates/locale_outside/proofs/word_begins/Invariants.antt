@@ -3,4 +3,4 @@ use Rattle.locale_outside.proofs.CategoryLaws.{Begun}
 use Rattle.locale_outside.proofs.word_begins.Given as goal
 
 abbrev pub invariant-loop-c : goal.invariant-loop-c
-invariant-loop-c l = Begun l.g l.src l.w l.initial.q l.q l.c-index
+invariant-loop-c l = Begun l.src.signs l.src.bytes.now l.w l.initial.q l.q l.c-index

@@ -5,7 +5,7 @@ use lib.ListN.{length}
 use Rattle.locale_skips.proofs.skip_blanks.Given as goal
 
 abbrev pub invariant-loop-m : goal.invariant-loop-m
-invariant-loop-m l = InBlanks l.g l.src l.initial.q l.q
+invariant-loop-m l = InBlanks l.src.signs l.src.bytes.now l.initial.q l.q
 
 abbrev pub decreases-loop-m : goal.decreases-loop-m
-decreases-loop-m l = length l.src - l.q.at
+decreases-loop-m l = length l.src.bytes.now - l.q.at

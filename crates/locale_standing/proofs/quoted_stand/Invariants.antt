@@ -6,7 +6,7 @@ use Rattle.text_tokens.specs.Left.{names_in}
 use Rattle.locale_standing.proofs.quoted_stand.Given as goal
 
 abbrev pub invariant-loop-r : goal.invariant-loop-r
-invariant-loop-r l = Standing l.g l.src l.work l.initial.q l.q
+invariant-loop-r l = Standing l.src.signs l.src.bytes.now l.work l.initial.q l.q
 
 abbrev pub decreases-loop-r : goal.decreases-loop-r
-decreases-loop-r l = length (names_in (marks_left l.g l.src l.q))
+decreases-loop-r l = length (names_in (marks_left l.src.signs l.src.bytes.now l.q))

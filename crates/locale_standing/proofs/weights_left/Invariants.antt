@@ -7,7 +7,7 @@ use lib.ListN.{length}
 use Rattle.locale_standing.proofs.weights_left.Given as goal
 
 abbrev pub invariant-loop-f : goal.invariant-loop-f
-invariant-loop-f l = Counting l.g l.src l.work l.initial.q l.q (number_or_none l.refusal) l.n
+invariant-loop-f l = Counting l.src.signs l.src.bytes.now l.work l.initial.q l.q (number_or_none l.refusal) l.n
 
 abbrev pub decreases-loop-f : goal.decreases-loop-f
-decreases-loop-f l = length l.src - l.q.at
+decreases-loop-f l = length l.src.bytes.now - l.q.at

@@ -8,15 +8,15 @@ pub returns-in_default : goal.returns-in_default
 returns-in_default c = search no_word
 
 pub toggle_refusal-requires : goal.toggle_refusal-requires
-toggle_refusal-requires c = search (word_kept c.args.g c.requires c.in-Some.q)
+toggle_refusal-requires c = search (word_kept c.args.src.signs c.requires c.in-Some.q)
 
 pub is_on-was-requires : goal.is_on-was-requires
-is_on-was-requires c = search (word_kept c.args.g c.requires c.in-Some.q)
+is_on-was-requires c = search (word_kept c.args.src.signs c.requires c.in-Some.q)
 
 pub turn-m-requires : goal.turn-m-requires
 turn-m-requires c =
     let f = c.in_default-toggle_refusal.ensures in
-    word-turns c.args.g c.requires c.in-Some.q c.single_word.ensures c.in-Some.is f refl
+    word-turns c.args.src.signs c.requires c.in-Some.q c.single_word.ensures c.in-Some.is f refl
 
 pub returns : goal.returns
 returns c = let f = c.in_default-toggle_refusal.ensures in search word-named

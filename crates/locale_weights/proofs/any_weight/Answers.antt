@@ -14,7 +14,7 @@ pub returns-then-t-eq-SEMI : goal.returns-then-t-eq-SEMI
 returns-then-t-eq-SEMI c = search weight-empty
 
 pub after_token-requires : goal.after_token-requires
-after_token-requires c = next-plain c.args.g c.args.src.now false c.args.p {o = c.next_operand.result} c.next_operand.ensures c.in-Token.is
+after_token-requires c = next-plain c.args.src.signs c.args.src.bytes.now false c.args.p {o = c.next_operand.result} c.next_operand.ensures c.in-Token.is
 
 pub returns-in-Last : goal.returns-in-Last
 returns-in-Last c = search weight-last

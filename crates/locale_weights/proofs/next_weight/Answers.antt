@@ -4,7 +4,7 @@ use Rattle.text_tokens.proofs.AheadLaws.{ahead-inside}
 use Rattle.locale_weights.proofs.next_weight.Goals as goal
 
 pub end_of_name-requires : goal.end_of_name-requires
-end_of_name-requires c = let a = c.args in search (ahead-inside a.g a.src.now a.p)
+end_of_name-requires c = let a = c.args in search (ahead-inside a.src.signs a.src.bytes.now a.p)
 
 pub returns-in_default : goal.returns-in_default
 returns-in_default c = search named-open

@@ -6,4 +6,4 @@ use Rattle.table_items.proofs.measure_lines.Given as goal
 
 abbrev pub invariant-loop : goal.invariant-loop
 invariant-loop l =
-    Summing l.g l.src l.work l.levels l.initial.v l.fn.o.count l.v (l.fn.o.count - l.counter) l.items l.weights l.whole l.line
+    Summing l.src.signs l.src.bytes.now l.work l.levels l.initial.v l.fn.o.count l.v (l.fn.o.count - l.counter) l.items l.weights l.whole l.line

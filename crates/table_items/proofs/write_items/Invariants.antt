@@ -5,4 +5,4 @@ use Rattle.table_items.proofs.write_items.Given as goal
 
 abbrev pub invariant-loop : goal.invariant-loop
 invariant-loop l =
-    Writing l.g l.src l.work l.levels l.initial.area l.slots l.from l.base l.initial.v l.area l.v (l.fn.o.count - l.counter) l.slot l.place l.next
+    Writing l.src.signs l.src.bytes.now l.work l.levels l.initial.area l.slots l.from l.base l.initial.v l.area l.v (l.fn.o.count - l.counter) l.slot l.place l.next

@@ -5,4 +5,4 @@ use Rattle.table_records.proofs.write_line.Given as goal
 
 abbrev pub invariant-loop-slot : goal.invariant-loop-slot
 invariant-loop-slot l =
-    Filling l.g l.src l.work l.place l.levels l.own.0 l.initial.area l.slots l.base l.at l.area l.c (l.slots + l.levels - l.slot) l.slot l.next
+    Filling l.src.signs l.src.bytes.now l.work l.place l.levels l.own.0 l.initial.area l.slots l.base l.at l.area l.c (l.slots + l.levels - l.slot) l.slot l.next

@@ -4,7 +4,7 @@ use Rattle.table_records.proofs.PartLaws.{Quoting}
 use Rattle.table_records.proofs.write_quotes.Given as goal
 
 abbrev pub invariant-loop-r : goal.invariant-loop-r
-invariant-loop-r l = Quoting l.g l.src l.work l.initial.q l.initial.area l.at l.area l.q l.next
+invariant-loop-r l = Quoting l.src.signs l.src.bytes.now l.work l.initial.q l.initial.area l.at l.area l.q l.next
 
 abbrev pub decreases-loop-r : goal.decreases-loop-r
-decreases-loop-r l = quote_size l.g l.src l.q
+decreases-loop-r l = quote_size l.src.signs l.src.bytes.now l.q

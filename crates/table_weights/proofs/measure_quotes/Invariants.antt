@@ -6,7 +6,7 @@ use Rattle.table_weights.proofs.QuoteLaws.{Counting}
 use Rattle.table_weights.proofs.measure_quotes.Given as goal
 
 abbrev pub invariant-loop-r : goal.invariant-loop-r
-invariant-loop-r l = Counting l.g l.src l.work l.initial.q l.q l.weights l.ranked
+invariant-loop-r l = Counting l.src.signs l.src.bytes.now l.work l.initial.q l.q l.weights l.ranked
 
 abbrev pub decreases-loop-r : goal.decreases-loop-r
-decreases-loop-r l = length (names_in (marks_left l.g l.src l.q))
+decreases-loop-r l = length (names_in (marks_left l.src.signs l.src.bytes.now l.q))

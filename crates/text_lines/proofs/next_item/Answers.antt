@@ -17,4 +17,4 @@ pub returns-then-opens : goal.returns-then-opens
 returns-then-opens c = search item-opens
 
 pub returns : goal.returns
-returns c = let small : c.from.result < 256 = omega (arith, c.from.ensures, c.type_inv.src c.args.p.at) in search item-mark
+returns c = search item-mark

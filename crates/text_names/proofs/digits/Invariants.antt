@@ -5,7 +5,7 @@ use lib.ListN.{length}
 use Rattle.text_names.proofs.digits.Given as goal
 
 abbrev pub invariant-loop-b : goal.invariant-loop-b
-invariant-loop-b l = Coding l.g l.src l.initial.q l.q l.n l.x
+invariant-loop-b l = Coding l.src.signs l.src.bytes.now l.initial.q l.q l.n l.x
 
 abbrev pub decreases-loop-b : goal.decreases-loop-b
-decreases-loop-b l = length l.src - l.q.at
+decreases-loop-b l = length l.src.bytes.now - l.q.at

@@ -3,4 +3,4 @@ use Rattle.text_names.proofs.CompareLaws.{Beside}
 use Rattle.text_names.proofs.name_is.Given as goal
 
 abbrev pub invariant-loop-b : goal.invariant-loop-b
-invariant-loop-b l = Beside l.g l.src l.w l.initial.q l.q l.b-index
+invariant-loop-b l = Beside l.src.signs l.src.bytes.now l.w l.initial.q l.q l.b-index

@@ -6,7 +6,7 @@ use lib.ListN.{length}
 use Rattle.text_names.proofs.pack_inside.Given as goal
 
 abbrev pub invariant-loop-b : goal.invariant-loop-b
-invariant-loop-b l = Packing l.g l.src l.p (spot l.at l.p.mode l.fresh) l.initial.key l.key 0 l.h 0 l.n
+invariant-loop-b l = Packing l.src.signs l.src.bytes.now l.p (spot l.at l.p.mode l.fresh) l.initial.key l.key 0 l.h 0 l.n
 
 abbrev pub decreases-loop-b : goal.decreases-loop-b
-decreases-loop-b l = length l.src - l.at
+decreases-loop-b l = length l.src.bytes.now - l.at

@@ -3,7 +3,7 @@ use Rattle.text_names.proofs.CodeLaws.{char-end, char-digits, char-other}
 use Rattle.text_names.proofs.slow_char.Goals as goal
 
 pub returns-in_err-b : goal.returns-in_err-b
-returns-in_err-b c = rw c.from_residual.ensures (char-end c.args.g c.args.src.now c.args.p c.in_err-b.ensures)
+returns-in_err-b c = rw c.from_residual.ensures (char-end c.args.src.signs c.args.src.bytes.now c.args.p c.in_err-b.ensures)
 
 pub returns-then-b-eq85 : goal.returns-then-b-eq85
 returns-then-b-eq85 c = search (char-digits, c.in_ok-b.ensures)

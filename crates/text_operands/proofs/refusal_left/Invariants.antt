@@ -6,7 +6,7 @@ use lib.ListN.{length}
 use Rattle.text_operands.proofs.refusal_left.Given as goal
 
 abbrev pub invariant-loop-t : goal.invariant-loop-t
-invariant-loop-t l = Lowered l.g l.src l.initial.held l.initial.q l.q l.held l.refusal
+invariant-loop-t l = Lowered l.src.signs l.src.bytes.now l.initial.held l.initial.q l.q l.held l.refusal
 
 abbrev pub decreases-loop-t : goal.decreases-loop-t
-decreases-loop-t l = length l.src - l.q.at
+decreases-loop-t l = length l.src.bytes.now - l.q.at

@@ -5,4 +5,4 @@ use Rattle.text_tokens.proofs.CopyLaws.{Copying}
 use Rattle.text_tokens.proofs.copy_word.Given as goal
 
 abbrev pub invariant-loop-i : goal.invariant-loop-i
-invariant-loop-i l = Copying l.g l.src (word_in (marks_left l.g l.src l.initial.q)) l.initial.area l.area l.q l.i
+invariant-loop-i l = Copying l.src.signs l.src.bytes.now (word_in (marks_left l.src.signs l.src.bytes.now l.initial.q)) l.initial.area l.area l.q l.i

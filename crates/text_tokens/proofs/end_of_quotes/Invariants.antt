@@ -6,7 +6,7 @@ use lib.ListN.{length}
 use Rattle.text_tokens.proofs.end_of_quotes.Given as goal
 
 abbrev pub invariant-loop-m : goal.invariant-loop-m
-invariant-loop-m l = InQuotes l.g l.src l.initial.q l.q l.n l.refusal
+invariant-loop-m l = InQuotes l.src.signs l.src.bytes.now l.initial.q l.q l.n l.refusal
 
 abbrev pub decreases-loop-m : goal.decreases-loop-m
-decreases-loop-m l = length l.src - l.q.at
+decreases-loop-m l = length l.src.bytes.now - l.q.at

@@ -3,7 +3,7 @@ use Rattle.text_tokens.proofs.AheadLaws.{ahead-inside, ahead-open, ahead-name, a
 use Rattle.text_tokens.proofs.next_token.Goals as goal
 
 pub end_of_name-requires : goal.end_of_name-requires
-end_of_name-requires c = let a = c.args in search (ahead-inside a.g a.src.now a.p)
+end_of_name-requires c = let a = c.args in search (ahead-inside a.src.signs a.src.bytes.now a.p)
 
 pub returns-in-Some : goal.returns-in-Some
 returns-in-Some c = search ahead-name

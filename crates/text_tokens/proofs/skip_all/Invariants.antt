@@ -5,7 +5,7 @@ use lib.ListN.{length}
 use Rattle.text_tokens.proofs.skip_all.Given as goal
 
 abbrev pub invariant-loop-r : goal.invariant-loop-r
-invariant-loop-r l = InBlanks l.g l.src l.initial.q l.q
+invariant-loop-r l = InBlanks l.src.signs l.src.bytes.now l.initial.q l.q
 
 abbrev pub decreases-loop-r : goal.decreases-loop-r
-decreases-loop-r l = length l.src - l.q.at
+decreases-loop-r l = length l.src.bytes.now - l.q.at

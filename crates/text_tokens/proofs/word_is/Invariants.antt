@@ -3,4 +3,4 @@ use Rattle.text_tokens.proofs.WordLaws.{Alike}
 use Rattle.text_tokens.proofs.word_is.Given as goal
 
 abbrev pub invariant-loop-b : goal.invariant-loop-b
-invariant-loop-b l = Alike l.g l.src l.w l.initial.q l.q l.b-index
+invariant-loop-b l = Alike l.src.signs l.src.bytes.now l.w l.initial.q l.q l.b-index
