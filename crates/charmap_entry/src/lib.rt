@@ -109,7 +109,8 @@ fn byte_at(src: Source, p: Spot) -> Option<(u8, usize)>
     }
 }
 
-// The name at a spot.
+// The name at a spot. Inlined: every line of a charmap is asked for one, and at a call the source, the spot and what is found go through memory.
+#[inline(always)]
 fn name_at(src: Source, p: Spot) -> Option<(Option<Refusal>, Spot, Spot)>
     requires { (p.at ≤ length src.bytes.now) × (p.mode ≡ in_plain) }
     ensures { NamedIs src.entry.signs src.entry.bytes.now p result }

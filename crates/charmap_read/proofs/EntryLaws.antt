@@ -16,7 +16,7 @@ use Rattle.charmap_header.specs.Head.{signs_of}
 use Rattle.charmap_body.specs.Outcomes.{Holds, Area}
 use Rattle.charmap_body.specs.Body.{LineGoes, LineRefused, BodyIs}
 use Rattle.charmap_body.proofs.BodyLaws.{body_run_lem, body-run-refused}
-use Rattle.charmap_read.proofs.HoldsLaws.{Held, held-inside, held-past, left-falls}
+use Rattle.text_reader.proofs.HoldsLaws.{Held, held-inside, held-past, left-falls}
 use Rattle.charmap_read.specs.Read.{whole_run, body_run, Opened, HeaderIs, Opens, Closes, RunIs, body_state, Reads}
 
 pub reads-start : {src : List ℕ} {h : Chars} {from first : ℕ} {area : List ℕ} → Opens src from first area → Reads src h from first area from first

@@ -15,7 +15,7 @@ use Rattle.base_units.specs.declared.Refusal.{Refusal}
 use Rattle.text_specials.specs.declared.Chars.{Chars}
 use Rattle.text_specials.specs.Force.{chars_as}
 use Rattle.charmap_header.specs.Head.{head_with, line_at, Leaves, Stops, HeadingIs}
-use Rattle.charmap_read.proofs.HoldsLaws.{Held, held-inside, held-past, left-falls}
+use Rattle.text_reader.proofs.HoldsLaws.{Held, held-inside, held-past, left-falls}
 use Rattle.charmap_read.specs.Read.{whole_run, Opened, HeaderIs, Heads}
 
 abbrev with_chars : paper.Chars → Mapping

@@ -4,4 +4,3 @@ pub mod EmptyLaws
 pub mod ReadLaws
 pub mod AnswerLaws
 pub mod CodeLaws
-pub mod HoldsLaws

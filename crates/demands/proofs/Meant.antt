@@ -1,4 +1,4 @@
--- Demand 2: "The compiled table means what 01 says the source means: each element, level, weight." Of every area that `compile` leaves where it answers Done.
+-- Demand 2: "The compiled table means what 01 says the source means: each element, level, weight." Of every area that `compile` leaves where it answers Ok.
 use Rattle.std.specs.Prelude.{Err, Ok, Result, ℕ}
 use mathlib.Core.Path.{◌≡◌, refl, sym, ap, ◌∙◌}
 use mathlib.Core.Bool.{true, not, ◌&&◌}

@@ -1,4 +1,4 @@
--- The laws of the definition (CompileLaws in rules) as laws of the code: of every area that `compile` leaves where it answers Done.
+-- The laws of the definition (CompileLaws in rules) as laws of the code: of every area that `compile` leaves where it answers Ok.
 use Rattle.std.specs.Prelude.{Ok}
 use mathlib.Core.Path.{◌≡◌, refl, ap, ◌∙◌}
 use mathlib.Core.Bool.{true, not, ◌&&◌}

@@ -1,5 +1,5 @@
 -- How many items and weights a table has, and numbers written into it: one of them again and again, rising numbers, the front, and the supplied item.
-use mathlib.Core.Path.{◌≡◌, refl, sym, ap, ◌∙◌}
+use mathlib.Core.Path.{◌≡◌, refl, sym, ap, ◌∙◌, subst}
 use mathlib.Core.Bool.{Bool, true, false}
 use mathlib.Core.List.{List, [], ◌∷◌}
 use Prim.Native.Nat.{ℕ, suc, ◌+◌, ◌-◌, ◌*◌, ◌≤◌, ◌<◌}
@@ -16,6 +16,7 @@ use lib.Seq.{sets, length-sets, length-take-le}
 use Rattle.rules.specs.Table.{sums, mask}
 use Rattle.table_layout.specs.Parts.{ends_at, weights_part}
 use Rattle.table_layout.proofs.LayoutLaws.{ends_at-is, weights_part-bound}
+use Rattle.table_records.specs.Writing.{Puts}
 use Rattle.table_whole.specs.Building.{all_items, all_weights, table_size, front_numbers, supplied_ends, with_supplied}
 
 -- ## How many
@@ -71,6 +72,38 @@ filled area at n x h e =
     let r : length (replicate n x) ≡ n = length-replicate n x in
     let m : at + length (replicate n x) - at ≡ n = omega arith in
     rw (e, k, l) (rw m at (sets-copied area at (replicate n x) (omega arith) refl))
+
+-- x goes into an area n times from `at` on; `left` times of them are still to come, from i on.
+pub record Repeating (area : List ℕ) (at n x : ℕ) (now : List ℕ) (i left : ℕ) : Type 0 where
+  pub same : sets now i (replicate left x) ≡ sets area at (replicate n x)
+  pub inside : i + left ≤ length now
+  pub long : length now ≡ length area
+
+pub repeating-none : (area : List ℕ) (at n x : ℕ) → at + n ≤ length area → Repeating area at n x area at n
+repeating-none area at n x h = record { same = refl; inside = h; long = refl }
+
+module _ {area : List ℕ} {at n x : ℕ} {now : List ℕ} {i left : ℕ} (v : Repeating area at n x now i left) where
+  repeating-more : 0 < left → Repeating area at n x (set now i x) (i + 1) (left - 1)
+  repeating-more h =
+      let e : suc (left - 1) ≡ left = omega arith in
+      let l : length (set now i x) ≡ length now = length-set now i x in
+      record {
+        same =
+            ap (λ (k : ℕ). sets (set now i x) k (replicate (left - 1) x)) (add-one i)
+            ∙ ap (λ (k : ℕ). sets now i (replicate k x)) e
+            ∙ v.same;
+        inside = omega (arith, v.inside);
+        long = l ∙ v.long;
+      }
+
+  -- a weight was written by put_rank
+  pub repeating-put : {after : List ℕ} {next : ℕ} → 0 < left → Puts now i (x ∷ []) after next → Repeating area at n x after (i + 1) (left - 1)
+  repeating-put {after} h p = subst (λ (a : List ℕ). Repeating area at n x a (i + 1) (left - 1)) (sym p.is) (repeating-more h)
+
+  pub repeating-all : left ≤ 0 → now ≡ sets area at (replicate n x)
+  repeating-all h =
+      let e : 0 ≡ left = omega arith in
+      ap (λ (k : ℕ). sets now i (replicate k x)) e ∙ v.same
 
 -- ## Rising numbers
 

@@ -14,6 +14,7 @@ use locale_sheet::Sheet;
 use table_items::write_items;
 use table_layout::{ends_at, mask_for, rules_part, weights_part};
 use table_listing::list_items;
+use table_records::put_rank;
 use text_lines::{IN_PLAIN, Source, Spot};
 
 // How many items there are, with UNDEFINED where it is supplied.
@@ -48,6 +49,16 @@ fn fill(area: &mut [u32], at: usize, n: usize, x: u32)
     ensures { area.new ≡ sets area.old at (replicate n x) }
 {
     area[at..at + n].fill(x);
+}
+
+// A rank, n times, from a place on: it is a weight, so it is stored as every weight is.
+fn fill_rank(area: &mut [u32], at: usize, n: usize, r: Rank)
+    requires { at + n ≤ length area.old }
+    ensures { area.new ≡ sets area.old at (replicate n r.0) }
+{
+    for k in 0..n {
+        put_rank(area, at + k, r);
+    }
 }
 
 // n numbers from a place on, each one above the one before it, the first one above x.
@@ -88,7 +99,7 @@ fn write_supplied(
 {
     fill(area, from, 4, 0x110000);
     count_up(area, slots, levels, weights);
-    fill(area, at, levels, rank.0);
+    fill_rank(area, at, levels, rank);
 }
 
 // UNDEFINED supplied behind the items, in a table whose characters and weights start at these places: its rank is one above that of the last order
@@ -166,7 +177,9 @@ fn write_table(
     }
 }
 
-// The table of a source, once each order line has its rank; the work area is used up.
+// The table of a source, once each order line has its rank; the work area is used up. Never inlined, so that the array stands on the stack while the
+// table is written, and not below the readers of the lines too: docs/ANSWERS.md has what a call takes.
+#[inline(never)]
 pub fn build_table(
     src: Source,
     work: &mut [u32],

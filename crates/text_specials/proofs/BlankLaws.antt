@@ -7,7 +7,7 @@ use native.Mathlib.Numerals.{add-one}
 use native.Mathlib.Omega.{arith}
 use lib.ListN.{length, get_or, drop, drop_of_length-le, length-append}
 use lib.Seq.{drop-cons}
-use borrow.Author.Tests.{not-true, not-false}
+use borrow.Author.Tests.{not-true, not-false, eq-eqb}
 use Rattle.rules.specs.Text.{every}
 use Rattle.rules.specs.Names.{is_blank}
 use Rattle.rules.proofs.TextLaws.{every-both, every-cons}
@@ -30,6 +30,9 @@ module _ {src : List ℕ} {at i : ℕ} (v : InBlanks src at i) where
   module _ (h : i < length src) where
     here : drop i src ≡ get_or src i 0 ∷ drop (i + 1) src
     here = rw (add-one, drop-cons src i 0)
+
+    pub blanks-feed : get_or src i 0 ≡ 10 → NoByte src at
+    blanks-feed e = record { rest = drop i src; before = v.before; ends = rw here (eq-eqb (get_or src i 0) 10 e) }
 
     pub blanks-byte : {t : Bool} → t ≡ is_blank (get_or src i 0) → not t ≡ true → (get_or src i 0 ≡ 10 → ⊥) → ByteAt src at (get_or src i 0) i
     blanks-byte e f n =

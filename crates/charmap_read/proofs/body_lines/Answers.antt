@@ -2,7 +2,7 @@
 use mathlib.Core.Path.{refl, sym, ◌∙◌}
 use borrow.Author.Tests.{leb-true}
 use Rattle.text_reader.proofs.HeldLaws.{inside}
-use Rattle.charmap_read.proofs.HoldsLaws.{held_at}
+use Rattle.text_reader.proofs.HoldsLaws.{held_at}
 use Rattle.charmap_read.proofs.EntryLaws.{reads-start, body-used, body-asks, body-refused, body-fits, body-closed, body-more, body-nearer}
 use Rattle.charmap_read.proofs.body_lines.Goals as goal
 

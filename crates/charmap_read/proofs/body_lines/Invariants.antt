@@ -3,7 +3,7 @@
 use Prim.Native.Nat.{◌-◌}
 use lib.ListN.{length}
 use Rattle.charmap_read.specs.Read.{Reads}
-use Rattle.charmap_read.proofs.HoldsLaws.{Held}
+use Rattle.text_reader.proofs.HoldsLaws.{Held}
 use Rattle.charmap_read.proofs.body_lines.Given as goal
 
 abbrev pub invariant-loop-signs : goal.invariant-loop-signs

@@ -2,7 +2,7 @@
 use mathlib.Core.Path.{refl, sym, ◌∙◌}
 use borrow.Author.Tests.{leb-true}
 use Rattle.text_reader.proofs.HeldLaws.{inside}
-use Rattle.charmap_read.proofs.HoldsLaws.{held_at}
+use Rattle.text_reader.proofs.HoldsLaws.{held_at}
 use Rattle.charmap_read.proofs.HeaderLaws.{heads-start, header-used, header-refused, header-fits, header-opened, header-more, header-nearer}
 use Rattle.charmap_read.proofs.header_lines.Goals as goal
 

@@ -3,7 +3,7 @@
 use Prim.Native.Nat.{◌-◌}
 use lib.ListN.{length}
 use Rattle.charmap_read.specs.Read.{Heads}
-use Rattle.charmap_read.proofs.HoldsLaws.{Held}
+use Rattle.text_reader.proofs.HoldsLaws.{Held}
 use Rattle.charmap_read.proofs.header_lines.Given as goal
 
 abbrev pub invariant-loop-h : goal.invariant-loop-h

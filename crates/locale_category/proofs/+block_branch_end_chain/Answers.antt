@@ -2,7 +2,7 @@ use Rattle.std.proofs.Common.{◌≡◌, Ok, Err}
 use Rattle.std.proofs.lemmas.Result.{err_from_is_err_and}
 use Rattle.locale_category.proofs.BlockLaws.{answered, going_next, going-refused, going-closes, chain-begins, chain-falls, going-chain, going-chain-refused, going_end}
 use Rattle.locale_category.proofs.BranchLaws.{branch-start, used-some, used-refused, used-branch, passed-stop}
-use Rattle.locale_category.proofs.ChainLaws.{chain-refused, line-may, turn-refused, turn-ends, turn-goes}
+use Rattle.locale_category.proofs.ChainLaws.{chaining-start, chain-refused, line-may, turn-refused, turn-ends, turn-goes}
 use borrow.Author.Rules.{rules}
 use Rattle.locale_category.proofs.+block_branch_end_chain.Goals as goal
 
@@ -50,6 +50,9 @@ pub branch_end-returns-in_ok-j : goal.branch_end-returns-in_ok-j
 branch_end-returns-in_ok-j t c =
     let q : c.skip_branch.result ≡ Ok (c.in_ok-j.j, c.in_ok-j.m) = c.in_ok-j.was in
     search passed-stop
+
+pub chain-loop-x-init : goal.chain-loop-x-init
+chain-loop-x-init t c = search chaining-start
 
 pub chain-returns-in_err-x : goal.chain-returns-in_err-x
 chain-returns-in_err-x t c =

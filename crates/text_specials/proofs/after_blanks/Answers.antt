@@ -1,4 +1,4 @@
-use Rattle.text_specials.proofs.BlankLaws.{blanks-none, blanks-more, blanks-byte}
+use Rattle.text_specials.proofs.BlankLaws.{blanks-none, blanks-more, blanks-feed, blanks-byte}
 use Rattle.text_specials.proofs.after_blanks.Goals as goal
 
 pub loop-i-init : goal.loop-i-init
@@ -9,3 +9,6 @@ loop-i-preserved c = search blanks-more
 
 pub returns-else-b-eq10 : goal.returns-else-b-eq10
 returns-else-b-eq10 c = search blanks-byte
+
+pub returns-then-b-eq10 : goal.returns-then-b-eq10
+returns-then-b-eq10 c = search blanks-feed
