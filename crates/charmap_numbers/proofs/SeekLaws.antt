@@ -5,9 +5,9 @@ use mathlib.Core.List.{List, [], ◌∷◌, ◌++◌}
 use Prim.Native.Nat.{ℕ, zero, suc, ◌+◌, ◌-◌, ◌≤◌, ◌<◌}
 use native.Mathlib.Numerals.{add-one}
 use native.Mathlib.Omega.{arith}
-use lib.ListN.{length, get_or, take, drop, set, length-set, length-drop, drop_of_length-le}
+use lib.ListN.{length, get_or, take, drop, set, length-set, length-drop, drop_of_length-le, get_or-append}
 use lib.Dec.{eqb}
-use lib.Seq.{drop-cons, get_or-take, get_or-drop, take-suc, take_all, set_at, append_snoc, length-take-le}
+use lib.Seq.{drop-cons, get_or-take, get_or-drop, take-suc, take_all, set_at, set-get_or, append_snoc, length-take-le}
 use borrow.Author.Tests.{eqb-true, eqb-false, eq-eqb, ne_eqb}
 use Rattle.base_lists.proofs.Bools.{by}
 use Rattle.std.specs.List.{list_any}
@@ -39,6 +39,10 @@ codes-count area l = sym (length-take-le 256 area (omega arith))
 pub code-contained : (area : List ℕ) (c : ℕ) {r : Bool} → r ≡ list_any (λ y. eqb y c) (take 256 area) → r ≡ has_code area c
 unfolding has_code
 code-contained area c e = e ∙ any-equal c (take 256 area)
+
+-- the first m numbers are the first n of them, where m is n
+pub as-many : (xs : List ℕ) {m n : ℕ} {rest : List ℕ} → rest ≡ take m xs → m ≡ n → rest ≡ take n xs
+as-many xs e h = e ∙ ap (λ (k : ℕ). take k xs) h
 
 pub any-taken : (area : List ℕ) (b n : ℕ) {r : Bool} → r ≡ list_any is_taken (take n (drop b area)) → r ≡ any_taken area b n
 unfolding any_taken
@@ -79,8 +83,9 @@ unfolding with_range
 range-suc left area b c = refl
 
 module _ {area₀ : List ℕ} {byte code n : ℕ} {area : List ℕ} {i : ℕ} (v : Ranging area₀ byte code n area i) where
-  pub ranging-more : {area' : List ℕ} → i < n → area' ≡ with area (byte + i) (code + i) → Ranging area₀ byte code n area' (i + 1)
-  ranging-more {area'} h e =
+  pub ranging-more : {area' : List ℕ} {place : ℕ} → i < n → place ≡ byte + i → area' ≡ with area place (code + i) → Ranging area₀ byte code n area' (i + 1)
+  ranging-more {area'} {place} h p q =
+      let e : area' ≡ with area (byte + i) (code + i) = q ∙ ap (λ (j : ℕ). with area j (code + i)) p in
       let m : n - i ≡ suc (n - (i + 1)) = omega arith in
       let b : byte + (i + 1) ≡ suc (byte + i) = omega arith in
       let c : code + (i + 1) ≡ suc (code + i) = omega arith in
@@ -102,3 +107,10 @@ front-count area h = length-take-le 512 area h
 
 pub copied : (src area : List ℕ) {front : List ℕ} → length src ≡ 512 → front ≡ src → front ++ drop 512 area ≡ over src area
 copied src area l e = ap (λ (f : List ℕ). f ++ drop 512 area) e ∙ ap (λ (k : ℕ). src ++ drop k area) (sym l)
+
+-- and where the last one is written once more
+pub copied-again : (src area : List ℕ) {front : List ℕ} {last : ℕ} → length src ≡ 512 → front ≡ src → last ≡ get_or src 511 0
+    → set (front ++ drop 512 area) 511 last ≡ over src area
+copied-again src area {front} {last} l e n =
+    let there : last ≡ get_or (over src area) 511 0 = n ∙ sym (get_or-append src (drop (length src) area) 0 511 (omega arith)) in
+    ap (λ (xs : List ℕ). set xs 511 last) (copied src area l e) ∙ ap (set (over src area) 511) there ∙ set-get_or (over src area) 511 0

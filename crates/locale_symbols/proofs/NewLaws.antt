@@ -77,9 +77,9 @@ module _ (g : Signs) (src w : List ℕ) (i : Spot) {c : Option CodePoint} (v : C
 
 module _ (g : Signs) (src w : List ℕ) (i : Spot) where
   pub new-shaped-as : (c : Option CodePoint) → CodeIs (name_left g src i) c → {b : Bool} → is_some c ≡ not b → b ≡ false
-      → NewIs (key_at g src) (length src) w (name_left g src i) b
-  new-shaped-as None v s e = absurd (false≢true (s ∙ ap not e))
-  new-shaped-as (Some x) v s e = rw e (new-shaped g src w i {c = Some x} v refl)
+      → {t : Bool} → t ≡ false → NewIs (key_at g src) (length src) w (name_left g src i) t
+  new-shaped-as None v s e h = absurd (false≢true (s ∙ ap not e))
+  new-shaped-as (Some x) v s e h = rw h (new-shaped g src w i {c = Some x} v refl)
 
   pub new-unshaped : (c : Option CodePoint) → CodeIs (name_left g src i) c → {b : Bool} → is_some c ≡ not b → b ≡ true → is_inside i.mode ≡ true
       → (f : Option ℕ) → Finds (key_at g src) (length src) w (key_at g src (2 * i.at)) f → (t : Bool) → is_some f ≡ not t

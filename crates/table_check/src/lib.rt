@@ -13,7 +13,6 @@ ghost use Rattle.table_check.specs.Walk.{told_with, told_next};
 ghost use Rattle.table_check.specs.Answers.{checked_as};
 
 use base_units::Refusal;
-use std::cmp::Ordering;
 use table_layout::{bucket_at, ends_at, four_numbers, mask_for, start_of, weights_part};
 
 // How large an accepted table is.
@@ -135,13 +134,14 @@ fn told_after(
 {
     let q = bucket_at(t, chars, items, buckets, p as u32) as usize;
     let starts = chars + 5 * (items as usize);
-    match told.cmp(&q) {
-        Ordering::Equal => (start_of(t, starts, q) == k).then_some(q + 1),
-        Ordering::Less => starts_are(t, starts, told, q + 1, k).then_some(q + 1),
-        Ordering::Greater if q + 1 < told => None, // of a bucket before the last one's
-        Ordering::Greater => {
-            (four_numbers(t, chars, last) < four_numbers(t, chars, p)).then_some(told)
-        }
+    if told == q {
+        (start_of(t, starts, q) == k).then_some(q + 1)
+    } else if told < q {
+        starts_are(t, starts, told, q + 1, k).then_some(q + 1)
+    } else if q + 1 < told {
+        None // of a bucket before the last one's
+    } else {
+        (four_numbers(t, chars, last) < four_numbers(t, chars, p)).then_some(told)
     }
 }
 

@@ -1,5 +1,5 @@
 -- Which order lines give an item.
-use mathlib.Core.Path.{◌≡◌, sym, ◌∙◌}
+use mathlib.Core.Path.{◌≡◌, refl, ap, sym, ◌∙◌}
 use mathlib.Core.Bool.{Bool, true, false, not}
 use mathlib.Core.List.{List}
 use Prim.Native.Nat.{ℕ, ◌≤◌, ◌<◌}
@@ -18,9 +18,14 @@ module _ (len : ℕ) (w : List ℕ) (mark : ℕ) where
   item-undefined {m} u h = le-leb m mark h ∙ sym (rw (le-leb (undefined_mark len) mark (rw u at h)))
 
   module _ {m : ℕ} (u : m ≡ undefined_mark len) (h : mark < m) {x : ℕ} (i : x ≡ cell w mark chars_number) where
-    pub item-told : not (eqb x 0) ≡ is_item len w mark
+    told-some : not (eqb x 0) ≡ is_item len w mark
     unfolding is_item
-    item-told = sym (rw (lt-leb (undefined_mark len) mark (rw u at h), ← i))
+    told-some = sym (rw (lt-leb (undefined_mark len) mark (rw u at h), ← i))
+
+    -- any truth value that tells whether it has characters
+    pub item-told : {b : Bool} → (b ≡ true → 1 ≤ x) → (b ≡ false → x ≡ 0) → b ≡ is_item len w mark
+    item-told {b = true} some none = sym (ap not (ne_eqb x 0 (λ z. let y = some refl in omega arith))) ∙ told-some
+    item-told {b = false} some none = sym (ap not (eq-eqb x 0 (none refl))) ∙ told-some
 
 some-told : (x : ℕ) → not (eqb x 0) ≡ true → 1 ≤ x
 some-told x t = let z = eqb-false x 0 (not-true (eqb x 0) t) in omega (arith, z)

@@ -97,8 +97,10 @@ module _ {area : List ℕ} {at n x : ℕ} {now : List ℕ} {i left : ℕ} (v : R
       }
 
   -- a weight was written by put_rank
-  pub repeating-put : {after : List ℕ} {next : ℕ} → 0 < left → Puts now i (x ∷ []) after next → Repeating area at n x after (i + 1) (left - 1)
-  repeating-put {after} h p = subst (λ (a : List ℕ). Repeating area at n x a (i + 1) (left - 1)) (sym p.is) (repeating-more h)
+  pub repeating-put : {slot : ℕ} {after : List ℕ} {next : ℕ} → 0 < left → slot ≡ i → Puts now slot (x ∷ []) after next → Repeating area at n x after (i + 1) (left - 1)
+  repeating-put {slot} {after} h e p =
+      let there : after ≡ sets now i (x ∷ []) = p.is ∙ ap (λ (j : ℕ). sets now j (x ∷ [])) e in
+      subst (λ (a : List ℕ). Repeating area at n x a (i + 1) (left - 1)) (sym there) (repeating-more h)
 
   pub repeating-all : left ≤ 0 → now ≡ sets area at (replicate n x)
   repeating-all h =

@@ -274,7 +274,8 @@ pub fn toggle_refusal(src: Source, work: &[u32], base: usize, n: usize, q: Spot)
     if !s.short {
         return Some(Refusal::TooMany);
     }
-    if n < 16 || knows(src, work, base, n, q) {
+    let room = n < 16;
+    if room || knows(src, work, base, n, q) {
         None
     } else {
         Some(Refusal::TooMany)

@@ -14,7 +14,7 @@ pub loop-k-preserved : goal.loop-k-preserved
 loop-k-preserved c =
     let e : c.args.at + (c.loop-k.k + 1) ≡ c.args.at + c.loop-k.k + 1 = omega arith in
     let f : c.args.n - (c.loop-k.k + 1) ≡ c.args.n - c.loop-k.k - 1 = omega arith in
-    rw (e, f) (repeating-put c.loop-k.invariant (omega arith) c.put_rank.ensures)
+    rw (e, f) (repeating-put c.loop-k.invariant (omega arith) (omega arith) c.put_rank.ensures)
 
 pub returns : goal.returns
 returns c = repeating-all c.loop-k.invariant (omega arith)
