@@ -89,17 +89,17 @@ fn any_weight(src: Source, p: Spot) -> Weight
     ensures { WeightIs src.entry.signs src.entry.bytes.now p result }
 {
     match next_operand(src, p, false) {
-        Operand::End => Weight::Empty(false, p),
-        Operand::Broken => Weight::Bad,
+        Operand::End => return Weight::Empty(false, p),
+        Operand::Broken => return Weight::Bad,
         Operand::Token(q, t) => {
             let e = t.next;
             if t.kind == SEMI {
                 return Weight::Empty(true, e);
             }
             match after_token(src, e, t.kind >= 3) {
-                Tail::Last => Weight::One(q, t, false, e),
-                Tail::Bad => Weight::Bad,
-                Tail::More(d) => Weight::One(q, t, true, d),
+                Tail::Last => return Weight::One(q, t, false, e),
+                Tail::Bad => return Weight::Bad,
+                Tail::More(d) => return Weight::One(q, t, true, d),
             }
         }
     }

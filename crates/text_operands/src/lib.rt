@@ -60,17 +60,16 @@ pub fn next_operand(src: Source, p: Spot, glued: bool) -> Operand
     let apart = blank_next(src, p);
     let q = skip_gaps(src, p);
     match next_token(src, q) {
-        Next::End => Operand::End,
-        Next::Broken => Operand::Broken,
+        Next::End => return Operand::End,
+        Next::Broken => return Operand::Broken,
         Next::Token(t) => {
             if t.kind == BROKEN {
                 return Operand::Broken;
             }
             if t.kind < BROKEN || apart || !glued {
-                Operand::Token(q, t)
-            } else {
-                Operand::Broken
+                return Operand::Token(q, t);
             }
+            return Operand::Broken; // no blank stands between the two
         }
     }
 }

@@ -309,19 +309,19 @@ pub fn next_token(src: Source, p: Spot) -> Next
                 fresh: false,
             };
             match end_of_name(src, q) {
-                Some((f, r)) => Next::Token(named(f, q, r)),
-                None => Next::Broken,
+                Some((f, r)) => return Next::Token(named(f, q, r)),
+                None => return Next::Broken,
             }
         }
-        b';' => Next::Token(bare(
-            SEMI,
-            Spot {
+        b';' => {
+            let q = Spot {
                 at: at + 1,
                 mode: IN_PLAIN,
                 fresh: false,
-            },
-        )),
-        _ => any_token(src, p),
+            };
+            return Next::Token(bare(SEMI, q));
+        }
+        _ => return any_token(src, p),
     }
 }
 
@@ -335,32 +335,36 @@ fn any_token(src: Source, p: Spot) -> Next
     };
     match m {
         60 => match end_of_name(src, q) {
-            Some((f, r)) => Next::Token(named(f, q, r)),
-            None => Next::Broken,
+            Some((f, r)) => return Next::Token(named(f, q, r)),
+            None => return Next::Broken,
         },
         34 => match end_of_quotes(src, q) {
-            Some((names, refusal, next)) if names > 0 => Next::Token(Tok {
-                kind: QUOTE,
-                next,
-                inside: q,
-                names,
-                refusal,
-                byte: 0,
-            }),
-            _ => Next::Broken,
+            Some((names, refusal, next)) if names > 0 => {
+                return Next::Token(Tok {
+                    kind: QUOTE,
+                    next,
+                    inside: q,
+                    names,
+                    refusal,
+                    byte: 0,
+                });
+            }
+            _ => return Next::Broken,
         },
-        59 => Next::Token(bare(SEMI, q)),
-        44 => Next::Token(bare(COMMA, q)),
-        32 | 9 => Next::Token(bare(GAP, q)),
-        256.. => Next::Token(Tok {
-            kind: BROKEN,
-            next: q,
-            inside: q,
-            names: 0,
-            refusal: Some(Refusal::Malformed),
-            byte: (m - 512) as u8,
-        }),
-        _ => Next::Token(bare(WORD, end_of_word(src, q))),
+        59 => return Next::Token(bare(SEMI, q)),
+        44 => return Next::Token(bare(COMMA, q)),
+        32 | 9 => return Next::Token(bare(GAP, q)),
+        256.. => {
+            return Next::Token(Tok {
+                kind: BROKEN,
+                next: q,
+                inside: q,
+                names: 0,
+                refusal: Some(Refusal::Malformed),
+                byte: (m - 512) as u8,
+            });
+        }
+        _ => return Next::Token(bare(WORD, end_of_word(src, q))),
     }
 }
 

@@ -11,10 +11,10 @@ returns-in-Broken c = search operand-broken
 pub returns-then-t-eq-BROKEN : goal.returns-then-t-eq-BROKEN
 returns-then-t-eq-BROKEN c = search operand-dead
 
-pub returns-then-not-glued : goal.returns-then-not-glued
-returns-then-not-glued c = operand-whole c.args.src.signs c.args.src.bytes.now c.args.glued c.args.p c.blank_next-apart.ensures c.skip_gaps-q.ensures {n = c.next_token.result} c.next_token.ensures c.in-Token.is
-    c.if-t-eq-BROKEN.false c.if-not-glued.either
+pub returns-then-t-lt-BROKEN : goal.returns-then-t-lt-BROKEN
+returns-then-t-lt-BROKEN c = operand-whole c.args.src.signs c.args.src.bytes.now c.args.glued c.args.p c.blank_next-apart.ensures c.skip_gaps-q.ensures {n = c.next_token.result} c.next_token.ensures c.in-Token.is
+    c.if-t-eq-BROKEN.false c.then-t-lt-BROKEN.either
 
-pub returns-else-not-glued : goal.returns-else-not-glued
-returns-else-not-glued c = operand-glued c.args.src.signs c.args.src.bytes.now c.args.glued c.args.p c.blank_next-apart.ensures c.skip_gaps-q.ensures {n = c.next_token.result} c.next_token.ensures c.in-Token.is
-    c.if-not-glued.false
+pub returns-in-Token : goal.returns-in-Token
+returns-in-Token c = operand-glued c.args.src.signs c.args.src.bytes.now c.args.glued c.args.p c.blank_next-apart.ensures c.skip_gaps-q.ensures {n = c.next_token.result} c.next_token.ensures c.in-Token.is
+    (c.if-t-lt-BROKEN.false, c.if-apart.false, c.if-not-glued.false)
